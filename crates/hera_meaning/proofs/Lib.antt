@@ -1,0 +1,13 @@
+pub mod Names
+pub mod Bools
+pub mod Atoms
+pub mod DeltaLaws
+pub mod ByteOrder
+pub mod RowOrder
+pub mod RowsRead
+pub mod Levels
+pub mod PlainLaws
+mod Worked
+mod Worked_shop
+mod Worked_values
+mod Worked_sound

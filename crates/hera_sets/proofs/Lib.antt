@@ -1,0 +1,4 @@
+pub mod Order
+pub mod Lists
+pub mod Members
+pub mod Next

@@ -1,0 +1,12 @@
+//! What a set of rows is: a strictly ascending list of byte strings.
+//!
+//! The definitions stand in `specs/`: byte order and sameness of rows, ascending lists, membership,
+//! the list of the members of a list, and union, difference and intersection. The lemmas stand in
+//! `proofs/`. The functions below have no effect: each is a law, that its clause states.
+#![tactic(auto)]
+
+mod laws;
+
+pub use laws::{
+    first_past_is_the_least, members_are_the_set, normal_is_ascending, operations_by_members,
+};
