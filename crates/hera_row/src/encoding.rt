@@ -1,0 +1,89 @@
+//! The row of a tuple.
+ghost use Rattle.std.specs.Prelude.{◌≡◌, ◌++◌, true, OnOk, IfOk};
+ghost use Rattle.std.specs.Int.{to_be_bytes, w64};
+ghost use Rattle.hera_meaning.specs.Rows.{IsRow, row_of, field_bytes, shifted};
+ghost use Rattle.hera_meaning.specs.Scalars.{is_kind, is_scalar, fits_int};
+ghost use Rattle.hera_row.specs.Fields.{have_kinds};
+
+use byteorder::{BigEndian, ByteOrder};
+use hera_meaning::{Kind, Scalar, Schema};
+use hera_rows::RowBuf;
+use std::alloc::{AllocError, Global};
+
+/// The row of the tuple with these fields, which has as many fields as the schema has attributes,
+/// each of its attribute's kind.
+pub fn encode(alloc: Global, schema: &Schema, fields: &[Scalar]) -> Result<RowBuf, AllocError>
+    requires { have_kinds schema.now fields.now ≡ true }
+    ensures row { IfOk result (λ row. row ≡ row_of fields.now) }
+    ensures valid { IfOk result (λ row. IsRow schema.now row) }
+{
+    prove_eq!(schema.len(), fields.len());
+    let mut row = Vec::new(alloc);
+    for field in fields {
+        push_field(&mut row, field)?;
+    }
+    Ok(RowBuf::from_vec(row))
+}
+
+/// Whether there are as many fields as attributes, each of its attribute's kind.
+pub fn have_kinds(schema: &Schema, fields: &[Scalar]) -> bool
+    ensures { result ≡ have_kinds schema.now fields.now }
+{
+    if schema.len() != fields.len() {
+        return false;
+    }
+    for i in 0..fields.len() {
+        if !is_kind(schema.attr(i).kind, &fields[i]) {
+            return false;
+        }
+    }
+    true
+}
+
+/// Whether the scalar is of the kind.
+fn is_kind(kind: Kind, scalar: &Scalar) -> bool
+    ensures { result ≡ is_kind kind scalar.now }
+{
+    match scalar {
+        Scalar::Int(_) => kind == Kind::Int,
+        Scalar::Bool(_) => kind == Kind::Bool,
+        Scalar::Text(_) => kind == Kind::Text,
+    }
+}
+
+/// Puts the bytes of a field behind the others.
+fn push_field(row: &mut Vec<u8>, field: &Scalar) -> Result<(), AllocError>
+    ensures ok { OnOk result (row.new.items ≡ row.old.items ++ field_bytes field.now) }
+    ensures valid { OnOk result (is_scalar field.now ≡ true) }
+{
+    match field {
+        Scalar::Int(value) => push_int(row, *value)?,
+        Scalar::Bool(value) => row.push(u8::from(*value))?,
+        Scalar::Text(text) => {
+            row.extend_from_slice(text.bytes())?;
+            row.push(0)?;
+        }
+    }
+    Ok(())
+}
+
+/// Puts the 8 bytes of an int behind the others.
+fn push_int(row: &mut Vec<u8>, value: i64) -> Result<(), AllocError>
+    ensures ok { OnOk result (row.new.items ≡ row.old.items ++ to_be_bytes w64 (shifted value)) }
+    ensures valid { OnOk result (fits_int value ≡ true) }
+{
+    let mut bytes = [0; 8];
+    BigEndian::write_u64(&mut bytes, shifted(value));
+    row.extend_from_slice(&bytes)
+}
+
+/// The int plus 2^63.
+fn shifted(value: i64) -> u64
+    ensures { result ≡ shifted value }
+{
+    if value >= 0 {
+        value as u64 + (1 << 63)
+    } else {
+        (value - i64::MIN) as u64
+    }
+}

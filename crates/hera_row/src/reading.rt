@@ -1,0 +1,211 @@
+//! Rows read in place: no call takes memory or makes a tuple.
+ghost use Rattle.std.specs.Prelude.{◌≡◌, ◌↔◌, ◌≤◌, ◌<◌, ℕ, Some, true, IsTrue, IfSome, IfNone, length, take, nat_eq, pos, ◌-ℤ◌, ◌-◌, ◌^◌};
+ghost use Rattle.std.specs.List.{position};
+ghost use Rattle.std.specs.Str.{is_utf8};
+ghost use Rattle.hera_meaning.specs.Rows.{IsRow, field_at, first_piece, scalar_of, number_from, through_zero};
+ghost use Rattle.hera_row.specs.Fields.{told};
+ghost use Rattle.hera_row.specs.Reading.{field_len, row_len_of, BeginsField};
+
+use byteorder::{BigEndian, ByteOrder};
+use hera_meaning::{Kind, ScalarRef, Schema};
+
+/// The most bytes of a text.
+const TEXT_LIMIT: usize = 255;
+
+/// Whether the bytes are a row of the schema.
+pub fn check_row(schema: &Schema, bytes: &[u8]) -> bool
+    ensures { IsTrue result ↔ IsRow schema.now bytes.now }
+{
+    measured(schema, bytes) == Some(bytes.len())
+}
+
+/// The length of the row of the schema with which the bytes begin, and `None` where they begin with
+/// none.
+pub fn row_len(schema: &Schema, bytes: &[u8]) -> Option<usize>
+    ensures row { IfSome result (λ n. (n ≤ length bytes.now) × IsRow schema.now (take n bytes.now)) }
+    ensures none { IfNone result ((n : ℕ) → n ≤ length bytes.now → ¬ (IsRow schema.now (take n bytes.now))) }
+{
+    measured(schema, bytes)
+}
+
+/// The field at place `i`, counted from 0.
+pub fn field<'a>(schema: &Schema, row: &'a [u8], i: usize) -> ScalarRef<'a>
+    requires row { IsRow schema.now row.now }
+    requires within { i < length schema.now }
+    ensures { told result ≡ field_at schema.now row.entry.now i }
+{
+    let mut rest = row;
+    for place in 0..i {
+        let piece = piece_len(schema.attr(place).kind, rest);
+        rest = rest.split_at(piece).1;
+    }
+    scalar(schema.attr(i).kind, rest)
+}
+
+/// The length of the row with which the bytes begin, by the lengths of its fields.
+fn measured(schema: &Schema, bytes: &[u8]) -> Option<usize>
+    ensures { result ≡ row_len_of schema.now bytes.now }
+{
+    let mut rest = bytes;
+    for place in 0..schema.len() {
+        let n = field_len(schema.attr(place).kind, rest)?;
+        rest = rest.split_at(n).1;
+    }
+    Some(bytes.len() - rest.len())
+}
+
+/// The length of the field with which the bytes begin.
+fn field_len(kind: Kind, bytes: &[u8]) -> Option<usize>
+    ensures length { result ≡ field_len kind bytes.now }
+    ensures within { IfSome result (λ n. n ≤ length bytes.now) }
+{
+    match kind {
+        Kind::Int => if bytes.len() < 8 { None } else { Some(8) },
+        Kind::Bool => match bytes {
+            [b, ..] if *b < 2 => Some(1),
+            _ => None,
+        },
+        Kind::Text => match zero_at(bytes) {
+            Some(n) if n <= TEXT_LIMIT && is_utf8(&bytes[..n]) => Some(n + 1),
+            _ => None,
+        },
+    }
+}
+
+/// Where the first zero byte stands.
+fn zero_at(bytes: &[u8]) -> Option<usize>
+    ensures { result ≡ position (λ b. nat_eq b 0) bytes.now }
+{
+    bytes.iter().position(|b| *b == 0)
+}
+
+/// Whether the bytes are UTF-8.
+fn is_utf8(bytes: &[u8]) -> bool
+    ensures { result ≡ is_utf8 bytes.now }
+{
+    match std::str::from_utf8(bytes) {
+        Ok(_) => true,
+        Err(_) => false,
+    }
+}
+
+/// The length of the piece of a field of this kind that stands first, where one does.
+fn piece_len(kind: Kind, bytes: &[u8]) -> usize
+    ensures length { result ≡ length (first_piece kind bytes.now) }
+    ensures within { result ≤ length bytes.now }
+{
+    match kind {
+        Kind::Int => bytes.len().min(8),
+        Kind::Bool => bytes.len().min(1),
+        Kind::Text => match zero_at(bytes) {
+            Some(n) => n + 1,
+            None => bytes.len(),
+        },
+    }
+}
+
+/// The field with which the bytes begin.
+fn scalar<'a>(kind: Kind, bytes: &'a [u8]) -> ScalarRef<'a>
+    requires { BeginsField kind bytes.now }
+    ensures { told result ≡ scalar_of kind (first_piece kind bytes.entry.now) }
+{
+    match kind {
+        Kind::Int => ScalarRef::Int(int(bytes)),
+        Kind::Bool => ScalarRef::Bool(bytes[0] > 0),
+        Kind::Text => ScalarRef::Text(text(bytes)),
+    }
+}
+
+/// The int whose 8 bytes stand first: their number less 2^63.
+fn int(bytes: &[u8]) -> i64
+    requires { 8 ≤ length bytes.now }
+    ensures { result ≡ pos (number_from 0 (take 8 bytes.now)) -ℤ pos (2 ^ 63) }
+{
+    let number = BigEndian::read_u64(bytes);
+    if number >= 1 << 63 {
+        (number - (1 << 63)) as i64
+    } else {
+        number as i64 + i64::MIN
+    }
+}
+
+/// The bytes before the first zero byte.
+fn text(bytes: &[u8]) -> &[u8]
+    ensures { result.now ≡ take (length (through_zero bytes.now) - 1) (through_zero bytes.now) }
+{
+    match zero_at(bytes) {
+        Some(n) => &bytes[..n],
+        None => &bytes[..bytes.len().saturating_sub(1)],
+    }
+}
+
+#[cfg(test)]
+mod tests {
+    use super::*;
+    use crate::{encode, have_kinds};
+    use hera_meaning::{Attr, Scalar, Text};
+    use std::alloc::Global;
+    use std::test::Fail;
+
+    fn schema_of(alloc: Global, kinds: &[Kind]) -> Result<Schema, Fail> {
+        let mut attrs = Vec::new(alloc);
+        for kind in kinds {
+            let name = format!(in alloc; "a{}", attrs.len())?;
+            attrs.push(Attr {
+                name: Text::new(alloc, name.as_bytes())?,
+                kind: *kind,
+            })?;
+        }
+        Ok(Schema::new(attrs)?)
+    }
+
+    #[test]
+    fn fields_have_their_bytes(rt: HostRuntime) -> Result<(), Fail> {
+        for (kind, field, bytes) in [
+            (
+                Kind::Int,
+                Scalar::Int(-1),
+                b"\x7f\xff\xff\xff\xff\xff\xff\xff".as_slice(),
+            ),
+            (Kind::Int, Scalar::Int(0), b"\x80\0\0\0\0\0\0\0"),
+            (Kind::Int, Scalar::Int(258), b"\x80\0\0\0\0\0\x01\x02"),
+            (Kind::Int, Scalar::Int(i64::MIN), b"\0\0\0\0\0\0\0\0"),
+            (Kind::Bool, Scalar::Bool(false), b"\0"),
+            (Kind::Bool, Scalar::Bool(true), b"\x01"),
+            (
+                Kind::Text,
+                Scalar::Text(Text::new(rt.alloc(), b"ab")?),
+                b"\x61\x62\0",
+            ),
+            (Kind::Text, Scalar::Text(Text::new(rt.alloc(), b"")?), b"\0"),
+        ] {
+            let schema = schema_of(rt.alloc(), &[kind])?;
+            let fields = Vec::from_array(rt.alloc(), [field])?;
+            assert!(rt; have_kinds(&schema, &fields));
+            assert_eq!(rt; encode(rt.alloc(), &schema, &fields)?.bytes(), bytes);
+        }
+        Ok(())
+    }
+
+    #[test]
+    fn rows_are_told_from_other_bytes(rt: HostRuntime) -> Result<(), Fail> {
+        let schema = schema_of(rt.alloc(), &[Kind::Text, Kind::Bool, Kind::Int])?;
+        for (bytes, len) in [
+            (b"ab\0\x01\x80\0\0\0\0\0\0\x07".as_slice(), Some(12)),
+            (b"\xc3\xa9\0\0\x80\0\0\0\0\0\0\x07rest", Some(12)),
+            (b"\0\x01\x80\0\0\0\0\0\0", None),
+            (b"ab\0\x02\x80\0\0\0\0\0\0\x07", None),
+            (b"\xff\0\x01\x80\0\0\0\0\0\0\x07", None),
+            (b"", None),
+        ] {
+            assert_eq!(rt; row_len(&schema, bytes), len);
+            assert_eq!(rt; check_row(&schema, bytes), len == Some(bytes.len()));
+        }
+        let row = b"ab\0\x01\x80\0\0\0\0\0\0\x07".as_slice();
+        assert!(rt; schema.len() == 3 && check_row(&schema, row));
+        assert!(rt; matches!(field(&schema, row, 0), ScalarRef::Text(b"ab")));
+        assert!(rt; matches!(field(&schema, row, 1), ScalarRef::Bool(true)));
+        assert!(rt; matches!(field(&schema, row, 2), ScalarRef::Int(7)));
+        Ok(())
+    }
+}

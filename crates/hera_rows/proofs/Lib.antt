@@ -1,0 +1,3 @@
+pub mod PackedRows
+pub mod PlaceLemmas
+pub mod Fronts
