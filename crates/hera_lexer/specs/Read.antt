@@ -1,0 +1,19 @@
+-- What the readings of a piece's bytes give.
+use Rattle.std.specs.Prelude.{ℕ, List, [], ◌∷◌, Option, Bool, true, false, cond, ◌==◌}
+use Rattle.std.specs.List.{position}
+use Rattle.std.specs.Str.{bytes_eq}
+use Rattle.hera_syntax.specs.Lexemes.{keywords}
+
+-- the keyword's number
+abbrev pub keyword_of : List ℕ → Option ℕ
+keyword_of word = position (λ k. bytes_eq k word) keywords
+
+-- what a byte behind a `\` stands for
+abbrev pub escaped_byte : ℕ → ℕ
+escaped_byte b = cond (b == 110) 10 (cond (b == 116) 9 b)
+
+-- the value that the bytes of a text spell, behind a `\` or not
+abbrev pub value_of : Bool → List ℕ → List ℕ
+value_of escaped [] = []
+value_of true (b ∷ bs) = escaped_byte b ∷ value_of false bs
+value_of false (b ∷ bs) = cond (b == 92) (value_of true bs) (b ∷ value_of false bs)

@@ -1,0 +1,7 @@
+pub mod Lexemes
+pub mod Lex
+pub mod Tokens
+pub mod Grammar
+pub mod Outline
+pub mod Programs
+pub mod Trees
