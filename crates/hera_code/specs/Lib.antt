@@ -1,0 +1,5 @@
+pub mod Scheme
+pub mod Machine
+pub mod Reached
+pub mod Forward
+pub mod Listing

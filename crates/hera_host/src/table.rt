@@ -1,0 +1,118 @@
+ghost use Rattle.std.specs.Prelude.{◌≡◌, ◌<◌, [], IfSome, length};
+ghost use Rattle.hera_meaning.specs.Hosts.{host_takes, host_gives};
+ghost use Rattle.hera_host.specs.Tables.{host_named, takes_at, gives_at};
+ghost use Rattle.hera_sets.specs.Rows.{is_same};
+
+use hera_meaning::{HostSpec, Kind, Name};
+use std::alloc::Global;
+use std::marker::Model;
+
+/// A host function: its name, and what it answers for its argument.
+#[derive(Drop)]
+pub struct HostFn {
+    name: Name,
+    spec: HostSpec,
+}
+
+impl Model for HostFn {
+    ghost use Rattle.hera_host.specs.Tables.{Host};
+
+    ghost Value = { Host };
+
+    ghost view = { λ h. record { name = h.name; spec = h.spec } };
+}
+
+impl HostFn {
+    /// Whether the host has this name.
+    #[tactic(auto, unfolding(hera_sets::specs::Rows::is_same))]
+    fn is_named(&self, name: &[u8]) -> bool
+        ensures { result ≡ is_same name.now self.now.name }
+    {
+        name.cmp(self.name.bytes()).is_eq()
+    }
+
+    /// The kind of the argument.
+    fn param(&self) -> Kind
+        ensures { result ≡ host_takes self.now.spec }
+    {
+        match &self.spec {
+            HostSpec::Prefix { .. } => Kind::Text,
+            _ => Kind::Int,
+        }
+    }
+
+    /// The kind of the answer.
+    fn result(&self) -> Kind
+        ensures { result ≡ host_gives self.now.spec }
+    {
+        match &self.spec {
+            HostSpec::Band { .. } | HostSpec::Prefix { .. } => Kind::Bool,
+            _ => Kind::Int,
+        }
+    }
+}
+
+/// The place of the host of this name.
+fn place_of(hosts: &[HostFn], name: &[u8]) -> Option<usize>
+    ensures place { result ≡ host_named name.now hosts.now }
+    ensures within { IfSome result (λ i. i < length hosts.now) }
+{
+    hosts.iter().position(|host| host.is_named(name))
+}
+
+/// The host functions that a script may call. A host's number is its place.
+#[derive(Drop)]
+pub struct HostTable {
+    hosts: Vec<HostFn>,
+}
+
+impl Model for HostTable {
+    ghost use Rattle.std.specs.Prelude.{List};
+    ghost use Rattle.hera_host.specs.Tables.{Host};
+
+    ghost Value = { List Host };
+
+    ghost use Rattle.std.specs.Prelude.{◌<◌, ◌^◌, length};
+
+    ghost view = { λ t. t.hosts.items };
+
+    ghost invariant = { λ t. length t.hosts.items < 2 ^ 32 };
+}
+
+impl HostTable {
+    /// The table without hosts. It takes no memory.
+    pub fn new(alloc: Global) -> HostTable
+        ensures { result ≡ [] }
+    {
+        HostTable {
+            hosts: Vec::new(alloc),
+        }
+    }
+
+    /// The number of the host of this name, `None` exactly where there is none.
+    pub fn find(&self, name: &[u8]) -> Option<u32>
+        ensures number { result ≡ host_named name.now self.now }
+        ensures within { IfSome result (λ id. id < length self.now) }
+    {
+        match place_of(&self.hosts, name) {
+            Some(place) => Some(place as u32),
+            None => None,
+        }
+    }
+
+    /// The kind of the argument of the host of this number.
+    pub fn param(&self, id: u32) -> Kind
+        requires { id < length self.now }
+        ensures { result ≡ takes_at self.now id }
+    {
+        self.hosts[id as usize].param()
+    }
+
+    /// The kind of the answer of the host of this number.
+    pub fn result(&self, id: u32) -> Kind
+        requires { id < length self.now }
+        ensures { result ≡ gives_at self.now id }
+    {
+        self.hosts[id as usize].result()
+    }
+}
