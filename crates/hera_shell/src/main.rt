@@ -1,0 +1,68 @@
+//! The program `hera`: its words, real files and standard output.
+//!
+//! `hera eval TURNS FILE` runs the script in the file.
+#![tactic(auto)]
+
+ghost use Rattle.std.specs.Prelude.{◌≡◌, IfOk, length};
+
+mod file_source;
+mod standard_output;
+
+use file_source::FileSource;
+use hera_top::{files_of, hera};
+use standard_output::StandardOutput;
+use std::alloc::{AllocError, Global};
+use std::fs::Files;
+use std::io;
+use std::process::ExitCode;
+use std::rt::Env;
+
+/// The status where there was no memory.
+const NO_MEMORY: u8 = 9;
+
+/// The words behind the program's name. A word that is no UTF-8 makes a faulty command line, as no words do.
+fn words_of<R: Env + AllocGlobal>(rt: &R) -> Result<Vec<String>, AllocError> {
+    let mut words = Vec::new(rt.alloc());
+    match std::env::args(rt) {
+        Ok(args) => {
+            for word in args.skip(1) {
+                words.push(word)?;
+            }
+            Ok(words)
+        }
+        Err(error) if error.kind() == io::ErrorKind::OutOfMemory => Err(AllocError),
+        Err(_) => Ok(words),
+    }
+}
+
+/// A source for each FILE word.
+fn sources_of<'a, R: Files + Drop>(
+    alloc: Global,
+    rt: &'a R,
+    files: &'a [String],
+) -> Result<Vec<FileSource<'a, R>>, AllocError>
+    ensures { IfOk result (λ sources. length sources.items ≡ length files.now) }
+{
+    let mut sources = Vec::new(alloc);
+    for file in files {
+        sources.push(FileSource::new(rt, file.as_str()))?;
+    }
+    Ok(sources)
+}
+
+/// Carries out the command line, and gives the exit status.
+fn status<R: Env + Files + Print + AllocGlobal + Drop>(rt: &R) -> Result<u8, AllocError> {
+    let words = words_of(rt)?;
+    let (first, last) = files_of(&words);
+    let mut sources = sources_of(rt.alloc(), rt, &words[first..last])?;
+    Ok(hera(
+        rt.alloc(),
+        &words,
+        &mut sources,
+        &mut StandardOutput::new(rt),
+    ))
+}
+
+fn main(rt: HostRuntime) -> ExitCode {
+    ExitCode::from(status(&rt).unwrap_or(NO_MEMORY))
+}
