@@ -1,0 +1,9 @@
+pub mod Signs
+pub mod PartSigns
+pub mod Places
+pub mod Sides
+pub mod Walks
+pub mod Nexts
+pub mod Changed
+pub mod Looks
+pub mod Bulks

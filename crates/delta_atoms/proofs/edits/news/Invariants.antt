@@ -1,0 +1,15 @@
+use Rattle.std.proofs.Common.{◌≡◌, List, ◌++◌, length}
+use Rattle.std.specs.List.{filter}
+use Rattle.hera_meaning.specs.Deltas.{Atom, atoms}
+use Rattle.delta_atoms.specs.Atoms.{atoms_in, is_after}
+use Rattle.delta_atoms.specs.Parts.{atoms_of}
+use Rattle.delta_atoms.specs.Refs.{bound_of}
+use Rattle.delta_atoms.specs.Edits.{news}
+use Rattle.delta_atoms.proofs.edits.news.Given as goal
+
+-- the news among the atoms done
+abbrev pub invariant-loop-atom : goal.invariant-loop-atom
+invariant-loop-atom l = (done : List Atom) × (done ++ filter (is_after (bound_of l.last)) (atoms_in l.second) ≡ atoms_in l.second) × (l.fresh ≡ atoms (news (atoms_of l.parts) done))
+
+abbrev pub decreases-loop-atom : goal.decreases-loop-atom
+decreases-loop-atom l = length (filter (is_after (bound_of l.last)) (atoms_in l.second))

@@ -1,0 +1,270 @@
+//! Deltas.
+ghost use Rattle.std.specs.Prelude.{◌≡◌, ◌↔◌, IsTrue, true, false, List, [], ◌∷◌, ◌++◌, length, IfOk, OnOk, OnErr};
+ghost use Rattle.std.specs.List.{find};
+ghost use Rattle.std.specs.Option.{option_map};
+ghost use Rattle.hera_meaning.specs.Deltas.{fail, atoms, is_fail, IsDelta, smash_of};
+ghost use Rattle.hera_meaning.specs.Values.{same_atom, same_sign};
+ghost use Rattle.delta_atoms.specs.Atoms.{atom_of, bulk_of, atoms_in, sign_at, have_relation, part_of, with_last, is_after};
+ghost use Rattle.delta_atoms.specs.Refs.{atom_in, bound_of};
+
+use super::parts::{self, Part};
+use super::{AtomRef, edits};
+use hera_meaning::{RelId, Sign};
+use hera_rows::{RowSet, Sorted};
+use std::alloc::{AllocError, Global};
+use std::marker::Model;
+
+/// A proposed update: signed atoms, or `fail`.
+///
+/// It is seen as `fail`, or as the list of its atoms, ascending by relation and then row, in which no
+/// relation and row stand twice. So no atom has both signs.
+#[derive(Drop)]
+pub struct Delta {
+    parts: Option<Vec<Part>>,
+    /// Lent for a relation that the delta does not touch.
+    nothing: RowSet,
+    alloc: Global,
+}
+
+impl Model for Delta {
+    ghost use Rattle.std.specs.Prelude.{◌≡◌, [], IfSome};
+    ghost use Rattle.hera_meaning.specs.Deltas.{Delta as PlainDelta};
+
+    ghost Value = { PlainDelta };
+
+    ghost use Rattle.delta_atoms.specs.Kept.{delta_of};
+    ghost use Rattle.delta_atoms.specs.Parts.{ArePacked};
+
+    ghost view = { λ d. delta_of d.parts };
+
+    ghost invariant = { λ d. IfSome d.parts (λ ps. ArePacked ps.items) × (d.nothing ≡ []) };
+}
+
+impl Delta {
+    /// The delta without atoms.
+    pub fn empty(alloc: Global) -> Delta
+        ensures { result ≡ atoms [] }
+    {
+        Delta {
+            parts: Some(Vec::new(alloc)),
+            nothing: RowSet::new(alloc),
+            alloc,
+        }
+    }
+
+    /// The delta that is `fail`.
+    pub fn fail(alloc: Global) -> Delta
+        ensures { result ≡ fail }
+    {
+        Delta {
+            parts: None,
+            nothing: RowSet::new(alloc),
+            alloc,
+        }
+    }
+
+    /// The delta of one atom.
+    pub fn atom(alloc: Global, sign: Sign, rel: RelId, row: &[u8]) -> Result<Delta, AllocError>
+        ensures { IfOk result (λ delta. delta ≡ atoms (atom_of sign rel.0 row.now ∷ [])) }
+    {
+        let mut delta = Delta::empty(alloc);
+        delta.push_last(sign, rel, row)?;
+        Ok(delta)
+    }
+
+    /// The delta that has each of the rows with the sign.
+    pub fn bulk(alloc: Global, sign: Sign, rel: RelId, rows: &RowSet) -> Result<Delta, AllocError>
+        ensures { IfOk result (λ delta. delta ≡ atoms (bulk_of sign rel.0 rows.now)) }
+    {
+        if rows.len() == 0 {
+            return Ok(Delta::empty(alloc));
+        }
+        let mut parts = Vec::new(alloc);
+        parts.push(Part::one_side(alloc, sign, rel, rows)?)?;
+        Ok(Delta {
+            parts: Some(parts),
+            nothing: RowSet::new(alloc),
+            alloc,
+        })
+    }
+
+    /// Whether the delta is `fail`. It takes no memory.
+    pub fn is_fail(&self) -> bool
+        ensures fails { result ≡ is_fail self.now }
+        ensures valid { IsDelta self.now }
+    {
+        self.parts.is_none()
+    }
+
+    /// Whether some atom is of the relation. It takes no memory.
+    pub fn touches(&self, rel: RelId) -> bool
+        requires { is_fail self.now ≡ false }
+        ensures { result ≡ have_relation (atoms_in self.now) rel.0 }
+    {
+        self.part(rel, Sign::Plus).len() > 0 || self.part(rel, Sign::Minus).len() > 0
+    }
+
+    /// The sign of the atom with this relation and row, if there is one. It takes no memory.
+    pub fn sign(&self, rel: RelId, row: &[u8]) -> Option<Sign>
+        requires { is_fail self.now ≡ false }
+        ensures { result ≡ sign_at (atoms_in self.now) (rel.0 ∷ row.now) }
+    {
+        if self.part(rel, Sign::Plus).has(row) {
+            Some(Sign::Plus)
+        } else if self.part(rel, Sign::Minus).has(row) {
+            Some(Sign::Minus)
+        } else {
+            None
+        }
+    }
+
+    /// The rows of the relation's atoms with this sign. It takes no memory.
+    pub fn part(&self, rel: RelId, sign: Sign) -> &RowSet
+        requires { is_fail self.now ≡ false }
+        ensures rows { result.now ≡ part_of (atoms_in self.now) rel.0 sign }
+        ensures valid { IsDelta self.now }
+    {
+        match &self.parts {
+            Some(parts) => match parts::search(parts, rel) {
+                Ok(i) => parts[i].side(sign),
+                Err(_) => &self.nothing,
+            },
+            None => &self.nothing,
+        }
+    }
+
+    /// How many atoms there are. It takes no memory.
+    pub fn count(&self) -> u128
+        requires { is_fail self.now ≡ false }
+        ensures { result ≡ length (atoms_in self.now) }
+    {
+        match &self.parts {
+            Some(parts) => parts::count(parts),
+            None => 0,
+        }
+    }
+
+    /// The first atom past the bound in order of relation and then row, whatever the bound's sign:
+    /// the first of all where there is no bound. `fail` has none. It takes no memory.
+    pub fn above<'s>(&'s self, bound: Option<AtomRef<'_>>) -> Option<AtomRef<'s>>
+        ensures next { option_map atom_in result ≡ find (is_after (bound_of bound.entry)) (atoms_in self.now) }
+        ensures valid { IsDelta self.now }
+    {
+        match &self.parts {
+            Some(parts) => parts::first_after(parts, bound),
+            None => None,
+        }
+    }
+
+    /// Whether both are `fail`, or have the same atoms. It takes no memory, and stops at the first
+    /// difference.
+    pub fn equal(&self, other: &Delta) -> bool
+        ensures { IsTrue result ↔ (self.now ≡ other.now) }
+    {
+        if self.is_fail() {
+            return other.is_fail();
+        }
+        if other.is_fail() {
+            return false;
+        }
+        self.same_atoms(other)
+    }
+
+    /// Whether both have the same atoms.
+    fn same_atoms(&self, other: &Delta) -> bool
+        ensures { IsTrue result ↔ (atoms_in self.now ≡ atoms_in other.now) }
+    {
+        let mut last: Option<AtomRef<'_>> = None;
+        loop {
+            let atom = self.above(last);
+            if are_same(atom, other.above(last)) {
+                match atom {
+                    None => return true,
+                    Some(a) => last = Some(a),
+                }
+            } else {
+                return false;
+            }
+        }
+    }
+
+    /// Puts an atom behind all others, which is greater by relation and then row. Without memory all
+    /// is as before.
+    pub fn push_last(&mut self, sign: Sign, rel: RelId, row: &[u8]) -> Result<(), AllocError>
+        requires known { is_fail self.old ≡ false }
+        requires last { IsDelta (with_last self.old (atom_of sign rel.0 row.now)) }
+        ensures ok { OnOk result (self.new ≡ with_last self.old (atom_of sign rel.0 row.now)) }
+        ensures err { OnErr result (self.new ≡ self.old) }
+    {
+        let alloc = self.alloc;
+        match &mut self.parts {
+            Some(parts) => edits::push_last(parts, alloc, sign, rel, row),
+            None => Ok(()),
+        }
+    }
+
+    /// Puts the second delta over this one, which is their smash: each atom of the second with its
+    /// sign, and each atom of this one whose relation and row the second does not hold. It is `fail`
+    /// where either is. Without memory all is as before.
+    pub fn smash_with(&mut self, second: &Delta) -> Result<(), AllocError>
+        ensures ok { OnOk result (self.new ≡ smash_of self.old second.now) }
+        ensures err { OnErr result (self.new ≡ self.old) }
+    {
+        if second.is_fail() {
+            self.parts = None;
+            return Ok(());
+        }
+        let alloc = self.alloc;
+        match &mut self.parts {
+            Some(parts) => edits::put_over(parts, alloc, second),
+            None => Ok(()),
+        }
+    }
+
+    /// A delta of its own that equals this one.
+    pub fn copy(&self) -> Result<Delta, AllocError>
+        ensures { IfOk result (λ copy. copy ≡ self.now) }
+    {
+        let alloc = self.alloc;
+        let Some(parts) = &self.parts else {
+            return Ok(Delta::fail(alloc));
+        };
+        let mut copies = Vec::with_capacity(alloc, parts.len())?;
+        for part in parts {
+            copies.push(part.copy()?)?;
+        }
+        Ok(Delta {
+            parts: Some(copies),
+            nothing: RowSet::new(alloc),
+            alloc,
+        })
+    }
+}
+
+/// Whether both are no atom, or the same one.
+fn are_same(x: Option<AtomRef<'_>>, y: Option<AtomRef<'_>>) -> bool
+    ensures { IsTrue result ↔ (option_map atom_in x.entry ≡ option_map atom_in y.entry) }
+{
+    match (x, y) {
+        (None, None) => true,
+        (Some(a), Some(b)) => same_atom(a, b),
+        _ => false,
+    }
+}
+
+/// Whether both have the same sign, relation and row.
+#[tactic(auto, unfolding(hera_sets::specs::Rows::is_same))]
+fn same_atom(a: AtomRef<'_>, b: AtomRef<'_>) -> bool
+    ensures { result ≡ same_atom (atom_in a.entry) (atom_in b.entry) }
+{
+    same_sign(a.sign, b.sign) && a.rel.0 == b.rel.0 && a.row.cmp(b.row).is_eq()
+}
+
+fn same_sign(a: Sign, b: Sign) -> bool
+    ensures { result ≡ same_sign a b }
+{
+    match (a, b) {
+        (Sign::Plus, Sign::Plus) | (Sign::Minus, Sign::Minus) => true,
+        _ => false,
+    }
+}

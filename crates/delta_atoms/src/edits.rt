@@ -1,0 +1,139 @@
+//! Changes of the parts of a delta, by the atoms of another.
+ghost use Rattle.std.specs.Prelude.{◌≡◌, false, cond, [], ◌∷◌, ◌++◌, IfOk, OnOk, OnErr};
+ghost use Rattle.hera_meaning.specs.Deltas.{atoms, is_fail, IsDelta, keys_of, joint_atoms, key_of};
+ghost use Rattle.hera_sets.specs.Rows.{IsAscending};
+ghost use Rattle.delta_atoms.specs.Atoms.{atom_of, atoms_in, sign_at, with_last};
+ghost use Rattle.delta_atoms.specs.Parts.{atoms_of, AreOrdered, ArePacked};
+ghost use Rattle.delta_atoms.specs.Refs.{atom_in};
+ghost use Rattle.delta_atoms.specs.Edits.{gives, turned, PutsAll, PutsSome, TakesAll, news};
+
+use super::parts::{Part, put_row, search, take_row};
+use super::{AtomRef, Delta};
+use hera_meaning::{RelId, Sign};
+use hera_rows::Sorted;
+use std::alloc::{AllocError, Global};
+
+/// Puts in an atom that is greater than all others. Without memory the atoms are as before.
+pub(crate) fn push_last(
+    parts: &mut Vec<Part>,
+    alloc: Global,
+    sign: Sign,
+    rel: RelId,
+    row: &[u8],
+) -> Result<(), AllocError>
+    requires packed { ArePacked parts.old.items }
+    requires last { IsAscending (keys_of (atoms_of parts.old.items ++ atom_of sign rel.0 row.now ∷ [])) }
+    ensures packed { ArePacked parts.new.items }
+    ensures ok { OnOk result (atoms_of parts.new.items ≡ atoms_of parts.old.items ++ atom_of sign rel.0 row.now ∷ []) }
+    ensures err { OnErr result (atoms_of parts.new.items ≡ atoms_of parts.old.items) }
+{
+    put_row(parts, alloc, sign, rel, row)?;
+    Ok(())
+}
+
+/// Puts the second delta over the atoms of the parts. Without memory the atoms are as before.
+///
+/// All rows are put in first, and then the same rows taken out where they stand with the other
+/// sign, which takes no memory. Where a row can't be put in, those put in are taken out again.
+pub(crate) fn put_over(
+    parts: &mut Vec<Part>,
+    alloc: Global,
+    second: &Delta,
+) -> Result<(), AllocError>
+    requires { ArePacked parts.old.items }
+    ensures packed { ArePacked parts.new.items }
+    ensures ok { OnOk result (atoms_of parts.new.items ≡ joint_atoms (atoms_of parts.old.items) (atoms_in second.now)) }
+    ensures err { OnErr result (atoms_of parts.new.items ≡ atoms_of parts.old.items) }
+{
+    let fresh = news(parts, alloc, second)?;
+    match put_all(parts, alloc, &fresh) {
+        Ok(()) => {
+            take_all(parts, true, &fresh);
+            Ok(())
+        }
+        Err(e) => {
+            take_all(parts, false, &fresh);
+            Err(e)
+        }
+    }
+}
+
+/// The atoms of the second delta that the parts do not have with their sign.
+fn news(parts: &[Part], alloc: Global, second: &Delta) -> Result<Delta, AllocError>
+    requires { ArePacked parts.now }
+    ensures fresh { IfOk result (λ fresh. fresh ≡ atoms (news (atoms_of parts.now) (atoms_in second.now))) }
+    ensures valid { IsDelta second.now }
+{
+    let mut fresh = Delta::empty(alloc);
+    let mut last: Option<AtomRef<'_>> = None;
+    while let Some(atom) = second.above(last) {
+        push_new(&mut fresh, parts, atom)?;
+        last = Some(atom);
+    }
+    Ok(fresh)
+}
+
+/// Puts the atom behind all others, unless the parts have it with its sign.
+fn push_new(fresh: &mut Delta, parts: &[Part], atom: AtomRef<'_>) -> Result<(), AllocError>
+    requires packed { ArePacked parts.now }
+    requires known { is_fail fresh.old ≡ false }
+    requires last { IsDelta (with_last fresh.old (atom_in atom)) }
+    ensures { OnOk result (fresh.new ≡ cond (gives (sign_at (atoms_of parts.now) (key_of (atom_in atom.entry))) atom.entry.sign) fresh.old (with_last fresh.old (atom_in atom.entry))) }
+{
+    if has(parts, atom) {
+        Ok(())
+    } else {
+        fresh.push_last(atom.sign, atom.rel, atom.row)?;
+        Ok(())
+    }
+}
+
+/// Whether the parts have the atom with its sign.
+fn has(parts: &[Part], atom: AtomRef<'_>) -> bool
+    requires { ArePacked parts.now }
+    ensures { result ≡ gives (sign_at (atoms_of parts.now) (key_of (atom_in atom.entry))) atom.entry.sign }
+{
+    match search(parts, atom.rel) {
+        Ok(i) => parts[i].side(atom.sign).has(atom.row),
+        Err(_) => false,
+    }
+}
+
+/// Puts all atoms in. Without memory, some of them.
+fn put_all(parts: &mut Vec<Part>, alloc: Global, fresh: &Delta) -> Result<(), AllocError>
+    requires { AreOrdered parts.old.items }
+    ensures ordered { AreOrdered parts.new.items }
+    ensures ok { OnOk result (PutsAll (atoms_in fresh.now) parts.old.items parts.new.items) }
+    ensures err { OnErr result (PutsSome (atoms_in fresh.now) parts.old.items parts.new.items) }
+{
+    let mut last: Option<AtomRef<'_>> = None;
+    while let Some(atom) = fresh.above(last) {
+        put_row(parts, alloc, atom.sign, atom.rel, atom.row)?;
+        last = Some(atom);
+    }
+    Ok(())
+}
+
+/// Takes the rows of all atoms out where they stand with their sign, or with the other one.
+fn take_all(parts: &mut Vec<Part>, turn: bool, fresh: &Delta)
+    requires { AreOrdered parts.old.items }
+    ensures ordered { AreOrdered parts.new.items }
+    ensures taken { TakesAll turn (atoms_in fresh.now) parts.old.items parts.new.items }
+{
+    let mut last: Option<AtomRef<'_>> = None;
+    while let Some(atom) = fresh.above(last) {
+        take_row(parts, turned(turn, atom.sign), atom.rel, atom.row);
+        last = Some(atom);
+    }
+}
+
+/// The sign, or the other one.
+fn turned(turn: bool, sign: Sign) -> Sign
+    ensures { result ≡ turned turn sign }
+{
+    match (turn, sign) {
+        (true, Sign::Plus) => Sign::Minus,
+        (true, Sign::Minus) => Sign::Plus,
+        (false, _) => sign,
+    }
+}

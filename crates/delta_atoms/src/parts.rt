@@ -1,0 +1,250 @@
+//! One relation's part of a delta, and lists of such parts.
+ghost use Rattle.std.specs.Prelude.{◌≡◌, IfOk, OnOk, OnErr, MatchResult, List, ℕ, Option, ◌+◌, [], length};
+ghost use Rattle.std.specs.List.{find, flat_map};
+ghost use Rattle.std.specs.Option.{option_map, option_copied};
+ghost use Rattle.hera_sets.specs.Rows.{is_below, is_past};
+ghost use Rattle.delta_atoms.specs.Atoms.{is_after, atom_of};
+ghost use Rattle.delta_atoms.specs.Parts.{side, atoms_at, atoms_of, lesser, IsPackedPart, AreOrdered, AreApart, ArePacked};
+ghost use Rattle.delta_atoms.specs.Refs.{atom_in, bound_of};
+ghost use Rattle.delta_atoms.specs.Edits.{put_in, taken_out, one_side, IsAt, IsGap, HaveSame, Puts, Takes};
+
+use super::AtomRef;
+use hera_meaning::{RelId, Sign};
+use hera_rows::{RowSet, Sorted};
+use std::alloc::{AllocError, Global};
+
+/// The rows of a relation to put in, and those to take out.
+#[derive(Drop)]
+pub(crate) struct Part {
+    pub(crate) rel: RelId,
+    pub(crate) plus: RowSet,
+    pub(crate) minus: RowSet,
+}
+
+impl Part {
+    /// A part with these rows on one side.
+    pub(crate) fn one_side(
+        alloc: Global,
+        sign: Sign,
+        rel: RelId,
+        rows: &RowSet,
+    ) -> Result<Part, AllocError>
+        ensures { IfOk result (λ part. part ≡ one_side sign rel.0 rows.now) }
+    {
+        match sign {
+            Sign::Plus => Ok(Part {
+                rel,
+                plus: rows.copy()?,
+                minus: RowSet::new(alloc),
+            }),
+            Sign::Minus => Ok(Part {
+                rel,
+                plus: RowSet::new(alloc),
+                minus: rows.copy()?,
+            }),
+        }
+    }
+
+    /// The rows with the sign.
+    pub(crate) fn side(&self, sign: Sign) -> &RowSet
+        ensures { result.now ≡ side sign self.now }
+    {
+        match sign {
+            Sign::Plus => &self.plus,
+            Sign::Minus => &self.minus,
+        }
+    }
+
+    pub(crate) fn copy(&self) -> Result<Part, AllocError>
+        ensures { IfOk result (λ copy. copy ≡ self.now) }
+    {
+        Ok(Part {
+            rel: self.rel,
+            plus: self.plus.copy()?,
+            minus: self.minus.copy()?,
+        })
+    }
+
+    /// The first atom whose row lies past the bound.
+    fn next<'s>(&'s self, bound: Option<&[u8]>) -> Option<AtomRef<'s>>
+        ensures { option_map atom_in result ≡ lesser self.now.rel.0 (find (is_past (option_copied bound.entry)) self.now.plus) (find (is_past (option_copied bound.entry)) self.now.minus) }
+    {
+        match (self.plus.above(bound), self.minus.above(bound)) {
+            (None, None) => None,
+            (Some(row), None) => Some(self.atom(Sign::Plus, row)),
+            (None, Some(row)) => Some(self.atom(Sign::Minus, row)),
+            (Some(plus), Some(minus)) => {
+                if is_below(minus, plus) {
+                    Some(self.atom(Sign::Minus, minus))
+                } else {
+                    Some(self.atom(Sign::Plus, plus))
+                }
+            }
+        }
+    }
+
+    /// An atom of this relation.
+    fn atom<'s>(&self, sign: Sign, row: &'s [u8]) -> AtomRef<'s>
+        ensures { atom_in result ≡ atom_of sign self.now.rel.0 row.now }
+    {
+        AtomRef {
+            sign,
+            rel: self.rel,
+            row,
+        }
+    }
+
+    /// The first atom past the bound, whose sign says nothing.
+    fn above<'s>(&'s self, bound: Option<AtomRef<'_>>) -> Option<AtomRef<'s>>
+        requires { IsPackedPart self.now }
+        ensures { option_map atom_in result ≡ find (is_after (bound_of bound.entry)) (atoms_at self.now) }
+    {
+        match bound {
+            None => self.next(None),
+            Some(last) => {
+                if last.rel.0 < self.rel.0 {
+                    self.next(None)
+                } else if last.rel.0 == self.rel.0 {
+                    self.next(Some(last.row))
+                } else {
+                    None
+                }
+            }
+        }
+    }
+
+    /// Puts a row in on one side. Without memory all is as before.
+    fn put(&mut self, sign: Sign, row: &[u8]) -> Result<(), AllocError>
+        ensures ok { OnOk result (self.new ≡ put_in sign row.now self.old) }
+        ensures err { OnErr result (self.new ≡ self.old) }
+    {
+        match sign {
+            Sign::Plus => {
+                self.plus.insert(row)?;
+            }
+            Sign::Minus => {
+                self.minus.insert(row)?;
+            }
+        }
+        Ok(())
+    }
+
+    /// Takes a row out of one side, if it is there.
+    fn take(&mut self, sign: Sign, row: &[u8])
+        ensures { self.new ≡ taken_out sign row.now self.old }
+    {
+        match sign {
+            Sign::Plus => {
+                let _held = self.plus.remove(row);
+            }
+            Sign::Minus => {
+                let _held = self.minus.remove(row);
+            }
+        }
+    }
+}
+
+/// Whether a row stands before another in byte order.
+#[tactic(auto, unfolding(hera_sets::specs::Rows::is_below))]
+fn is_below(a: &[u8], b: &[u8]) -> bool
+    ensures { result ≡ is_below a.now b.now }
+{
+    a.cmp(b).is_lt()
+}
+
+/// The first atom past the bound, whose sign says nothing.
+pub(crate) fn first_after<'s>(parts: &'s [Part], bound: Option<AtomRef<'_>>) -> Option<AtomRef<'s>>
+    requires { ArePacked parts.now }
+    ensures { option_map atom_in result ≡ find (is_after (bound_of bound.entry)) (atoms_of parts.now) }
+{
+    for part in parts {
+        if let Some(atom) = part.above(bound) {
+            return Some(atom);
+        }
+    }
+    None
+}
+
+/// How many atoms the parts have.
+pub(crate) fn count(parts: &[Part]) -> u128
+    requires { AreOrdered parts.now }
+    ensures { result ≡ length (atoms_of parts.now) }
+{
+    let mut count = 0;
+    for part in parts {
+        let _number = part.rel.0;
+        count += part.plus.len() as u128 + part.minus.len() as u128;
+    }
+    count
+}
+
+/// The place of a relation that is there, and else the place at which it would be.
+pub(crate) fn search(parts: &[Part], rel: RelId) -> Result<usize, usize>
+    requires { AreOrdered parts.now }
+    ensures { MatchResult result (IsAt parts.now rel.0) (IsGap parts.now rel.0) }
+{
+    let mut low = 0;
+    let mut high = parts.len();
+    while low < high {
+        let middle = low + (high - low) / 2;
+        let found = parts[middle].rel.0;
+        if found < rel.0 {
+            low = middle + 1;
+        } else if rel.0 < found {
+            high = middle;
+        } else {
+            return Ok(middle);
+        }
+    }
+    Err(low)
+}
+
+/// The place of a relation, for which a part without rows is made if it has none.
+fn open(parts: &mut Vec<Part>, alloc: Global, rel: RelId) -> Result<usize, AllocError>
+    requires { AreOrdered parts.old.items }
+    ensures ordered { AreOrdered parts.new.items }
+    ensures same { HaveSame parts.old.items parts.new.items }
+    ensures place { IfOk result (IsAt parts.new.items rel.0) }
+{
+    match search(parts, rel) {
+        Ok(i) => Ok(i),
+        Err(i) => {
+            let part = Part {
+                rel,
+                plus: RowSet::new(alloc),
+                minus: RowSet::new(alloc),
+            };
+            parts.insert(i, part)?;
+            Ok(i)
+        }
+    }
+}
+
+/// Puts an atom's row in on its side. Without memory the rows are as before.
+pub(crate) fn put_row(
+    parts: &mut Vec<Part>,
+    alloc: Global,
+    sign: Sign,
+    rel: RelId,
+    row: &[u8],
+) -> Result<(), AllocError>
+    requires { AreOrdered parts.old.items }
+    ensures ordered { AreOrdered parts.new.items }
+    ensures ok { OnOk result (Puts (atom_of sign rel.0 row.now) parts.old.items parts.new.items) }
+    ensures err { OnErr result (HaveSame parts.old.items parts.new.items) }
+{
+    let i = open(parts, alloc, rel)?;
+    parts[i].put(sign, row)?;
+    Ok(())
+}
+
+/// Takes a row out of one side of a relation, if it is there.
+pub(crate) fn take_row(parts: &mut Vec<Part>, sign: Sign, rel: RelId, row: &[u8])
+    requires { AreOrdered parts.old.items }
+    ensures ordered { AreOrdered parts.new.items }
+    ensures taken { Takes (atom_of sign rel.0 row.now) parts.old.items parts.new.items }
+{
+    if let Ok(i) = search(parts, rel) {
+        parts[i].take(sign, row);
+    }
+}
