@@ -1,0 +1,62 @@
+// The code of a program.
+
+ghost use Rattle.std.specs.Prelude.{◌≡◌, length, IfOk};
+ghost use Rattle.hera_meaning.specs.Addresses.{size_of};
+ghost use Rattle.hera_meaning.specs.Hosts.{Hosts};
+ghost use Rattle.hera_meaning.specs.Plain.{program_of};
+ghost use Rattle.hera_meaning.specs.Sound.{Sound};
+ghost use Rattle.hera_code.specs.Forward.{Forward};
+ghost use Rattle.hera_code.specs.Listing.{IsListable};
+ghost use Rattle.hera_code.specs.Scheme.{code_of};
+ghost use Rattle.hera_codegen.specs.Places_of.{place_is, body_place};
+
+use crate::patches::here;
+use crate::statements::{Place, emit_body};
+use hera_code::{Bodies, BodyInfo, Code, Instrs};
+use hera_meaning::Program;
+use std::alloc::{AllocError, Global};
+
+/// The code of a program: main at address 0, then the funcs and procs in their order. It jumps forward but
+/// for the ways back of loops, has as many instructions as the program's phrases say, and of a sound
+/// program it can be listed.
+pub fn generate(alloc: Global, program: &Program) -> Result<Code, AllocError>
+    ensures code { IfOk result (λ code. code ≡ code_of (program_of program.now)) }
+    ensures forward { IfOk result (λ code. Forward code) }
+    ensures size { IfOk result (λ code. length code.instrs ≡ size_of (program_of program.now)) }
+    ensures listable { (hosts : Hosts) → Sound (program_of program.now) hosts → IfOk result (λ code. IsListable code) }
+{
+    emit_program(alloc, program)
+}
+
+fn emit_program(alloc: Global, program: &Program) -> Result<Code, AllocError>
+    ensures { IfOk result (λ code. code ≡ code_of (program_of program.now)) }
+{
+    let mut instrs = Vec::new(alloc);
+    let mut bodies = Vec::new(alloc);
+    for (k, body) in program.bodies.iter().enumerate() {
+        bodies.push(BodyInfo {
+            at: here(&instrs)?,
+            params: body.params,
+            slots: body.slots,
+            func: body.func,
+        })?;
+        emit_body(&mut instrs, place_at(k, body.func), &body.block)?;
+    }
+    Ok(Code {
+        instrs: Instrs::new(instrs),
+        bodies: Bodies::new(bodies),
+    })
+}
+
+/// The place of body k.
+fn place_at(k: usize, func: bool) -> Place
+    ensures { place_is result ≡ body_place k func }
+{
+    if k == 0 {
+        Place::Main
+    } else if func {
+        Place::Func
+    } else {
+        Place::Proc
+    }
+}
