@@ -1,0 +1,9 @@
+pub mod Places
+pub mod ReadLaws
+pub mod ReadActLaws
+pub mod Decides
+pub mod Decided
+pub mod DecidesActs
+pub mod DecidedActs
+pub mod DecidedScripts
+pub mod Worked

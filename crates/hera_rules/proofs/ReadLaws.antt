@@ -1,0 +1,323 @@
+-- The phrase of a tree that is read field by field.
+use Rattle.std.proofs.Common.{◌≡◌, ℕ, List, [], ◌∷◌, refl, sym, ap, ◌∙◌, rules}
+use Rattle.std.specs.Prelude.{Vec, Box, Option, Some, None, map}
+use Rattle.std.specs.declared.alloc.Global.{Global}
+use Rattle.hera_syntax.specs.declared.token.Token.{Token}
+use Rattle.hera_syntax.specs.declared.expr.Names.{Names}
+use Rattle.hera_syntax.specs.declared.expr.Renamings.{Renamings}
+use Rattle.hera_syntax.specs.declared.expr.NamedAggs.{NamedAggs}
+use Rattle.hera_syntax.specs.declared.expr.Args.{Args, Args', out-Args, Row_of-Expr, end_of-Expr, more_of-Expr, items-the_row-Expr}
+use Rattle.hera_syntax.specs.declared.expr.Bindings.{Bindings, Bindings', out-Bindings, Row_of-Binding, end_of-Binding, more_of-Binding, items-the_row-Binding}
+use Rattle.hera_syntax.specs.declared.expr.Binding.{Binding, Binding', out-Binding}
+use Rattle.hera_syntax.specs.declared.expr.Atoms.{Atoms, Atoms', out-Atoms, Row_of-Atom, end_of-Atom, more_of-Atom, items-the_row-Atom}
+use Rattle.hera_syntax.specs.declared.expr.Atom.{Atom, Atom', out-Atom}
+use Rattle.hera_syntax.specs.declared.expr.Lines.{Lines, Lines', out-Lines, Row_of-Line, end_of-Line, more_of-Line, items-the_row-Line}
+use Rattle.hera_syntax.specs.declared.expr.Line.{Line, Line', out-Line}
+use Rattle.hera_syntax.specs.declared.expr.Expr.{Expr, Expr', out-Expr, Row_of-WhenTail, end_of-WhenTail, more_of-WhenTail, items-the_row-WhenTail}
+use Rattle.hera_syntax.specs.declared.expr.WhenTail.{WhenTail, WhenTail', out-WhenTail}
+use Rattle.hera_syntax.specs.declared.expr.Or.{Or, Or', out-Or, Row_of-OrTail, end_of-OrTail, more_of-OrTail, items-the_row-OrTail}
+use Rattle.hera_syntax.specs.declared.expr.OrTail.{OrTail, OrTail', out-OrTail}
+use Rattle.hera_syntax.specs.declared.expr.And.{And, And', out-And, Row_of-AndTail, end_of-AndTail, more_of-AndTail, items-the_row-AndTail}
+use Rattle.hera_syntax.specs.declared.expr.AndTail.{AndTail, AndTail', out-AndTail}
+use Rattle.hera_syntax.specs.declared.expr.Sum.{Sum, Sum', out-Sum, Row_of-SumTail, end_of-SumTail, more_of-SumTail, items-the_row-SumTail}
+use Rattle.hera_syntax.specs.declared.expr.SumTail.{SumTail, SumTail', out-SumTail}
+use Rattle.hera_syntax.specs.declared.expr.Term.{Term, Term', out-Term, Row_of-TermTail, end_of-TermTail, more_of-TermTail, items-the_row-TermTail}
+use Rattle.hera_syntax.specs.declared.expr.TermTail.{TermTail, TermTail', out-TermTail}
+use Rattle.hera_syntax.specs.declared.expr.Smash.{Smash, Smash', out-Smash, Row_of-SmashTail, end_of-SmashTail, more_of-SmashTail, items-the_row-SmashTail}
+use Rattle.hera_syntax.specs.declared.expr.SmashTail.{SmashTail, SmashTail', out-SmashTail}
+use Rattle.hera_syntax.specs.declared.expr.Merge.{Merge, Merge', out-Merge, Row_of-MergeTail, end_of-MergeTail, more_of-MergeTail, items-the_row-MergeTail}
+use Rattle.hera_syntax.specs.declared.expr.MergeTail.{MergeTail}
+use Rattle.hera_syntax.specs.declared.expr.Cmp.{Cmp, Cmp', out-Cmp, Held-Cmp-rest, Cmp-rest-None', Cmp-rest-Some'}
+use Rattle.hera_syntax.specs.declared.expr.CmpTail.{CmpTail, CmpTail', out-CmpTail}
+use Rattle.hera_syntax.specs.declared.expr.Prime.{Prime}
+use Rattle.hera_syntax.specs.declared.expr.Prime.TheViews as view
+use Rattle.hera_syntax.specs.declared.expr.Prime.TheVariants as variant
+use Rattle.hera_syntax.specs.declared.expr.Prime.TheViews.{the_lemmas}
+use Rattle.hera_meaning.specs.declared.scalars.Scalar.TheVariants.{Int as int_scalar, Bool as bool_scalar, Text as text_scalar}
+use Rattle.hera_meaning.specs.declared.trees.Const.TheVariants.{Scalar as scalar, FailDelta as fail_delta}
+use Rattle.std.specs.Prelude.{true, false}
+use Rattle.hera_rules.specs.declared.words.Word.{Word}
+use Rattle.hera_rules.specs.declared.words.Joint.TheVariants.{When as by_when, And as by_and, Or as by_or}
+use Rattle.hera_rules.specs.Phrases.{Phrase, literal, named, calling, operation, prefixed, attribute, row, atom, atoms, line, lines, walking, projecting, renaming, pairing, grouping, testing, folding, bulk, part, Phrases, no_phrase, phrase, Uses, no_use, uses}
+use Rattle.hera_rules.specs.Read.{word_of, int_of, text_of, joint_of, prefix_of, sign_of, part_of, walk_of, pair_of, test_of, fold_of, words_of, renamed_all, aggregates_of, chain_phrase, prefix_phrase, post_phrase, post_of, prefix_of_tree, expr_phrase, expr_uses, expr_use, expr_uses_in, or_phrase, or_uses, or_use, or_uses_in, and_phrase, and_uses, and_use, and_uses_in, sum_phrase, sum_uses, sum_use, sum_uses_in, term_phrase, term_uses, term_use, term_uses_in, smash_phrase, smash_uses, smash_use, smash_uses_in, merge_phrase, merge_uses, merge_use, merge_uses_in, cmp_phrase, cmp_uses, cmp_use, cmp_uses_in, prime_phrase, args_phrases, args_rest, call_args, phrases_in, args_in, bindings_phrases, bindings_rest, binding_phrase, bindings_words, binding_words, binding_word, bindings_in, atoms_phrases, atoms_rest, atom_phrase, atoms_in, delta_atoms, some_atoms, lines_phrases, lines_rest, line_phrase, lines_in, rows_lines, some_lines}
+
+expr_rows : (n : _) (k : Row_of-WhenTail n) → expr_uses k ≡ expr_uses_in (items-the_row-WhenTail n k)
+unfolding expr_phrase
+expr_rows n end_of-WhenTail = refl
+expr_rows n (more_of-WhenTail t rest) = ap (λ us. expr_use t us) (expr_rows _ rest)
+
+or_rows : (n : _) (k : Row_of-OrTail n) → or_uses k ≡ or_uses_in (items-the_row-OrTail n k)
+unfolding expr_phrase
+or_rows n end_of-OrTail = refl
+or_rows n (more_of-OrTail t rest) = ap (λ us. or_use t us) (or_rows _ rest)
+
+and_rows : (n : _) (k : Row_of-AndTail n) → and_uses k ≡ and_uses_in (items-the_row-AndTail n k)
+unfolding expr_phrase
+and_rows n end_of-AndTail = refl
+and_rows n (more_of-AndTail t rest) = ap (λ us. and_use t us) (and_rows _ rest)
+
+sum_rows : (n : _) (k : Row_of-SumTail n) → sum_uses k ≡ sum_uses_in (items-the_row-SumTail n k)
+unfolding expr_phrase
+sum_rows n end_of-SumTail = refl
+sum_rows n (more_of-SumTail t rest) = ap (λ us. sum_use t us) (sum_rows _ rest)
+
+term_rows : (n : _) (k : Row_of-TermTail n) → term_uses k ≡ term_uses_in (items-the_row-TermTail n k)
+unfolding expr_phrase
+term_rows n end_of-TermTail = refl
+term_rows n (more_of-TermTail t rest) = ap (λ us. term_use t us) (term_rows _ rest)
+
+smash_rows : (n : _) (k : Row_of-SmashTail n) → smash_uses k ≡ smash_uses_in (items-the_row-SmashTail n k)
+unfolding expr_phrase
+smash_rows n end_of-SmashTail = refl
+smash_rows n (more_of-SmashTail t rest) = ap (λ us. smash_use t us) (smash_rows _ rest)
+
+merge_rows : (n : _) (k : Row_of-MergeTail n) → merge_uses k ≡ merge_uses_in (items-the_row-MergeTail n k)
+unfolding expr_phrase
+merge_rows n end_of-MergeTail = refl
+merge_rows n (more_of-MergeTail sign op operand field rest) =
+    ap (λ us. uses (joint_of sign.kind) sign.at (prefix_phrase op (post_phrase (prime_phrase operand) field)) us) (merge_rows _ rest)
+
+arg_rows : (n : _) (k : Row_of-Expr n) → args_rest k ≡ phrases_in (items-the_row-Expr n k)
+unfolding expr_phrase
+arg_rows n end_of-Expr = refl
+arg_rows n (more_of-Expr e rest) = ap (λ us. phrase (expr_phrase e) us) (arg_rows _ rest)
+
+binding_rows : (n : _) (k : Row_of-Binding n) → bindings_rest k ≡ bindings_in (items-the_row-Binding n k)
+unfolding expr_phrase
+binding_rows n end_of-Binding = refl
+binding_rows n (more_of-Binding b rest) = ap (λ us. phrase (binding_phrase b) us) (binding_rows _ rest)
+
+word_rows : (n : _) (k : Row_of-Binding n) → binding_words k ≡ map binding_word (items-the_row-Binding n k)
+unfolding expr_phrase
+word_rows n end_of-Binding = refl
+word_rows n (more_of-Binding b rest) = ap (λ us. binding_word b ∷ us) (word_rows _ rest)
+
+atom_rows : (n : _) (k : Row_of-Atom n) → atoms_rest k ≡ atoms_in (items-the_row-Atom n k)
+unfolding expr_phrase
+atom_rows n end_of-Atom = refl
+atom_rows n (more_of-Atom a rest) = ap (λ us. phrase (atom_phrase a) us) (atom_rows _ rest)
+
+line_rows : (w : Word) (n : _) (k : Row_of-Line n) → lines_rest w k ≡ lines_in w (items-the_row-Line n k)
+unfolding expr_phrase
+line_rows w n end_of-Line = refl
+line_rows w n (more_of-Line l rest) = ap (λ us. phrase (line_phrase w l) us) (line_rows w _ rest)
+
+pub expr_phrase-read : (e : Expr) → expr_phrase e ≡ chain_phrase (or_phrase (out-Expr e).first) (expr_uses_in (out-Expr e).rest.items)
+unfolding expr_phrase
+expr_phrase-read (Expr' first shape rest) = search (rules, the_lemmas, expr_rows)
+
+pub expr_use-read : (t : WhenTail) (rest : Uses) → expr_use t rest ≡ uses by_when (out-WhenTail t).op.at (or_phrase (out-WhenTail t).operand) rest
+unfolding expr_phrase out-WhenTail denote.Hole.Carrier.out
+expr_use-read (WhenTail' op operand) rest = refl
+
+pub or_phrase-read : (e : Or) → or_phrase e ≡ chain_phrase (and_phrase (out-Or e).first) (or_uses_in (out-Or e).rest.items)
+unfolding expr_phrase
+or_phrase-read (Or' first shape rest) = search (rules, the_lemmas, or_rows)
+
+pub or_use-read : (t : OrTail) (rest : Uses) → or_use t rest ≡ uses by_or (out-OrTail t).op.at (and_phrase (out-OrTail t).operand) rest
+unfolding expr_phrase out-OrTail denote.Hole.Carrier.out
+or_use-read (OrTail' op operand) rest = refl
+
+pub and_phrase-read : (e : And) → and_phrase e ≡ chain_phrase (cmp_phrase (out-And e).first) (and_uses_in (out-And e).rest.items)
+unfolding expr_phrase
+and_phrase-read (And' first shape rest) = search (rules, the_lemmas, and_rows)
+
+pub and_use-read : (t : AndTail) (rest : Uses) → and_use t rest ≡ uses by_and (out-AndTail t).op.at (cmp_phrase (out-AndTail t).operand) rest
+unfolding expr_phrase out-AndTail denote.Hole.Carrier.out
+and_use-read (AndTail' op operand) rest = refl
+
+pub sum_phrase-read : (e : Sum) → sum_phrase e ≡ chain_phrase (term_phrase (out-Sum e).first) (sum_uses_in (out-Sum e).rest.items)
+unfolding expr_phrase
+sum_phrase-read (Sum' first shape rest) = search (rules, the_lemmas, sum_rows)
+
+pub sum_use-read : (t : SumTail) (rest : Uses) → sum_use t rest ≡ uses (joint_of (out-SumTail t).op.kind) (out-SumTail t).op.at (term_phrase (out-SumTail t).operand) rest
+unfolding expr_phrase out-SumTail denote.Hole.Carrier.out
+sum_use-read (SumTail' op operand) rest = refl
+
+pub term_phrase-read : (e : Term) → term_phrase e ≡ chain_phrase (smash_phrase (out-Term e).first) (term_uses_in (out-Term e).rest.items)
+unfolding expr_phrase
+term_phrase-read (Term' first shape rest) = search (rules, the_lemmas, term_rows)
+
+pub term_use-read : (t : TermTail) (rest : Uses) → term_use t rest ≡ uses (joint_of (out-TermTail t).op.kind) (out-TermTail t).op.at (smash_phrase (out-TermTail t).operand) rest
+unfolding expr_phrase out-TermTail denote.Hole.Carrier.out
+term_use-read (TermTail' op operand) rest = refl
+
+pub smash_phrase-read : (e : Smash) → smash_phrase e ≡ chain_phrase (merge_phrase (out-Smash e).first) (smash_uses_in (out-Smash e).rest.items)
+unfolding expr_phrase
+smash_phrase-read (Smash' first shape rest) = search (rules, the_lemmas, smash_rows)
+
+pub smash_use-read : (t : SmashTail) (rest : Uses) → smash_use t rest ≡ uses (joint_of (out-SmashTail t).op.kind) (out-SmashTail t).op.at (merge_phrase (out-SmashTail t).operand) rest
+unfolding expr_phrase out-SmashTail denote.Hole.Carrier.out
+smash_use-read (SmashTail' op operand) rest = refl
+
+pub merge_phrase-read : (e : Merge) → merge_phrase e ≡ chain_phrase (prefix_of_tree (out-Merge e).first) (merge_uses_in (out-Merge e).rest.items)
+unfolding expr_phrase
+merge_phrase-read (Merge' op operand field shape rest) = search (rules, the_lemmas, merge_rows)
+
+pub cmp_phrase-read : (e : Cmp) → cmp_phrase e ≡ chain_phrase (sum_phrase (out-Cmp e).first) (cmp_uses_in (out-Cmp e).rest)
+unfolding expr_phrase
+cmp_phrase-read (Cmp' first Cmp-rest-None') = search (rules, the_lemmas)
+cmp_phrase-read (Cmp' first (Cmp-rest-Some' t)) = search (rules, the_lemmas)
+
+pub cmp_use-read : (t : CmpTail) → cmp_use t ≡ uses (joint_of (out-CmpTail t).op.kind) (out-CmpTail t).op.at (sum_phrase (out-CmpTail t).operand) no_use
+unfolding expr_phrase out-CmpTail denote.Hole.Carrier.out
+cmp_use-read (CmpTail' op operand) = refl
+
+pub args_phrases-read : (a : Args) → args_phrases a ≡ phrase (expr_phrase (out-Args a).first) (phrases_in (out-Args a).rest.items)
+unfolding expr_phrase
+args_phrases-read (Args' first shape rest) = search (rules, the_lemmas, arg_rows)
+
+pub bindings_phrases-read : (a : Bindings) → bindings_phrases a ≡ phrase (binding_phrase (out-Bindings a).first) (bindings_in (out-Bindings a).rest.items)
+unfolding expr_phrase
+bindings_phrases-read (Bindings' first shape rest) = search (rules, the_lemmas, binding_rows)
+
+pub bindings_words-read : (a : Bindings) → bindings_words a ≡ binding_word (out-Bindings a).first ∷ map binding_word (out-Bindings a).rest.items
+unfolding expr_phrase
+bindings_words-read (Bindings' first shape rest) = search (rules, the_lemmas, word_rows)
+
+pub binding_phrase-read : (b : Binding) → binding_phrase b ≡ expr_phrase (out-Binding b).value
+unfolding expr_phrase out-Binding denote.Hole.Carrier.out
+binding_phrase-read (Binding' name value) = refl
+
+pub binding_word-read : (b : Binding) → binding_word b ≡ word_of (out-Binding b).name
+unfolding expr_phrase out-Binding denote.Hole.Carrier.out
+binding_word-read (Binding' name value) = refl
+
+pub atoms_phrases-read : (a : Atoms) → atoms_phrases a ≡ phrase (atom_phrase (out-Atoms a).first) (atoms_in (out-Atoms a).rest.items)
+unfolding expr_phrase
+atoms_phrases-read (Atoms' first shape rest) = search (rules, the_lemmas, atom_rows)
+
+pub atom_phrase-read : (a : Atom) → atom_phrase a ≡ atom (sign_of (out-Atom a).sign.kind) (word_of (out-Atom a).name) (args_phrases (out-Atom a).args)
+unfolding expr_phrase out-Atom denote.Hole.Carrier.out
+atom_phrase-read (Atom' sign name bracket args) = refl
+
+pub lines_phrases-read : (w : Word) (a : Lines) → lines_phrases w a ≡ phrase (line_phrase w (out-Lines a).first) (lines_in w (out-Lines a).rest.items)
+unfolding expr_phrase
+lines_phrases-read w (Lines' first shape rest) = search (rules, the_lemmas, line_rows)
+
+pub line_phrase-read : (w : Word) (l : Line) → line_phrase w l ≡ line w (out-Line l).bracket.at (args_phrases (out-Line l).args)
+unfolding expr_phrase out-Line denote.Hole.Carrier.out
+line_phrase-read w (Line' bracket args) = refl
+
+pub prime_phrase-Int : (t : Token) → prime_phrase (variant.Int t) ≡ literal (scalar (int_scalar (int_of t.kind)))
+unfolding expr_phrase
+prime_phrase-Int t = refl
+
+pub prime_phrase-Text : (t : Token) → prime_phrase (variant.Text t) ≡ literal (scalar (text_scalar (text_of t.kind)))
+unfolding expr_phrase
+prime_phrase-Text t = refl
+
+pub prime_phrase-True : (t : Token) → prime_phrase (variant.True t) ≡ literal (scalar (bool_scalar true))
+unfolding expr_phrase
+prime_phrase-True t = refl
+
+pub prime_phrase-False : (t : Token) → prime_phrase (variant.False t) ≡ literal (scalar (bool_scalar false))
+unfolding expr_phrase
+prime_phrase-False t = refl
+
+pub prime_phrase-Fail : (t : Token) → prime_phrase (variant.Fail t) ≡ literal fail_delta
+unfolding expr_phrase
+prime_phrase-Fail t = refl
+
+pub prime_phrase-Name : (t : Token) → prime_phrase (variant.Name t) ≡ named (word_of t)
+unfolding expr_phrase
+prime_phrase-Name t = refl
+
+pub prime_phrase-Paren : (b : Token) (e : Box Expr Global) → prime_phrase (view.Paren b e) ≡ expr_phrase e.value
+unfolding expr_phrase
+prime_phrase-Paren b e = refl
+
+pub prime_phrase-Row : (b : Token) (e : Box Bindings Global) → prime_phrase (view.Row b e) ≡ row b.at (bindings_words e.value) (bindings_phrases e.value)
+unfolding expr_phrase
+prime_phrase-Row b e = refl
+
+pub prime_phrase-Walk : (w b v : Token) (of body : Box Expr Global) → prime_phrase (view.Walk w b v of body) ≡ walking (walk_of w.kind) w.at (word_of v) (expr_phrase of.value) (expr_phrase body.value)
+unfolding expr_phrase
+prime_phrase-Walk w b v of body = refl
+
+pub prime_phrase-Project : (w b : Token) (of : Box Expr Global) (ns : Names) → prime_phrase (view.Project w b of ns) ≡ projecting w.at (expr_phrase of.value) (words_of ns)
+unfolding expr_phrase
+prime_phrase-Project w b of ns = refl
+
+pub prime_phrase-Rename : (w b : Token) (of : Box Expr Global) (ns : Renamings) → prime_phrase (view.Rename w b of ns) ≡ renaming w.at (expr_phrase of.value) (renamed_all ns)
+unfolding expr_phrase
+prime_phrase-Rename w b of ns = refl
+
+pub prime_phrase-Pair : (w b : Token) (l r : Box Expr Global) → prime_phrase (view.Pair w b l r) ≡ pairing (pair_of w.kind) w.at (expr_phrase l.value) (expr_phrase r.value)
+unfolding expr_phrase
+prime_phrase-Pair w b l r = refl
+
+pub prime_phrase-Group : (w b : Token) (of : Box Expr Global) (ns : Names) (aggs : NamedAggs) → prime_phrase (view.Group w b of ns aggs) ≡ grouping w.at (expr_phrase of.value) (words_of ns) (aggregates_of aggs)
+unfolding expr_phrase
+prime_phrase-Group w b of ns aggs = refl
+
+pub prime_phrase-Measure : (w b : Token) (of : Box Expr Global) → prime_phrase (view.Measure w b of) ≡ testing (test_of w.kind) w.at (expr_phrase of.value)
+unfolding expr_phrase
+prime_phrase-Measure w b of = refl
+
+pub prime_phrase-Fold : (w b : Token) (of : Box Expr Global) (n : Token) → prime_phrase (view.Fold w b of n) ≡ folding (fold_of w.kind) w.at (expr_phrase of.value) (word_of n)
+unfolding expr_phrase
+prime_phrase-Fold w b of n = refl
+
+pub prime_phrase-Bulk : (w b s n : Token) (of : Box Expr Global) → prime_phrase (view.Bulk w b s n of) ≡ bulk (sign_of s.kind) (word_of n) w.at (expr_phrase of.value)
+unfolding expr_phrase
+prime_phrase-Bulk w b s n of = refl
+
+pub prime_phrase-Part : (w b n : Token) (of : Box Expr Global) → prime_phrase (view.Part w b n of) ≡ part (part_of w.kind) (word_of n) w.at (expr_phrase of.value)
+unfolding expr_phrase
+prime_phrase-Part w b n of = refl
+
+pub prime_phrase-Call : (n b : Token) (args : Option (Box Args Global)) → prime_phrase (view.Call n b args) ≡ calling (word_of n) (args_in args)
+unfolding expr_phrase
+prime_phrase-Call n b None = refl
+prime_phrase-Call n b (Some args) = refl
+
+pub prime_phrase-Delta : (b : Token) (args : Option (Box Atoms Global)) → prime_phrase (view.Delta b args) ≡ atoms b.at (some_atoms args)
+unfolding expr_phrase
+prime_phrase-Delta b None = refl
+prime_phrase-Delta b (Some args) = refl
+
+pub prime_phrase-Rows : (w b n c : Token) (args : Option (Box Lines Global)) → prime_phrase (view.Rows w b n c args) ≡ lines (word_of n) w.at (some_lines (word_of n) args)
+unfolding expr_phrase
+prime_phrase-Rows w b n c None = refl
+prime_phrase-Rows w b n c (Some args) = refl
+
+pub ruleset read = (
+  expr_phrase-read,
+  or_phrase-read,
+  and_phrase-read,
+  cmp_phrase-read,
+  sum_phrase-read,
+  term_phrase-read,
+  smash_phrase-read,
+  merge_phrase-read,
+  args_phrases-read,
+  bindings_phrases-read,
+  bindings_words-read,
+  binding_phrase-read,
+  binding_word-read,
+  atoms_phrases-read,
+  atom_phrase-read,
+  lines_phrases-read,
+  line_phrase-read,
+  prime_phrase-Int,
+  prime_phrase-Text,
+  prime_phrase-True,
+  prime_phrase-False,
+  prime_phrase-Fail,
+  prime_phrase-Name,
+  prime_phrase-Paren,
+  prime_phrase-Row,
+  prime_phrase-Walk,
+  prime_phrase-Project,
+  prime_phrase-Rename,
+  prime_phrase-Pair,
+  prime_phrase-Group,
+  prime_phrase-Measure,
+  prime_phrase-Fold,
+  prime_phrase-Bulk,
+  prime_phrase-Part,
+  prime_phrase-Call,
+  prime_phrase-Delta,
+  prime_phrase-Rows,
+)

@@ -1,0 +1,17 @@
+pub mod Environments
+pub mod Phrases
+pub mod Read
+pub mod Same
+pub mod Rules
+pub mod Typing
+pub mod Checked
+pub mod Agrees
+pub mod Commands
+pub mod Statements
+pub mod CheckedActs
+pub mod Programs
+pub mod ReadActs
+pub mod CheckedScripts
+pub mod Exactness
+pub mod Bound
+pub mod Accepted

@@ -1,0 +1,405 @@
+-- The phrase of a syntax tree.
+use Rattle.std.specs.Prelude.{ℕ, List, [], ◌∷◌, map, Option, Some, None, ℤ, pos, nat_eq, if◌then◌else◌, true, false, Box}
+use Rattle.std.specs.declared.alloc.Global.{Global}
+use Rattle.hera_meaning.specs.declared.scalars.Kind.{Kind}
+use Rattle.hera_meaning.specs.declared.scalars.Kind.TheVariants.{Int as int_kind, Bool as bool_kind, Text as text_kind}
+use Rattle.hera_meaning.specs.declared.scalars.Sign.{Sign}
+use Rattle.hera_meaning.specs.declared.scalars.Sign.TheVariants.{Plus, Minus}
+use Rattle.hera_meaning.specs.declared.scalars.Scalar.TheVariants.{Int as int_scalar, Bool as bool_scalar, Text as text_scalar}
+use Rattle.hera_meaning.specs.declared.trees.Op.TheVariants.{Add as add_op, Sub as sub_op, Mul as mul_op, Div as div_op, Rem as rem_op, Eq as eq_op, Ne as ne_op, Lt as lt_op, Le as le_op, Gt as gt_op, Ge as ge_op, Union as union_op, Minus as minus_op, Inter as inter_op, Smash as smash_op, Merge as merge_op}
+use Rattle.hera_meaning.specs.declared.trees.Const.{Const}
+use Rattle.hera_meaning.specs.declared.trees.Const.TheVariants.{Scalar as scalar, EmptyDelta as empty_delta, FailDelta as fail_delta}
+use Rattle.hera_syntax.specs.declared.token.Token.{Token}
+use Rattle.hera_syntax.specs.declared.token.TokenKind.{TokenKind}
+use Rattle.hera_syntax.specs.declared.token.TokenKind.TheVariants.{Ident as ident_token, Int as int_token, Text as text_token, Key as key_token, Punct as punct_token}
+use Rattle.hera_syntax.specs.declared.expr.Names.{Names}
+use Rattle.hera_syntax.specs.declared.expr.Renaming.{Renaming}
+use Rattle.hera_syntax.specs.declared.expr.Renamings.{Renamings}
+use Rattle.hera_syntax.specs.declared.expr.AggTree.{AggTree}
+use Rattle.hera_syntax.specs.declared.expr.AggTree.TheVariants.{Count, Of}
+use Rattle.hera_syntax.specs.declared.expr.NamedAgg.{NamedAgg}
+use Rattle.hera_syntax.specs.declared.expr.NamedAggs.{NamedAggs}
+use Rattle.hera_syntax.specs.declared.expr.Args.{Args, Args', Row_of-Expr, end_of-Expr, more_of-Expr}
+use Rattle.hera_syntax.specs.declared.expr.Expr.{Expr, Expr', Row_of-WhenTail, end_of-WhenTail, more_of-WhenTail}
+use Rattle.hera_syntax.specs.declared.expr.Or.{Or, Or', Row_of-OrTail, end_of-OrTail, more_of-OrTail}
+use Rattle.hera_syntax.specs.declared.expr.And.{And, And', Row_of-AndTail, end_of-AndTail, more_of-AndTail}
+use Rattle.hera_syntax.specs.declared.expr.Sum.{Sum, Sum', Row_of-SumTail, end_of-SumTail, more_of-SumTail}
+use Rattle.hera_syntax.specs.declared.expr.Term.{Term, Term', Row_of-TermTail, end_of-TermTail, more_of-TermTail}
+use Rattle.hera_syntax.specs.declared.expr.Smash.{Smash, Smash', Row_of-SmashTail, end_of-SmashTail, more_of-SmashTail}
+use Rattle.hera_syntax.specs.declared.expr.Merge.{Merge, Merge', Row_of-MergeTail, end_of-MergeTail, more_of-MergeTail}
+use Rattle.hera_syntax.specs.declared.expr.Bindings.{Bindings, Bindings', Row_of-Binding, end_of-Binding, more_of-Binding}
+use Rattle.hera_syntax.specs.declared.expr.Atoms.{Atoms, Atoms', Row_of-Atom, end_of-Atom, more_of-Atom}
+use Rattle.hera_syntax.specs.declared.expr.Lines.{Lines, Lines', Row_of-Line, end_of-Line, more_of-Line}
+use Rattle.hera_syntax.specs.declared.expr.WhenTail.{WhenTail, WhenTail'}
+use Rattle.hera_syntax.specs.declared.expr.OrTail.{OrTail, OrTail'}
+use Rattle.hera_syntax.specs.declared.expr.AndTail.{AndTail, AndTail'}
+use Rattle.hera_syntax.specs.declared.expr.SumTail.{SumTail, SumTail'}
+use Rattle.hera_syntax.specs.declared.expr.TermTail.{TermTail, TermTail'}
+use Rattle.hera_syntax.specs.declared.expr.SmashTail.{SmashTail, SmashTail'}
+use Rattle.hera_syntax.specs.declared.expr.CmpTail.{CmpTail, CmpTail'}
+use Rattle.hera_syntax.specs.declared.expr.Binding.{Binding, Binding'}
+use Rattle.hera_syntax.specs.declared.expr.Atom.{Atom, Atom'}
+use Rattle.hera_syntax.specs.declared.expr.Line.{Line, Line'}
+use Rattle.hera_syntax.specs.declared.expr.MergeTail.{MergeTail}
+use Rattle.hera_syntax.specs.declared.expr.Prefix.{Prefix}
+use Rattle.hera_syntax.specs.declared.expr.Post.{Post}
+use Rattle.hera_syntax.specs.declared.expr.Cmp.{Cmp, Cmp', Held-Cmp-rest, Cmp-rest-None', Cmp-rest-Some'}
+use Rattle.hera_syntax.specs.declared.expr.Prime.{Prime, Int, Text, True, False, Fail, Name, Call', Paren', Row', Delta', Rows', Walk', Project', Rename', Pair', Group', Measure', Fold', Bulk', Part', Held-Prime-Call-2, Prime-Call-2-None', Prime-Call-2-Some', Held-Prime-Delta-1, Prime-Delta-1-None', Prime-Delta-1-Some', Held-Prime-Rows-4, Prime-Rows-4-None', Prime-Rows-4-Some'}
+use Rattle.hera_rules.specs.declared.words.Word.{Word}
+use Rattle.hera_rules.specs.declared.words.Walk.{Walk}
+use Rattle.hera_rules.specs.declared.words.Walk.TheVariants.{Keeping, Mapping}
+use Rattle.hera_rules.specs.declared.words.Pair.{Pair as Pair_kind}
+use Rattle.hera_rules.specs.declared.words.Pair.TheVariants.{Sets, Join as as_join}
+use Rattle.hera_rules.specs.declared.words.Fold.{Fold}
+use Rattle.hera_rules.specs.declared.words.Fold.TheVariants.{Sum as sum_of, Least, Greatest}
+use Rattle.hera_rules.specs.declared.words.Renamed.{Renamed}
+use Rattle.hera_rules.specs.declared.words.Measured.{Measured}
+use Rattle.hera_rules.specs.declared.words.Measured.TheVariants.{Count as counted, Of as folded}
+use Rattle.hera_rules.specs.declared.words.Aggregate.{Aggregate}
+use Rattle.hera_rules.specs.declared.words.Joint.{Joint}
+use Rattle.hera_rules.specs.declared.words.Joint.TheVariants.{When as by_when, And as by_and, Or as by_or, Arithmetic, Equality, Order, Member, Deltas}
+use Rattle.hera_rules.specs.declared.words.Prefix.{Prefix as Prefix_kind}
+use Rattle.hera_rules.specs.declared.words.Prefix.TheVariants.{Minus as negated, Not as denied}
+use Rattle.hera_rules.specs.declared.words.Test.{Test}
+use Rattle.hera_rules.specs.declared.words.Test.TheVariants.{Count as count_test, Empty as empty_test, IsFail as is_fail_test}
+use Rattle.hera_rules.specs.Phrases.{Phrase, literal, named, calling, operation, prefixed, attribute, row, atom, atoms, line, lines, walking, projecting, renaming, pairing, grouping, testing, folding, bulk, part, Phrases, no_phrase, phrase, Uses, no_use, uses}
+
+-- ---- what a token says
+
+-- the name of an identifier; no name of any other token
+abbrev pub name_of : TokenKind → List ℕ
+name_of (ident_token n) = n
+name_of _ = []
+
+abbrev pub word_of : Token → Word
+word_of t = record { name = name_of t.kind; at = t.at }
+
+abbrev pub int_of : TokenKind → ℤ
+int_of (int_token z) = z
+int_of _ = pos 0
+
+abbrev pub text_of : TokenKind → List ℕ
+text_of (text_token t) = t
+text_of _ = []
+
+-- the number of a keyword or of a punctuation
+abbrev pub key_of : TokenKind → ℕ
+key_of (key_token k) = k
+key_of _ = 0
+
+abbrev pub punct_of : TokenKind → ℕ
+punct_of (punct_token k) = k
+punct_of _ = 0
+
+-- the operator of a link; `in` is a keyword
+abbrev pub joint_numbered : ℕ → Joint
+joint_numbered k =
+    if nat_eq k 11 then Equality eq_op else (if nat_eq k 12 then Equality ne_op else (if nat_eq k 13 then Order lt_op else (if nat_eq k 14 then Order le_op
+    else (if nat_eq k 15 then Order gt_op else (if nat_eq k 16 then Order ge_op else (if nat_eq k 17 then Arithmetic add_op else (if nat_eq k 18 then Arithmetic sub_op
+    else (if nat_eq k 19 then Arithmetic mul_op else (if nat_eq k 20 then Arithmetic div_op else (if nat_eq k 21 then Arithmetic rem_op else (if nat_eq k 22 then Deltas smash_op
+    else Deltas merge_op)))))))))))
+
+abbrev pub joint_of : TokenKind → Joint
+joint_of (punct_token k) = joint_numbered k
+joint_of _ = Member
+
+-- `-`, `!`
+abbrev pub prefix_of : TokenKind → Prefix_kind
+prefix_of t = if nat_eq (punct_of t) 18 then negated else denied
+
+-- `+`, `-`
+abbrev pub sign_of : TokenKind → Sign
+sign_of t = if nat_eq (punct_of t) 17 then Plus else Minus
+
+-- `ins`, `del`
+abbrev pub part_of : TokenKind → Sign
+part_of t = if nat_eq (key_of t) 43 then Plus else Minus
+
+-- `select`, `map`
+abbrev pub walk_of : TokenKind → Walk
+walk_of t = if nat_eq (key_of t) 26 then Keeping else Mapping
+
+-- `union`, `minus`, `inter`, `join`
+abbrev pub pair_of : TokenKind → Pair_kind
+pair_of t = if nat_eq (key_of t) 30 then Sets union_op else (if nat_eq (key_of t) 31 then Sets minus_op else (if nat_eq (key_of t) 32 then Sets inter_op else as_join))
+
+-- `count`, `empty`, `isfail`
+abbrev pub test_of : TokenKind → Test
+test_of t = if nat_eq (key_of t) 36 then count_test else (if nat_eq (key_of t) 37 then empty_test else is_fail_test)
+
+-- `sum`, `min`, `max`
+abbrev pub fold_of : TokenKind → Fold
+fold_of t = if nat_eq (key_of t) 38 then sum_of else (if nat_eq (key_of t) 39 then Least else Greatest)
+
+-- `int`, `bool`, `text`
+abbrev pub kind_word : TokenKind → Kind
+kind_word t = if nat_eq (key_of t) 4 then int_kind else (if nat_eq (key_of t) 5 then bool_kind else text_kind)
+
+-- ---- lists of names
+
+abbrev pub words_of : Names → List Word
+words_of ns = word_of ns.first ∷ map word_of ns.rest.items
+
+abbrev pub renamed_of : Renaming → Renamed
+renamed_of r = record { new = word_of r.new; old = word_of r.old }
+
+abbrev pub renamed_all : Renamings → List Renamed
+renamed_all rs = renamed_of rs.first ∷ map renamed_of rs.rest.items
+
+abbrev pub measured_of : AggTree → Measured
+measured_of (Count t) = counted
+measured_of (Of word bracket name) = folded (fold_of word.kind) (word_of name)
+
+abbrev pub aggregate_of : NamedAgg → Aggregate
+aggregate_of a = record { name = word_of a.name; of = measured_of a.agg }
+
+abbrev pub aggregates_of : NamedAggs → List Aggregate
+aggregates_of aa = aggregate_of aa.first ∷ map aggregate_of aa.rest.items
+
+-- ---- expressions
+
+-- a level without operators is its operand
+abbrev pub chain_phrase : Phrase → Uses → Phrase
+chain_phrase p no_use = p
+chain_phrase p (uses op at q rest) = operation p (uses op at q rest)
+
+abbrev pub prefix_phrase : Option Token → Phrase → Phrase
+prefix_phrase None p = p
+prefix_phrase (Some t) p = prefixed (prefix_of t.kind) t.at p
+
+abbrev pub post_phrase : Phrase → Option Token → Phrase
+post_phrase p None = p
+post_phrase p (Some t) = attribute p (word_of t)
+
+unfoldable mutual
+  pub expr_phrase : Expr → Phrase
+  expr_phrase (Expr' first shape rest) = chain_phrase (or_phrase first) (expr_uses rest)
+
+  pub expr_uses : {m : _} → Row_of-WhenTail m → Uses
+  expr_uses end_of-WhenTail = no_use
+  expr_uses (more_of-WhenTail t rest) = expr_use t (expr_uses rest)
+
+  pub expr_use : WhenTail → Uses → Uses
+  expr_use (WhenTail' op operand) rest = uses by_when op.at (or_phrase operand) rest
+
+  pub or_phrase : Or → Phrase
+  or_phrase (Or' first shape rest) = chain_phrase (and_phrase first) (or_uses rest)
+
+  pub or_uses : {m : _} → Row_of-OrTail m → Uses
+  or_uses end_of-OrTail = no_use
+  or_uses (more_of-OrTail t rest) = or_use t (or_uses rest)
+
+  pub or_use : OrTail → Uses → Uses
+  or_use (OrTail' op operand) rest = uses by_or op.at (and_phrase operand) rest
+
+  pub and_phrase : And → Phrase
+  and_phrase (And' first shape rest) = chain_phrase (cmp_phrase first) (and_uses rest)
+
+  pub and_uses : {m : _} → Row_of-AndTail m → Uses
+  and_uses end_of-AndTail = no_use
+  and_uses (more_of-AndTail t rest) = and_use t (and_uses rest)
+
+  pub and_use : AndTail → Uses → Uses
+  and_use (AndTail' op operand) rest = uses by_and op.at (cmp_phrase operand) rest
+
+  pub sum_phrase : Sum → Phrase
+  sum_phrase (Sum' first shape rest) = chain_phrase (term_phrase first) (sum_uses rest)
+
+  pub sum_uses : {m : _} → Row_of-SumTail m → Uses
+  sum_uses end_of-SumTail = no_use
+  sum_uses (more_of-SumTail t rest) = sum_use t (sum_uses rest)
+
+  pub sum_use : SumTail → Uses → Uses
+  sum_use (SumTail' op operand) rest = uses (joint_of op.kind) op.at (term_phrase operand) rest
+
+  pub term_phrase : Term → Phrase
+  term_phrase (Term' first shape rest) = chain_phrase (smash_phrase first) (term_uses rest)
+
+  pub term_uses : {m : _} → Row_of-TermTail m → Uses
+  term_uses end_of-TermTail = no_use
+  term_uses (more_of-TermTail t rest) = term_use t (term_uses rest)
+
+  pub term_use : TermTail → Uses → Uses
+  term_use (TermTail' op operand) rest = uses (joint_of op.kind) op.at (smash_phrase operand) rest
+
+  pub smash_phrase : Smash → Phrase
+  smash_phrase (Smash' first shape rest) = chain_phrase (merge_phrase first) (smash_uses rest)
+
+  pub smash_uses : {m : _} → Row_of-SmashTail m → Uses
+  smash_uses end_of-SmashTail = no_use
+  smash_uses (more_of-SmashTail t rest) = smash_use t (smash_uses rest)
+
+  pub smash_use : SmashTail → Uses → Uses
+  smash_use (SmashTail' op operand) rest = uses (joint_of op.kind) op.at (merge_phrase operand) rest
+
+  pub merge_phrase : Merge → Phrase
+  merge_phrase (Merge' op operand field shape rest) = chain_phrase (prefix_phrase op (post_phrase (prime_phrase operand) field)) (merge_uses rest)
+
+  pub merge_uses : {m : _} → Row_of-MergeTail m → Uses
+  merge_uses end_of-MergeTail = no_use
+  merge_uses (more_of-MergeTail sign op operand field rest) =
+      uses (joint_of sign.kind) sign.at (prefix_phrase op (post_phrase (prime_phrase operand) field)) (merge_uses rest)
+
+  pub cmp_phrase : Cmp → Phrase
+  cmp_phrase (Cmp' first rest) = chain_phrase (sum_phrase first) (cmp_uses rest)
+
+  pub cmp_uses : Held-Cmp-rest → Uses
+  cmp_uses Cmp-rest-None' = no_use
+  cmp_uses (Cmp-rest-Some' t) = cmp_use t
+
+  pub cmp_use : CmpTail → Uses
+  cmp_use (CmpTail' op operand) = uses (joint_of op.kind) op.at (sum_phrase operand) no_use
+
+  pub args_phrases : Args → Phrases
+  args_phrases (Args' first shape rest) = phrase (expr_phrase first) (args_rest rest)
+
+  pub args_rest : {m : _} → Row_of-Expr m → Phrases
+  args_rest end_of-Expr = no_phrase
+  args_rest (more_of-Expr e rest) = phrase (expr_phrase e) (args_rest rest)
+
+  -- the values of `[a = e]`, and the names
+  pub bindings_phrases : Bindings → Phrases
+  bindings_phrases (Bindings' first shape rest) = phrase (binding_phrase first) (bindings_rest rest)
+
+  pub bindings_rest : {m : _} → Row_of-Binding m → Phrases
+  bindings_rest end_of-Binding = no_phrase
+  bindings_rest (more_of-Binding b rest) = phrase (binding_phrase b) (bindings_rest rest)
+
+  pub binding_phrase : Binding → Phrase
+  binding_phrase (Binding' name value) = expr_phrase value
+
+  pub bindings_words : Bindings → List Word
+  bindings_words (Bindings' first shape rest) = binding_word first ∷ binding_words rest
+
+  pub binding_words : {m : _} → Row_of-Binding m → List Word
+  binding_words end_of-Binding = []
+  binding_words (more_of-Binding b rest) = binding_word b ∷ binding_words rest
+
+  pub binding_word : Binding → Word
+  binding_word (Binding' name value) = word_of name
+
+  pub atoms_phrases : Atoms → Phrases
+  atoms_phrases (Atoms' first shape rest) = phrase (atom_phrase first) (atoms_rest rest)
+
+  pub atoms_rest : {m : _} → Row_of-Atom m → Phrases
+  atoms_rest end_of-Atom = no_phrase
+  atoms_rest (more_of-Atom a rest) = phrase (atom_phrase a) (atoms_rest rest)
+
+  pub atom_phrase : Atom → Phrase
+  atom_phrase (Atom' sign name bracket args) = atom (sign_of sign.kind) (word_of name) (args_phrases args)
+
+  pub lines_phrases : Word → Lines → Phrases
+  lines_phrases w (Lines' first shape rest) = phrase (line_phrase w first) (lines_rest w rest)
+
+  pub lines_rest : {m : _} → Word → Row_of-Line m → Phrases
+  lines_rest w end_of-Line = no_phrase
+  lines_rest w (more_of-Line l rest) = phrase (line_phrase w l) (lines_rest w rest)
+
+  pub line_phrase : Word → Line → Phrase
+  line_phrase w (Line' bracket args) = line w bracket.at (args_phrases args)
+
+  pub call_args : Held-Prime-Call-2 → Phrases
+  call_args Prime-Call-2-None' = no_phrase
+  call_args (Prime-Call-2-Some' p args) = args_phrases args
+
+  pub delta_atoms : Held-Prime-Delta-1 → Phrases
+  delta_atoms Prime-Delta-1-None' = no_phrase
+  delta_atoms (Prime-Delta-1-Some' p all) = atoms_phrases all
+
+  pub rows_lines : Word → Held-Prime-Rows-4 → Phrases
+  rows_lines w Prime-Rows-4-None' = no_phrase
+  rows_lines w (Prime-Rows-4-Some' p all) = lines_phrases w all
+
+  pub prime_phrase : Prime → Phrase
+  prime_phrase (Int t) = literal (scalar (int_scalar (int_of t.kind)))
+  prime_phrase (Text t) = literal (scalar (text_scalar (text_of t.kind)))
+  prime_phrase (True t) = literal (scalar (bool_scalar true))
+  prime_phrase (False t) = literal (scalar (bool_scalar false))
+  prime_phrase (Fail t) = literal fail_delta
+  prime_phrase (Name t) = named (word_of t)
+  prime_phrase (Call' name bracket args) = calling (word_of name) (call_args args)
+  prime_phrase (Paren' bracket p e) = expr_phrase e
+  prime_phrase (Row' bracket p bindings) = row bracket.at (bindings_words bindings) (bindings_phrases bindings)
+  prime_phrase (Delta' bracket all) = atoms bracket.at (delta_atoms all)
+  prime_phrase (Rows' word bracket name brace all) = lines (word_of name) word.at (rows_lines (word_of name) all)
+  prime_phrase (Walk' word bracket var p of q body) = walking (walk_of word.kind) word.at (word_of var) (expr_phrase of) (expr_phrase body)
+  prime_phrase (Project' word bracket p of names) = projecting word.at (expr_phrase of) (words_of names)
+  prime_phrase (Rename' word bracket p of names) = renaming word.at (expr_phrase of) (renamed_all names)
+  prime_phrase (Pair' word bracket p left q right) = pairing (pair_of word.kind) word.at (expr_phrase left) (expr_phrase right)
+  prime_phrase (Group' word bracket p of names aggs) = grouping word.at (expr_phrase of) (words_of names) (aggregates_of aggs)
+  prime_phrase (Measure' word bracket p of) = testing (test_of word.kind) word.at (expr_phrase of)
+  prime_phrase (Fold' word bracket p of name) = folding (fold_of word.kind) word.at (expr_phrase of) (word_of name)
+  prime_phrase (Bulk' word bracket sign name p of) = bulk (sign_of sign.kind) (word_of name) word.at (expr_phrase of)
+  prime_phrase (Part' word bracket name p of) = part (part_of word.kind) (word_of name) word.at (expr_phrase of)
+
+-- an operand with its attribute, and with its prefix
+abbrev pub post_of : Post → Phrase
+post_of p = post_phrase (prime_phrase p.operand) p.field
+
+abbrev pub prefix_of_tree : Prefix → Phrase
+prefix_of_tree p = prefix_phrase p.op (post_of p.operand)
+
+-- ---- the rest of a chain or a list in a Vec
+
+abbrev pub expr_uses_in : List WhenTail → Uses
+expr_uses_in [] = no_use
+expr_uses_in (t ∷ ts) = expr_use t (expr_uses_in ts)
+
+abbrev pub or_uses_in : List OrTail → Uses
+or_uses_in [] = no_use
+or_uses_in (t ∷ ts) = or_use t (or_uses_in ts)
+
+abbrev pub and_uses_in : List AndTail → Uses
+and_uses_in [] = no_use
+and_uses_in (t ∷ ts) = and_use t (and_uses_in ts)
+
+abbrev pub sum_uses_in : List SumTail → Uses
+sum_uses_in [] = no_use
+sum_uses_in (t ∷ ts) = sum_use t (sum_uses_in ts)
+
+abbrev pub term_uses_in : List TermTail → Uses
+term_uses_in [] = no_use
+term_uses_in (t ∷ ts) = term_use t (term_uses_in ts)
+
+abbrev pub smash_uses_in : List SmashTail → Uses
+smash_uses_in [] = no_use
+smash_uses_in (t ∷ ts) = smash_use t (smash_uses_in ts)
+
+abbrev pub merge_use : MergeTail → Uses → Uses
+merge_use t rest = uses (joint_of t.op.kind) t.op.at (prefix_of_tree t.operand) rest
+
+abbrev pub merge_uses_in : List MergeTail → Uses
+merge_uses_in [] = no_use
+merge_uses_in (t ∷ ts) = merge_use t (merge_uses_in ts)
+
+abbrev pub cmp_uses_in : Option CmpTail → Uses
+cmp_uses_in None = no_use
+cmp_uses_in (Some t) = cmp_use t
+
+abbrev pub phrases_in : List Expr → Phrases
+phrases_in [] = no_phrase
+phrases_in (e ∷ es) = phrase (expr_phrase e) (phrases_in es)
+
+abbrev pub bindings_in : List Binding → Phrases
+bindings_in [] = no_phrase
+bindings_in (b ∷ bs) = phrase (binding_phrase b) (bindings_in bs)
+
+abbrev pub atoms_in : List Atom → Phrases
+atoms_in [] = no_phrase
+atoms_in (a ∷ rest) = phrase (atom_phrase a) (atoms_in rest)
+
+abbrev pub lines_in : Word → List Line → Phrases
+lines_in w [] = no_phrase
+lines_in w (l ∷ ls) = phrase (line_phrase w l) (lines_in w ls)
+
+abbrev pub args_in : Option (Box Args Global) → Phrases
+args_in None = no_phrase
+args_in (Some b) = args_phrases b.value
+
+abbrev pub some_atoms : Option (Box Atoms Global) → Phrases
+some_atoms None = no_phrase
+some_atoms (Some b) = atoms_phrases b.value
+
+abbrev pub some_lines : Word → Option (Box Lines Global) → Phrases
+some_lines w None = no_phrase
+some_lines w (Some b) = lines_phrases w b.value
