@@ -1,12 +1,12 @@
 -- Parts behind one another, with commas between them.
-use Rattle.std.proofs.Common.{◌≡◌, ℕ, zero, suc, ◌+◌, ◌<◌, ◌≤◌, List, [], ◌∷◌, ◌++◌, Option, Some, None, length, drop, refl, sym, ap, ◌∙◌, subst, add-one, arith, append_assoc}
-use Rattle.std.specs.Prelude.{codes, map}
+use Rattle.std.proofs.Common.{◌≡◌, ℕ, zero, suc, ◌+◌, ◌<◌, ◌≤◌, List, [], ◌∷◌, ◌++◌, Some, length, drop, refl, sym, ap, ◌∙◌, subst, add-one, arith, append_assoc}
+use Rattle.std.specs.Prelude.{codes}
 use Rattle.std.specs.List.{slice_get, flat_map}
 use Rattle.std.proofs.lemmas.Option.{none-some, same_Some}
 use Rattle.std.proofs.lemmas.List.{append-nil}
 use Rattle.hera_meaning.specs.declared.scalars.Scalar.{Scalar}
 use Rattle.hera_meaning.specs.declared.schemas.Attr.{Attr}
-use Rattle.hera_meaning.specs.Rows.{pieces, scalars_of, fields_of, scalar_at, field_at}
+use Rattle.hera_meaning.specs.Rows.{fields_of, scalar_at, field_at}
 use Rattle.hera_meaning.specs.Printed.{inner_text, fields_text, attr_text, attrs_text}
 use Rattle.hera_print.specs.Commas.{comma_before}
 

@@ -14,3 +14,6 @@ mod words;
 
 pub use decls::decl_line;
 pub use values::{end_line, value_line};
+
+#[cfg(test)]
+mod tests;

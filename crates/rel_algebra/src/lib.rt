@@ -11,3 +11,55 @@ mod sets;
 pub use pieces::{at_places, piece, piece_len};
 pub use projection::project;
 pub use sets::{Both, Common, Without, inter, minus, same_rows, union};
+
+#[cfg(test)]
+mod tests {
+    use super::*;
+    use hera_meaning::{Attr, Kind, Schema, Text};
+    use hera_rows::{RowSet, Sorted};
+    use std::alloc::{AllocError, Global};
+    use std::test::Fail;
+
+    /// The set of two rows.
+    fn set_of(alloc: Global, first: &[u8], second: &[u8]) -> Result<RowSet, AllocError> {
+        let mut set = RowSet::new(alloc);
+        let _first = set.insert(first)?;
+        let _second = set.insert(second)?;
+        Ok(set)
+    }
+
+    /// The schema of two bools.
+    fn flags(alloc: Global) -> Result<Schema, Fail> {
+        let mut attrs = Vec::new(alloc);
+        for name in [b"a".as_slice(), b"b"] {
+            let name = Text::new(alloc, name)?;
+            attrs.push(Attr {
+                name,
+                kind: Kind::Bool,
+            })?;
+        }
+        Ok(Schema::new(attrs)?)
+    }
+
+    #[test]
+    fn sets_are_put_together_and_taken_apart(rt: HostRuntime) -> Result<(), Fail> {
+        let a = set_of(rt.alloc(), b"p", b"q")?;
+        let b = set_of(rt.alloc(), b"r", b"q")?;
+        assert!(rt; union(rt.alloc(), &a, &b)?.len() == 3);
+        assert!(rt; minus(rt.alloc(), &a, &b)?.has(b"p"));
+        assert!(rt; inter(rt.alloc(), &a, &b)?.has(b"q"));
+        assert!(rt; same_rows(&a, &a) && !same_rows(&a, &b));
+        Ok(())
+    }
+
+    #[test]
+    fn fields_are_taken_in_the_order_of_the_places(rt: HostRuntime) -> Result<(), Fail> {
+        let schema = flags(rt.alloc())?;
+        let rows = set_of(rt.alloc(), b"\x00\x01", b"\x01\x01")?;
+        let second = project(rt.alloc(), &schema, &[1], &rows)?;
+        assert!(rt; second.len() == 1 && second.has(b"\x01"));
+        let turned = project(rt.alloc(), &schema, &[1, 0], &rows)?;
+        assert!(rt; turned.len() == 2 && turned.has(b"\x01\x00"));
+        Ok(())
+    }
+}

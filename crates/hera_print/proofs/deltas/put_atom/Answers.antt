@@ -1,7 +1,5 @@
-use Rattle.std.proofs.Common.{length, nat_lt}
+use Rattle.std.proofs.Common.{length}
 use Rattle.std.proofs.lemmas.Bool.{and_parts, ltb-true}
-use Rattle.hera_meaning.specs.Deltas.{schema_of}
-use Rattle.hera_meaning.specs.Rows.{is_row}
 use Rattle.hera_print.proofs.deltas.put_atom.Goals as goal
 
 pub decl_of-decl-requires : goal.decl_of-decl-requires

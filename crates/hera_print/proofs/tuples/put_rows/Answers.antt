@@ -1,4 +1,4 @@
-use Rattle.std.proofs.Common.{arith, drop, length, ◌+◌, ◌++◌}
+use Rattle.std.proofs.Common.{arith, drop, ◌+◌, ◌++◌}
 use Rattle.std.specs.Prelude.{codes}
 use Rattle.hera_meaning.specs.Rows.{is_row}
 use Rattle.hera_meaning.specs.Printed.{tuple_text}
