@@ -10,7 +10,7 @@ use Rattle.hera_meaning.specs.declared.schemas.Attr.{Attr}
 use Rattle.hera_meaning.specs.declared.schemas.RelDecl.{RelDecl}
 use Rattle.hera_meaning.specs.declared.trees.Const.TheVariants.{Scalar, FailDelta}
 use Rattle.hera_meaning.specs.declared.trees.Shape.TheVariants.{Int, Rel as rel_shape}
-use Rattle.hera_meaning.specs.declared.trees.Op.TheVariants.{Add, Sub, Mul, Div, Lt, Gt, Field, MakeRow, Count, Sum, Min, Atom, Bulk, Smash, Merge}
+use Rattle.hera_meaning.specs.declared.trees.Op.TheVariants.{Add, Sub, Mul, Div, Lt, Field, MakeRow, Count, Atom, Merge}
 use Rattle.hera_meaning.specs.Hosts.{Hosts}
 use Rattle.hera_meaning.specs.Deltas.{State}
 use Rattle.hera_meaning.specs.Trees.{Expr, constant, local, relation, prim, chain, and_all, or_any, when, select, map_each, call, host, Exprs, no_more, then_expr, no_link, link, no_hypo, hypo, Command, set_slot, if_arms, while, foreach, print, apply, commit, rollback, assert, return, return_value, call_proc, Block, no_stmt, then_stmt, no_arm, arm, Program_tree}

@@ -2,13 +2,13 @@
 use Rattle.std.proofs.Common.{◌≡◌, ◌<◌, ◌≤◌, ℕ, zero, suc, ◌+◌, Bool, true, false, List, [], ◌∷◌, ◌++◌, map, length, drop, get_or, refl, sym, ap, ◌∙◌, arith, add-one, append_assoc, append-nil, length-append}
 use Rattle.hera_meaning.specs.declared.trees.Body.{Body}
 use Rattle.hera_meaning.specs.declared.schemas.RelDecl.{RelDecl}
-use Rattle.hera_meaning.specs.Trees.{Block, Body_tree, Program_tree}
+use Rattle.hera_meaning.specs.Trees.{Block, Body_tree}
 use Rattle.hera_meaning.specs.Plain.{body_of, block_in}
 use Rattle.hera_meaning.specs.Addresses.{block_end, body_end, bodies_end, size_of}
 use Rattle.hera_code.specs.declared.instrs.Instr.{Instr}
 use Rattle.hera_code.specs.declared.instrs.BodyInfo.{BodyInfo}
 use Rattle.hera_code.specs.declared.instrs.Code.{Code}
-use Rattle.hera_code.specs.Scheme.{Place, in_main, in_func, in_proc, place_of, block_code, last_code, body_code, bodies_code, info_of, infos_of, code_from, code_of}
+use Rattle.hera_code.specs.Scheme.{Place, in_main, in_func, in_proc, place_of, block_code, last_code, body_code, bodies_code, info_of, infos_of, code_from}
 use Rattle.hera_codegen.specs.Places_of.{body_place, bodies_code_from, infos_from}
 use Rattle.hera_codegen.proofs.Places.{block_length}
 use Rattle.hera_codegen.proofs.Emitted.{drop_item, drop_none}

@@ -1,9 +1,9 @@
 -- The code of statements, put together.
-use Rattle.std.proofs.Common.{◌≡◌, ◌<◌, ◌≤◌, ℕ, zero, suc, ◌+◌, List, [], ◌∷◌, ◌++◌, length, drop, get_or, refl, sym, ap, ◌∙◌, arith, append_assoc, append-nil, length-append}
+use Rattle.std.proofs.Common.{◌≡◌, ◌<◌, ℕ, ◌+◌, List, [], ◌∷◌, ◌++◌, length, drop, get_or, refl, sym, ap, ◌∙◌, arith, append_assoc, append-nil, length-append}
 use Rattle.std.specs.Prelude.{slice_set}
 use Rattle.hera_meaning.specs.declared.trees.Stmt.{Stmt}
 use Rattle.hera_meaning.specs.declared.trees.Arm.{Arm}
-use Rattle.hera_meaning.specs.Trees.{Expr, Block, then_stmt, Arms, arm, while, foreach, if_arms}
+use Rattle.hera_meaning.specs.Trees.{Expr, Block, Arms, arm, while, foreach, if_arms}
 use Rattle.hera_meaning.specs.Plain.{expr_of, command_of, block_in, arms_in}
 use Rattle.hera_meaning.specs.Addresses.{expr_end, command_end, block_end, arms_end}
 use Rattle.hera_code.specs.declared.instrs.Instr.{Instr}
@@ -13,7 +13,7 @@ use Rattle.hera_codegen.specs.Holes.{filled, arms_holes}
 use Rattle.hera_codegen.specs.Places_of.{arm_front}
 use Rattle.hera_codegen.proofs.Places.{expr_length, command_length, block_length, arms_length}
 use Rattle.hera_codegen.proofs.Filled.{written, arms_filled}
-use Rattle.hera_codegen.proofs.Emitted.{drop_item, drop_none, placed}
+use Rattle.hera_codegen.proofs.Emitted.{drop_item, placed}
 
 pub block_go : (p : Place) (items : List Stmt) (i : ℕ) (x : Stmt) (c c' R : List Instr) → i < length items → x ≡ get_or items i x → c' ≡ c ++ command_code p (command_of x) (length c) →
     c ++ block_code p (block_in (drop i items)) (length c) ≡ R → c' ++ block_code p (block_in (drop (i + 1) items)) (length c') ≡ R

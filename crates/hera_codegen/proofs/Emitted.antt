@@ -1,18 +1,17 @@
 -- One phrase more of several in a row.
-use Rattle.std.proofs.Common.{◌≡◌, ◌<◌, ◌≤◌, ℕ, zero, suc, true, false, ◌+◌, ◌-◌, List, [], ◌∷◌, ◌++◌, length, drop, get_or, refl, sym, ap, ◌∙◌, subst, arith, add-one, append_assoc, append-nil, length-append, drop-cons}
+use Rattle.std.proofs.Common.{◌≡◌, ◌<◌, ◌≤◌, ℕ, zero, suc, true, false, ◌+◌, ◌-◌, List, [], ◌∷◌, ◌++◌, length, drop, get_or, refl, sym, ap, ◌∙◌, arith, add-one, append_assoc, append-nil, length-append, drop-cons}
 use Rattle.std.specs.Prelude.{slice_set}
 use Rattle.hera_meaning.specs.declared.trees.Core.{Core}
 use Rattle.hera_meaning.specs.declared.trees.Link.{Link}
 use Rattle.hera_meaning.specs.declared.trees.Hypo.{Hypo}
-use Rattle.hera_meaning.specs.declared.trees.Op.{Op}
-use Rattle.hera_meaning.specs.Trees.{Expr, Exprs, no_more, then_expr, Links, link, Hypos, hypo, chain, and_all, or_any, when, select, map_each}
+use Rattle.hera_meaning.specs.Trees.{Expr, Exprs, no_more, then_expr, Links, chain, and_all, or_any, when, select, map_each}
 use Rattle.hera_meaning.specs.Plain.{expr_of, exprs_in, links_in, hypos_in}
 use Rattle.hera_meaning.specs.Addresses.{expr_end, every_last, some_end, hypos_end, hypos_count}
 use Rattle.hera_code.specs.declared.instrs.Instr.{Instr}
 use Rattle.hera_code.specs.declared.instrs.Instr.TheVariants.{Prim, Walk, Next, Keep, Gather, Back, Yield, Enter, Leave, Jump, Unless}
 use Rattle.hera_code.specs.Scheme.{push_bool, leaves, expr_code, exprs_code, every_code, some_code, links_code, hypos_code}
 use Rattle.hera_codegen.specs.Holes.{filled, every_front, every_holes, some_holes}
-use Rattle.hera_codegen.proofs.Places.{expr_length, exprs_length, every_length, some_length, links_length, hypos_length}
+use Rattle.hera_codegen.proofs.Places.{expr_length, some_length, hypos_length}
 use Rattle.hera_codegen.proofs.Filled.{written, every_filled, some_filled}
 
 -- the items from a place on

@@ -1,14 +1,14 @@
 -- Jumps that are written later.
-use Rattle.std.proofs.Common.{◌≡◌, ◌<◌, ℕ, true, ◌+◌, List, [], ◌∷◌, ◌++◌, length, refl, sym, ap, ◌∙◌, arith, append_assoc, length-append}
+use Rattle.std.proofs.Common.{◌≡◌, ℕ, true, ◌+◌, List, [], ◌∷◌, ◌++◌, length, refl, sym, ap, ◌∙◌, arith, append_assoc, length-append}
 use Rattle.std.specs.Prelude.{slice_set}
 use Rattle.std.proofs.Math.Seq.{set-append_seam}
-use Rattle.hera_meaning.specs.Trees.{Expr, Exprs, no_more, then_expr, Block, Arms, no_arm, arm}
-use Rattle.hera_meaning.specs.Addresses.{expr_end, every_last, some_end, block_end, arms_end}
+use Rattle.hera_meaning.specs.Trees.{Exprs, no_more, then_expr, Arms, no_arm, arm}
+use Rattle.hera_meaning.specs.Addresses.{expr_end, block_end}
 use Rattle.hera_code.specs.declared.instrs.Instr.{Instr}
-use Rattle.hera_code.specs.declared.instrs.Instr.TheVariants.{Walk, Next, Back, Yield, Drop, Jump, Unless}
-use Rattle.hera_code.specs.Scheme.{push_bool, expr_code, every_code, some_code, Place, block_code, arms_code, command_code}
+use Rattle.hera_code.specs.declared.instrs.Instr.TheVariants.{Jump, Unless}
+use Rattle.hera_code.specs.Scheme.{push_bool, expr_code, some_code, Place, block_code, arms_code}
 use Rattle.hera_codegen.specs.Holes.{filled, every_front, every_holes, some_holes, arms_holes}
-use Rattle.hera_codegen.proofs.Places.{expr_length, every_length, some_length, block_length, arms_length}
+use Rattle.hera_codegen.proofs.Places.{expr_length, block_length}
 
 -- an instruction in the midst of code is written anew
 pub written : (pre X F suf : List Instr) (x i : Instr) (n : ℕ) → n ≡ length (pre ++ X) → slice_set (pre ++ ((X ++ x ∷ F) ++ suf)) n i ≡ ((pre ++ X) ++ i ∷ []) ++ (F ++ suf)

@@ -27,3 +27,4 @@ pub mod Commands
 pub mod Bodies
 pub mod Listable
 pub mod Generated
+mod Listed

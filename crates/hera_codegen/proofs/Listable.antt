@@ -1,11 +1,10 @@
 -- The code of a sound program can be listed.
-use Rattle.std.proofs.Common.{◌≡◌, ◌<◌, ◌≤◌, ℕ, zero, suc, ◌+◌, Bool, true, false, ◌&&◌, List, [], ◌∷◌, ◌++◌, Option, Some, None, slice_get, unwrap_or, length, refl, sym, ap, ◌∙◌, subst, arith, length-append}
+use Rattle.std.proofs.Common.{◌≡◌, ◌<◌, ◌≤◌, ℕ, zero, suc, ◌+◌, Bool, true, false, ◌&&◌, List, [], ◌∷◌, Some, slice_get, length, refl, arith}
 use Rattle.hera_meaning.specs.declared.schemas.RelDecl.{RelDecl}
 use Rattle.hera_meaning.specs.Hosts.{Hosts}
-use Rattle.hera_meaning.specs.Trees.{Expr, Command, set_slot, if_arms, while, foreach, print, apply, commit, rollback, assert, return, return_value, call_proc, Block, no_stmt, then_stmt, Arms, no_arm, arm, Body_tree, Program_tree}
-use Rattle.hera_meaning.specs.Addresses.{expr_end, command_end, block_end, arms_end, body_end, bodies_end, size_of}
-use Rattle.hera_meaning.specs.Sound.{returns, command_returns, arms_return, Body_forms, IsBody, Shaped, Sound}
-use Rattle.hera_code.specs.declared.instrs.BodyInfo.{BodyInfo}
+use Rattle.hera_meaning.specs.Trees.{Command, set_slot, if_arms, while, foreach, print, apply, commit, rollback, assert, return, return_value, call_proc, Block, no_stmt, then_stmt, Body_tree, Program_tree}
+use Rattle.hera_meaning.specs.Addresses.{command_end, block_end, arms_end, body_end, bodies_end}
+use Rattle.hera_meaning.specs.Sound.{returns, command_returns, arms_return, Sound}
 use Rattle.hera_code.specs.Scheme.{in_main, info_of, infos_of, code_from, code_of}
 use Rattle.hera_code.specs.Listing.{StartsFrom, IsListable}
 use Rattle.hera_codegen.proofs.Places.{expr_length, command_length, block_length, arms_length}

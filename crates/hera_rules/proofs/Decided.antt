@@ -1,12 +1,12 @@
 -- Each phrase is typed or has a first fault, and the function says which.
-use Rattle.std.proofs.Common.{◌≡◌, ℕ, ◌+◌, List, [], ◌∷◌, ◌++◌, refl, sym, ap, ◌∙◌, inl, inr}
+use Rattle.std.proofs.Common.{◌≡◌, ℕ, ◌+◌, List, [], ◌∷◌, ◌++◌, refl, inl, inr}
 use Rattle.std.specs.Prelude.{Result, Ok, Err, ◌⊎◌}
 use Rattle.hera_meaning.specs.declared.trees.Shape.{Shape}
 use Rattle.hera_rules.specs.declared.env.Local.{Local}
 use Rattle.hera_rules.specs.declared.fault.TypeFault.{TypeFault}
 use Rattle.hera_rules.specs.Environments.{Env}
 use Rattle.hera_rules.specs.Phrases.{Phrase, literal, named, calling, operation, prefixed, attribute, row, atom, atoms, line, lines, walking, projecting, renaming, pairing, grouping, testing, folding, bulk, part, Phrases, no_phrase, phrase, Uses, no_use, uses}
-use Rattle.hera_rules.specs.Rules.{Typing, typing, Step, literal_row, name_row, call_row, joint_row, chain_core, prefix_row, field_row, row_row, atom_row, atoms_row, line_row, lines_row, variable_row, walk_row, project_row, rename_row, pair_row, group_row, test_row, fold_row, bulk_row, part_row}
+use Rattle.hera_rules.specs.Rules.{Typing, typing, Step, name_row, call_row, joint_row, chain_core, prefix_row, field_row, row_row, atom_row, atoms_row, line_row, lines_row, variable_row, walk_row, project_row, rename_row, pair_row, group_row, test_row, fold_row, bulk_row, part_row}
 use Rattle.hera_rules.specs.Typing.{slots_of, Elab, ElabAll, ElabUses, Broken, First, FirstAll, FirstUses, literal_is, name_is, operation_is, atoms_are, pair_is, walk_is, none_are, more_are, no_use_is, use_is, name_breaks, pair_breaks, variable_breaks, walk_breaks, here, in_first, in_rest, in_atoms, in_left, in_right, in_range, in_body, in_this, in_others, in_operand, use_breaks, in_later, prefix_is, prefix_breaks, in_prefix, field_is, field_breaks, in_field, project_is, project_breaks, in_project, rename_is, rename_breaks, in_rename, group_is, group_breaks, in_group, test_is, test_breaks, in_test, fold_is, fold_breaks, in_fold, bulk_is, bulk_breaks, in_bulk, part_is, part_breaks, in_part, call_is, call_breaks, in_call, row_is, row_breaks, in_row, atom_is, atom_breaks, in_atom, line_is, line_breaks, in_line, lines_is, lines_breaks, in_lines}
 use Rattle.hera_rules.specs.Checked.{Chained, and_then, check, check_all, check_uses}
 

@@ -1,19 +1,19 @@
 -- Each statement is typed or has a first fault, and the function says which.
-use Rattle.std.proofs.Common.{◌≡◌, ℕ, ◌+◌, List, [], ◌∷◌, ◌++◌, refl, sym, ap, ◌∙◌}
+use Rattle.std.proofs.Common.{◌≡◌, ℕ, ◌+◌, List, [], ◌∷◌, ◌++◌}
 use Rattle.std.specs.Prelude.{Result, Ok, Err, Option, is_some}
 use Rattle.hera_meaning.specs.declared.trees.Shape.{Shape}
 use Rattle.hera_meaning.specs.Trees.{Command, commit, rollback, if_arms, while, foreach}
 use Rattle.hera_rules.specs.declared.env.Local.{Local}
 use Rattle.hera_rules.specs.declared.fault.TypeFault.{TypeFault}
 use Rattle.hera_rules.specs.Environments.{Env}
-use Rattle.hera_rules.specs.Phrases.{Phrase, Phrases, Act, declaring, assigning, performing, choosing, looping, visiting, printing, applying, asserting, committing, rolling_back, returning, returning_value, Acts, no_act, act, Branches, no_branch, branch}
+use Rattle.hera_rules.specs.Phrases.{Phrase, Act, declaring, assigning, performing, choosing, looping, visiting, printing, applying, asserting, committing, rolling_back, returning, returning_value, Acts, no_act, act, Branches, no_branch, branch}
 use Rattle.hera_rules.specs.Rules.{Typing, variable_row}
-use Rattle.hera_rules.specs.Typing.{slots_of, Elab, ElabAll, First, FirstAll}
-use Rattle.hera_rules.specs.Checked.{and_then, check, check_all}
+use Rattle.hera_rules.specs.Typing.{slots_of, Elab, First}
+use Rattle.hera_rules.specs.Checked.{and_then, check}
 use Rattle.hera_rules.specs.Commands.{type_row, Done, done, Armed, block_from, arms_from, declare_row, assign_row, perform_row, cond_row, effect_row, print_row, apply_row, assert_row, return_row, return_value_row}
 use Rattle.hera_rules.specs.Statements.{slots_of_act, slots_of_acts, slots_of_branches, ElabAct, ElabActs, ElabBranches, BrokenAct, FirstAct, FirstActs, FirstBranches, declare_is, perform_is, choose_is, loop_is, visit_is, no_act_is, act_is, no_branch_is, branch_is, type_breaks, declare_breaks, perform_breaks, loop_breaks, visit_breaks, here, in_declared, in_perform, in_arms, in_last, in_condition, in_loop, in_visited, in_visit, in_this_act, in_later_act, in_branch, branch_breaks, in_branch_block, in_later_branch, assign_is, assign_breaks, in_assign, print_is, print_breaks, in_print, apply_is, apply_breaks, in_apply, assert_is, assert_breaks, in_assert, return_value_is, return_value_breaks, in_return_value, commit_is, commit_breaks, rollback_is, rollback_breaks, return_is, return_breaks}
 use Rattle.hera_rules.specs.CheckedActs.{stays, check_act, check_acts, check_branches}
-use Rattle.hera_rules.proofs.Decided.{Says, after, after_row, row_says, handed, Decided, DecidedAll, behind, behind_all, decided, decided_all}
+use Rattle.hera_rules.proofs.Decided.{Says, after, after_row, row_says, handed, Decided, behind, behind_all, decided, decided_all}
 
 abbrev pub DecidedAct : Env → Option Shape → List Local → ℕ → Act → Type 0
 DecidedAct g r ls n a = Says (check_act g r ls n a) (λ d. ElabAct g r ls n a d) (λ f. FirstAct g r ls n a f)

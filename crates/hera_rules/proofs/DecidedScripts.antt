@@ -1,5 +1,5 @@
 -- Each script is typed or has a first fault, and the function says which; so each is one at most, and not both.
-use Rattle.std.proofs.Common.{◌≡◌, ℕ, List, [], ◌∷◌, ◌++◌, refl, sym, ap, ◌∙◌, inl, inr, true, false}
+use Rattle.std.proofs.Common.{◌≡◌, List, [], ◌∷◌, ◌++◌, refl, sym, ◌∙◌, inl, inr, true, false}
 use Rattle.std.specs.Prelude.{Result, Ok, Err, Option, Some, None, ◌⊎◌, length}
 use Rattle.hera_meaning.specs.declared.trees.Shape.{Shape}
 use Rattle.hera_meaning.specs.Trees.{Command, Body_tree, Program_tree}
@@ -11,7 +11,6 @@ use Rattle.hera_rules.specs.declared.fault.TypeFault.{TypeFault}
 use Rattle.hera_rules.specs.Environments.{Env}
 use Rattle.hera_rules.specs.Phrases.{Acts, Func_phrase, Proc_phrase, Script}
 use Rattle.hera_rules.specs.Checked.{and_then}
-use Rattle.hera_rules.specs.CheckedActs.{check_acts}
 use Rattle.hera_rules.specs.Programs.{env_row, body_with, returns_row, program_with, ElabBody, FirstBody, ElabFuncs, ElabProcs, FirstFuncs, FirstProcs, ElabScript, FirstFault, no_func_is, no_func_left, func_is, no_proc_is, no_proc_left, proc_is, in_func, func_breaks, in_later_func, in_proc, in_later_proc, script_is, in_env, in_funcs, in_procs, in_main}
 use Rattle.hera_rules.specs.CheckedScripts.{check_body, check_funcs, check_procs, check_script}
 use Rattle.hera_rules.proofs.DecidesActs.{check-ElabActs, check-FirstActs}

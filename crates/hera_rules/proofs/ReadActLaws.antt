@@ -1,5 +1,5 @@
 -- The phrase of a statement that is read field by field.
-use Rattle.std.proofs.Common.{◌≡◌, ℕ, List, [], ◌∷◌, refl, sym, ap, ◌∙◌, rules}
+use Rattle.std.proofs.Common.{◌≡◌, refl, sym, ap, ◌∙◌}
 use Rattle.std.specs.Prelude.{Vec, Option, Some, None}
 use Rattle.std.specs.declared.alloc.Global.{Global}
 use Rattle.hera_syntax.specs.declared.token.Token.{Token}
@@ -8,12 +8,12 @@ use Rattle.hera_syntax.specs.declared.expr.Args.{Args}
 use Rattle.hera_syntax.specs.declared.tree.TypeTree.{TypeTree}
 use Rattle.hera_syntax.specs.declared.tree.Block.{Block}
 use Rattle.hera_syntax.specs.declared.tree.ElseIf.{ElseIf}
-use Rattle.hera_syntax.specs.declared.tree.StmtTree.{StmtTree, Row_of-StmtTree, end_of-StmtTree, more_of-StmtTree, items-the_row-StmtTree, items_shown-the_row-StmtTree-0, items_hidden-the_row-StmtTree-0, Row_of-ElseIf, end_of-ElseIf, more_of-ElseIf, items-the_row-ElseIf, items_hidden-the_row-ElseIf-1}
+use Rattle.hera_syntax.specs.declared.tree.StmtTree.{Row_of-StmtTree, end_of-StmtTree, more_of-StmtTree, items-the_row-StmtTree, items_shown-the_row-StmtTree-0, items_hidden-the_row-StmtTree-0, Row_of-ElseIf, end_of-ElseIf, more_of-ElseIf, items-the_row-ElseIf, items_hidden-the_row-ElseIf-1}
 use Rattle.hera_syntax.specs.declared.tree.StmtTree.TheBlock.{hidden-the_row-StmtTree-0, hidden-the_row-ElseIf-1, back-StmtTree-If-5}
 use Rattle.hera_syntax.specs.declared.tree.StmtTree.TheViews as view
 use Rattle.hera_syntax.specs.declared.tree.StmtTree.TheVariants as variant
 use Rattle.hera_syntax.specs.declared.tree.StmtTree.TheViews.{the_lemmas}
-use Rattle.hera_rules.specs.Phrases.{Act, declaring, assigning, performing, choosing, looping, visiting, printing, applying, asserting, committing, rolling_back, returning, returning_value, Acts, no_act, act, Branches, no_branch, branch}
+use Rattle.hera_rules.specs.Phrases.{Act, declaring, assigning, performing, choosing, looping, visiting, printing, applying, asserting, committing, rolling_back, Acts, act, Branches, branch}
 use Rattle.hera_rules.specs.Read.{word_of, expr_phrase}
 use Rattle.hera_rules.specs.ReadActs.{type_phrase, some_args, return_act, act_of, acts_of, branches_of, last_acts, acts_in, block_acts, branches_in, last_in}
 

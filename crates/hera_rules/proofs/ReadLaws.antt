@@ -1,6 +1,6 @@
 -- The phrase of a tree that is read field by field.
-use Rattle.std.proofs.Common.{◌≡◌, ℕ, List, [], ◌∷◌, refl, sym, ap, ◌∙◌, rules}
-use Rattle.std.specs.Prelude.{Vec, Box, Option, Some, None, map}
+use Rattle.std.proofs.Common.{◌≡◌, ◌∷◌, refl, ap, rules}
+use Rattle.std.specs.Prelude.{Box, Option, Some, None, map}
 use Rattle.std.specs.declared.alloc.Global.{Global}
 use Rattle.hera_syntax.specs.declared.token.Token.{Token}
 use Rattle.hera_syntax.specs.declared.expr.Names.{Names}
@@ -26,10 +26,8 @@ use Rattle.hera_syntax.specs.declared.expr.TermTail.{TermTail, TermTail', out-Te
 use Rattle.hera_syntax.specs.declared.expr.Smash.{Smash, Smash', out-Smash, Row_of-SmashTail, end_of-SmashTail, more_of-SmashTail, items-the_row-SmashTail}
 use Rattle.hera_syntax.specs.declared.expr.SmashTail.{SmashTail, SmashTail', out-SmashTail}
 use Rattle.hera_syntax.specs.declared.expr.Merge.{Merge, Merge', out-Merge, Row_of-MergeTail, end_of-MergeTail, more_of-MergeTail, items-the_row-MergeTail}
-use Rattle.hera_syntax.specs.declared.expr.MergeTail.{MergeTail}
-use Rattle.hera_syntax.specs.declared.expr.Cmp.{Cmp, Cmp', out-Cmp, Held-Cmp-rest, Cmp-rest-None', Cmp-rest-Some'}
+use Rattle.hera_syntax.specs.declared.expr.Cmp.{Cmp, Cmp', out-Cmp, Cmp-rest-None', Cmp-rest-Some'}
 use Rattle.hera_syntax.specs.declared.expr.CmpTail.{CmpTail, CmpTail', out-CmpTail}
-use Rattle.hera_syntax.specs.declared.expr.Prime.{Prime}
 use Rattle.hera_syntax.specs.declared.expr.Prime.TheViews as view
 use Rattle.hera_syntax.specs.declared.expr.Prime.TheVariants as variant
 use Rattle.hera_syntax.specs.declared.expr.Prime.TheViews.{the_lemmas}
@@ -38,8 +36,8 @@ use Rattle.hera_meaning.specs.declared.trees.Const.TheVariants.{Scalar as scalar
 use Rattle.std.specs.Prelude.{true, false}
 use Rattle.hera_rules.specs.declared.words.Word.{Word}
 use Rattle.hera_rules.specs.declared.words.Joint.TheVariants.{When as by_when, And as by_and, Or as by_or}
-use Rattle.hera_rules.specs.Phrases.{Phrase, literal, named, calling, operation, prefixed, attribute, row, atom, atoms, line, lines, walking, projecting, renaming, pairing, grouping, testing, folding, bulk, part, Phrases, no_phrase, phrase, Uses, no_use, uses}
-use Rattle.hera_rules.specs.Read.{word_of, int_of, text_of, joint_of, prefix_of, sign_of, part_of, walk_of, pair_of, test_of, fold_of, words_of, renamed_all, aggregates_of, chain_phrase, prefix_phrase, post_phrase, post_of, prefix_of_tree, expr_phrase, expr_uses, expr_use, expr_uses_in, or_phrase, or_uses, or_use, or_uses_in, and_phrase, and_uses, and_use, and_uses_in, sum_phrase, sum_uses, sum_use, sum_uses_in, term_phrase, term_uses, term_use, term_uses_in, smash_phrase, smash_uses, smash_use, smash_uses_in, merge_phrase, merge_uses, merge_use, merge_uses_in, cmp_phrase, cmp_uses, cmp_use, cmp_uses_in, prime_phrase, args_phrases, args_rest, call_args, phrases_in, args_in, bindings_phrases, bindings_rest, binding_phrase, bindings_words, binding_words, binding_word, bindings_in, atoms_phrases, atoms_rest, atom_phrase, atoms_in, delta_atoms, some_atoms, lines_phrases, lines_rest, line_phrase, lines_in, rows_lines, some_lines}
+use Rattle.hera_rules.specs.Phrases.{literal, named, calling, row, atom, atoms, line, lines, walking, projecting, renaming, pairing, grouping, testing, folding, bulk, part, phrase, Uses, no_use, uses}
+use Rattle.hera_rules.specs.Read.{word_of, int_of, text_of, joint_of, sign_of, part_of, walk_of, pair_of, test_of, fold_of, words_of, renamed_all, aggregates_of, chain_phrase, prefix_phrase, post_phrase, prefix_of_tree, expr_phrase, expr_uses, expr_use, expr_uses_in, or_phrase, or_uses, or_use, or_uses_in, and_phrase, and_uses, and_use, and_uses_in, sum_phrase, sum_uses, sum_use, sum_uses_in, term_phrase, term_uses, term_use, term_uses_in, smash_phrase, smash_uses, smash_use, smash_uses_in, merge_phrase, merge_uses, merge_uses_in, cmp_phrase, cmp_use, cmp_uses_in, prime_phrase, args_phrases, args_rest, phrases_in, args_in, bindings_phrases, bindings_rest, binding_phrase, bindings_words, binding_words, binding_word, bindings_in, atoms_phrases, atoms_rest, atom_phrase, atoms_in, some_atoms, lines_phrases, lines_rest, line_phrase, lines_in, some_lines}
 
 expr_rows : (n : _) (k : Row_of-WhenTail n) → expr_uses k ≡ expr_uses_in (items-the_row-WhenTail n k)
 unfolding expr_phrase

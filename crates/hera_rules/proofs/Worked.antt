@@ -1,19 +1,15 @@
 -- Worked scripts: what the definitions say of them, with the offsets counted by hand.
-use Rattle.std.proofs.Common.{◌≡◌, ℕ, List, [], ◌∷◌, refl, true, false}
-use Rattle.std.specs.Prelude.{Result, Ok, Err, pos}
+use Rattle.std.proofs.Common.{◌≡◌, ℕ, [], ◌∷◌, refl, true}
+use Rattle.std.specs.Prelude.{Err, pos}
 use Rattle.hera_sets.specs.Rows.{is_same}
-use Rattle.hera_meaning.specs.declared.scalars.Kind.TheVariants.{Int as int_kind, Bool as bool_kind, Text as text_kind}
-use Rattle.hera_meaning.specs.declared.scalars.Sign.TheVariants.{Plus, Minus}
+use Rattle.hera_meaning.specs.declared.scalars.Kind.TheVariants.{Int as int_kind}
 use Rattle.hera_meaning.specs.declared.scalars.Scalar.TheVariants.{Int as int_scalar, Bool as bool_scalar}
 use Rattle.hera_meaning.specs.declared.trees.Const.TheVariants.{Scalar as scalar}
-use Rattle.hera_meaning.specs.declared.trees.Op.TheVariants.{Add, Mul}
-use Rattle.hera_meaning.specs.declared.trees.Shape.TheVariants.{Int as int}
-use Rattle.hera_meaning.specs.Trees.{constant, chain, link, no_link, print, then_stmt, no_stmt}
+use Rattle.hera_meaning.specs.declared.trees.Op.TheVariants.{Add}
 use Rattle.hera_rules.specs.declared.words.Word.{Word}
-use Rattle.hera_rules.specs.declared.words.Field.{Field}
 use Rattle.hera_rules.specs.declared.words.Joint.TheVariants.{Arithmetic}
 use Rattle.hera_rules.specs.declared.fault.TypeFault.TheVariants.{Unknown as unknown, Repeated as repeated, Mismatch as mismatch, Impure as impure, NoReturn as no_return}
-use Rattle.hera_rules.specs.Phrases.{Phrase, literal, named, operation, uses, no_use, kind_type, declaring, printing, returning_value, Acts, act, no_act, Relation_phrase, Func_phrase, Script}
+use Rattle.hera_rules.specs.Phrases.{literal, named, operation, uses, no_use, kind_type, declaring, printing, returning_value, Acts, act, no_act, Script}
 use Rattle.hera_rules.specs.CheckedScripts.{check_script}
 
 abbrev word : ℕ → ℕ → Word

@@ -1,6 +1,5 @@
 -- What an answer of the code says of a row or of a phrase.
 use Rattle.std.specs.Prelude.{◌≡◌, ◌≢◌, ◌+◌, ℕ, List, map, Result, Ok, Err}
-use Rattle.hera_meaning.specs.declared.trees.Core.{Core}
 use Rattle.hera_meaning.specs.Plain.{expr_of}
 use Rattle.hera_rules.specs.declared.env.Item.{Item}
 use Rattle.hera_rules.specs.declared.env.Scope.{Scope}

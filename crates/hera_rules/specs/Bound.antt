@@ -1,6 +1,5 @@
 -- A program bound to a catalogue: it has the catalogue's relations and numbers.
-use Rattle.std.specs.Prelude.{◌≡◌, ◌<◌, ℕ, zero, suc, List, [], ◌∷◌, ◌++◌, map, Option, Some, None, length, slice_get}
-use Rattle.hera_sets.specs.Rows.{is_same}
+use Rattle.std.specs.Prelude.{◌≡◌, ℕ, zero, suc, List, [], ◌∷◌, map, Option, Some, None, slice_get}
 use Rattle.hera_meaning.specs.declared.scalars.RelId.{RelId}
 use Rattle.hera_meaning.specs.declared.schemas.RelDecl.{RelDecl}
 use Rattle.hera_meaning.specs.declared.trees.Op.{Op}

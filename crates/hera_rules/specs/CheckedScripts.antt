@@ -1,5 +1,5 @@
 -- Typing of a script as one function, in the order of work.
-use Rattle.std.specs.Prelude.{ℕ, List, [], ◌∷◌, ◌++◌, length, Option, Some, None, Result, Ok, Err, true, false}
+use Rattle.std.specs.Prelude.{List, [], ◌∷◌, ◌++◌, length, Option, Some, None, Result, Ok, true, false}
 use Rattle.hera_meaning.specs.declared.trees.Shape.{Shape}
 use Rattle.hera_meaning.specs.Trees.{Command, Body_tree, Program_tree}
 use Rattle.hera_host.specs.Tables.{Host}

@@ -1,9 +1,8 @@
 -- What names mean.
-use Rattle.std.specs.Prelude.{ℕ, List, [], ◌∷◌, ◌++◌, ◌||◌, Bool, Option, Some, None, is_some, map, find}
+use Rattle.std.specs.Prelude.{ℕ, List, ◌||◌, Bool, Option, is_some, find}
 use Rattle.std.specs.List.{position_from}
-use Rattle.hera_sets.specs.Rows.{is_same, holds}
+use Rattle.hera_sets.specs.Rows.{is_same}
 use Rattle.hera_meaning.specs.declared.schemas.RelDecl.{RelDecl}
-use Rattle.hera_meaning.specs.Catalogues.{decl_name}
 use Rattle.hera_host.specs.Tables.{Host}
 use Rattle.hera_rules.specs.declared.env.Local.{Local}
 use Rattle.hera_rules.specs.declared.env.FuncSig.{FuncSig}

@@ -1,11 +1,10 @@
 -- When a script is accepted: the four passes, each in the order of the text.
 use Rattle.std.specs.Prelude.{◌≡◌, ℕ, Bool, true, false, cond, List, [], ◌∷◌, ◌++◌, map, length, Option, Some, None, Result, Ok, Err, ◌+◌, ◌||◌, nat_lt}
 use Rattle.hera_sets.specs.Rows.{holds}
-use Rattle.hera_meaning.specs.declared.schemas.Attr.{Attr}
 use Rattle.hera_meaning.specs.declared.schemas.RelDecl.{RelDecl}
 use Rattle.hera_meaning.specs.declared.trees.Shape.{Shape}
 use Rattle.hera_meaning.specs.Catalogues.{decl_name}
-use Rattle.hera_meaning.specs.Trees.{Command, Block, Body_tree, Program_tree}
+use Rattle.hera_meaning.specs.Trees.{Command, Body_tree, Program_tree}
 use Rattle.hera_meaning.specs.Sound.{returns}
 use Rattle.hera_host.specs.Tables.{Host}
 use Rattle.hera_rules.specs.declared.words.Word.{Word}

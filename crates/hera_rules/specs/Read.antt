@@ -7,8 +7,7 @@ use Rattle.hera_meaning.specs.declared.scalars.Sign.{Sign}
 use Rattle.hera_meaning.specs.declared.scalars.Sign.TheVariants.{Plus, Minus}
 use Rattle.hera_meaning.specs.declared.scalars.Scalar.TheVariants.{Int as int_scalar, Bool as bool_scalar, Text as text_scalar}
 use Rattle.hera_meaning.specs.declared.trees.Op.TheVariants.{Add as add_op, Sub as sub_op, Mul as mul_op, Div as div_op, Rem as rem_op, Eq as eq_op, Ne as ne_op, Lt as lt_op, Le as le_op, Gt as gt_op, Ge as ge_op, Union as union_op, Minus as minus_op, Inter as inter_op, Smash as smash_op, Merge as merge_op}
-use Rattle.hera_meaning.specs.declared.trees.Const.{Const}
-use Rattle.hera_meaning.specs.declared.trees.Const.TheVariants.{Scalar as scalar, EmptyDelta as empty_delta, FailDelta as fail_delta}
+use Rattle.hera_meaning.specs.declared.trees.Const.TheVariants.{Scalar as scalar, FailDelta as fail_delta}
 use Rattle.hera_syntax.specs.declared.token.Token.{Token}
 use Rattle.hera_syntax.specs.declared.token.TokenKind.{TokenKind}
 use Rattle.hera_syntax.specs.declared.token.TokenKind.TheVariants.{Ident as ident_token, Int as int_token, Text as text_token, Key as key_token, Punct as punct_token}

@@ -3,8 +3,7 @@
 -- Where a phrase breaks several rules, the order is Unknown, Repeated, Impure, TooMany, Mismatch; of one kind
 -- the first in the text.
 use Rattle.std.specs.Prelude.{ℕ, find, filter, Bool, true, false, cond, not, List, [], ◌∷◌, ◌++◌, map, length, Option, Some, None, Result, Ok, Err, ◌&&◌, ◌||◌, nat_lt, is_some, ◌+◌}
-use Rattle.std.specs.List.{list_all, list_any}
-use Rattle.std.specs.Option.{option_map}
+use Rattle.std.specs.List.{list_all}
 use Rattle.hera_sets.specs.Rows.{is_same, holds}
 use Rattle.hera_meaning.specs.declared.scalars.Kind.{Kind}
 use Rattle.hera_meaning.specs.declared.scalars.Kind.TheVariants.{Int as int_kind, Bool as bool_kind, Text as text_kind}
@@ -14,7 +13,6 @@ use Rattle.hera_meaning.specs.declared.scalars.Sign.{Sign}
 use Rattle.hera_meaning.specs.declared.scalars.Sign.TheVariants.{Plus, Minus}
 use Rattle.hera_meaning.specs.declared.scalars.RelId.{RelId}
 use Rattle.hera_meaning.specs.declared.schemas.Attr.{Attr}
-use Rattle.hera_meaning.specs.declared.schemas.RelDecl.{RelDecl}
 use Rattle.hera_meaning.specs.declared.schemas.Agg.{Agg}
 use Rattle.hera_meaning.specs.declared.schemas.Agg.TheVariants.{Count as count_agg, Sum as sum_agg, Min as min_agg, Max as max_agg}
 use Rattle.hera_meaning.specs.declared.trees.Shape.{Shape}
@@ -29,7 +27,7 @@ use Rattle.hera_meaning.specs.Deltas.{schema_of}
 use Rattle.hera_meaning.specs.Relations.{lacking}
 use Rattle.hera_meaning.specs.Forms.{kinds_of, kind_at, agg_kind}
 use Rattle.hera_meaning.specs.Trees.{Expr, constant, local, relation, prim, chain, and_all, or_any, when, select, map_each, call, host, Exprs, no_more, then_expr, Links, no_link, link, Hypos, no_hypo, hypo}
-use Rattle.hera_host.specs.Tables.{Host, host_named, takes_at, gives_at}
+use Rattle.hera_host.specs.Tables.{host_named, takes_at, gives_at}
 use Rattle.hera_rules.specs.declared.words.Word.{Word}
 use Rattle.hera_rules.specs.declared.words.Walk.{Walk}
 use Rattle.hera_rules.specs.declared.words.Walk.TheVariants.{Keeping, Mapping}
@@ -49,10 +47,9 @@ use Rattle.hera_rules.specs.declared.words.Test.{Test}
 use Rattle.hera_rules.specs.declared.words.Test.TheVariants.{Count as count_test, Empty as empty_test, IsFail as is_fail_test}
 use Rattle.hera_rules.specs.declared.env.Local.{Local}
 use Rattle.hera_rules.specs.declared.env.FuncSig.{FuncSig}
-use Rattle.hera_rules.specs.declared.env.ProcSig.{ProcSig}
 use Rattle.hera_rules.specs.declared.fault.TypeFault.{TypeFault}
-use Rattle.hera_rules.specs.declared.fault.TypeFault.TheVariants.{Unknown as unknown, Repeated as repeated, Mismatch as mismatch, Impure as impure, NoReturn as no_return, TooMany as too_many}
-use Rattle.hera_rules.specs.Environments.{Env, relation_named, func_named, proc_named, local_named, is_global, is_taken}
+use Rattle.hera_rules.specs.declared.fault.TypeFault.TheVariants.{Unknown as unknown, Repeated as repeated, Mismatch as mismatch, TooMany as too_many}
+use Rattle.hera_rules.specs.Environments.{Env, relation_named, func_named, local_named, is_global, is_taken}
 use Rattle.hera_rules.specs.Same.{same_schema, same_shape, same_shapes, same_kinds}
 
 -- a type, and the core of a phrase that has it

@@ -1,24 +1,13 @@
 -- Typing of statements: one case for each form; and the first fault of a statement that is not typed.
-use Rattle.std.specs.Prelude.{◌≡◌, ℕ, Bool, true, false, cond, List, [], ◌∷◌, ◌++◌, map, length, Option, Some, None, Result, Ok, Err, ◌||◌, ◌+◌, nat_lt, is_some}
-use Rattle.hera_sets.specs.Rows.{holds}
-use Rattle.hera_meaning.specs.declared.schemas.Attr.{Attr}
-use Rattle.hera_meaning.specs.declared.schemas.RelDecl.{RelDecl}
+use Rattle.std.specs.Prelude.{◌≡◌, ℕ, List, [], ◌∷◌, ◌++◌, Option, Ok, Err, ◌+◌, is_some}
 use Rattle.hera_meaning.specs.declared.trees.Shape.{Shape}
-use Rattle.hera_meaning.specs.declared.trees.Shape.TheVariants.{Tuple as tuple, Rel as rel, Delta as delta}
-use Rattle.hera_meaning.specs.Schemas.{names_of}
-use Rattle.hera_meaning.specs.Deltas.{schema_of}
-use Rattle.hera_meaning.specs.Trees.{Expr, Command, set_slot, if_arms, while, foreach, print, apply, commit, rollback, assert, return, return_value, call_proc, Block, no_stmt, then_stmt, Arms, no_arm, arm}
-use Rattle.hera_host.specs.Tables.{host_named}
+use Rattle.hera_meaning.specs.Trees.{Expr, Command, if_arms, while, foreach, commit, rollback}
 use Rattle.hera_rules.specs.declared.words.Word.{Word}
-use Rattle.hera_rules.specs.declared.words.Field.{Field}
 use Rattle.hera_rules.specs.declared.env.Local.{Local}
-use Rattle.hera_rules.specs.declared.env.ProcSig.{ProcSig}
 use Rattle.hera_rules.specs.declared.fault.TypeFault.{TypeFault}
-use Rattle.hera_rules.specs.declared.fault.TypeFault.TheVariants.{Unknown as unknown, Repeated as repeated, Mismatch as mismatch, Impure as impure, TooMany as too_many}
-use Rattle.hera_rules.specs.Environments.{Env, relation_named, proc_named, local_named, is_global, is_taken}
-use Rattle.hera_rules.specs.Same.{same_shape, same_shapes}
-use Rattle.hera_rules.specs.Phrases.{Phrase, Phrases, Schema_phrase, of_relation, written, Type_phrase, kind_type as of_kind, delta_type, rel_type, tuple_type, Act, declaring, assigning, performing, choosing, looping, visiting, printing, applying, asserting, committing, rolling_back, returning, returning_value, Acts, no_act, act, Branches, no_branch, branch}
-use Rattle.hera_rules.specs.Rules.{Typing, given, is_bool, is_delta, kind_type, types_of, params_of, exprs_from, variable_row}
+use Rattle.hera_rules.specs.Environments.{Env}
+use Rattle.hera_rules.specs.Phrases.{Phrase, Phrases, Type_phrase, Act, declaring, assigning, performing, choosing, looping, visiting, printing, applying, asserting, committing, rolling_back, returning, returning_value, Acts, no_act, act, Branches, no_branch, branch}
+use Rattle.hera_rules.specs.Rules.{Typing, variable_row}
 use Rattle.hera_rules.specs.Typing.{slots_of, slots_of_all, Elab, ElabAll, First, FirstAll}
 use Rattle.hera_rules.specs.Commands.{type_row, Done, done, Armed, block_from, arms_from, declare_row, assign_row, perform_row, cond_row, effect_row, print_row, apply_row, assert_row, return_row, return_value_row}
 

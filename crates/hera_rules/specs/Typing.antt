@@ -1,5 +1,5 @@
 -- Typing: one case for each form of phrase; and the first fault of a phrase that is not typed.
-use Rattle.std.specs.Prelude.{◌≡◌, ℕ, List, [], ◌∷◌, ◌++◌, ◌+◌, Result, Ok, Err, Option}
+use Rattle.std.specs.Prelude.{◌≡◌, ℕ, List, [], ◌∷◌, ◌++◌, ◌+◌, Ok, Err}
 use Rattle.hera_meaning.specs.declared.scalars.Sign.{Sign}
 use Rattle.hera_meaning.specs.declared.trees.Const.{Const}
 use Rattle.hera_meaning.specs.declared.trees.Shape.{Shape}

@@ -1,5 +1,4 @@
-use Rattle.std.proofs.Common.{◌≡◌, ◌+◌, ◌≤◌, ◌<◌, length, drop, add-one, arith}
-use Rattle.hera_code.specs.Listing.{next_start}
+use Rattle.std.proofs.Common.{add-one, arith}
 use Rattle.hera_code.proofs.Starts.{start_below_next, next_start_in_code}
 use Rattle.hera_code.proofs.lister.listing.Goals as goal
 

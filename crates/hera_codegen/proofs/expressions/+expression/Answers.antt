@@ -1,4 +1,4 @@
-use Rattle.std.proofs.Common.{◌≡◌, ◌+◌, [], ◌∷◌, ◌++◌, ◌<◌, ◌≤◌, length, drop, arith, sym, ap, ◌∙◌}
+use Rattle.std.proofs.Common.{◌+◌, [], ◌∷◌, ◌++◌, ◌<◌, ◌≤◌, length, arith, ap, ◌∙◌}
 use Rattle.std.proofs.lemmas.Result.{on_ok_weaker}
 use Rattle.hera_meaning.specs.Plain.{exprs_in}
 use Rattle.hera_code.specs.declared.instrs.Instr.TheVariants.{Prim}
