@@ -1,11 +1,12 @@
 -- Tables of host functions.
-use Rattle.std.specs.Prelude.{ℕ, zero, suc, List, [], ◌∷◌, Option, map}
+use Rattle.std.specs.Prelude.{◌≡◌, ℕ, zero, suc, true, List, [], ◌∷◌, Option, map, All}
 use Rattle.std.specs.List.{position_from}
 use Rattle.hera_sets.specs.Rows.{is_same}
 use Rattle.hera_meaning.specs.declared.hosts.HostSpec.{HostSpec}
 use Rattle.hera_meaning.specs.declared.scalars.Kind.{Kind}
 use Rattle.hera_meaning.specs.declared.scalars.Kind.TheVariants.{Int as int_kind}
 use Rattle.hera_meaning.specs.Hosts.{Hosts, host_takes, host_gives}
+use Rattle.hera_meaning.specs.Sound.{is_spec}
 
 -- a host function: its name, and what it answers
 pub record Host : Type 0 where
@@ -15,6 +16,10 @@ pub record Host : Type 0 where
 -- what the hosts of a table answer, by their numbers
 abbrev pub specs_of : List Host → Hosts
 specs_of table = map (λ h. h.spec) table
+
+-- the numbers of each host are in range, its width is not 0, and its text is one
+abbrev pub AreHosts : List Host → Type 0
+AreHosts table = All (λ h. is_spec h.spec ≡ true) table
 
 -- the number of the host of this name: its place
 abbrev pub host_named : List ℕ → List Host → Option ℕ

@@ -1,6 +1,6 @@
 ghost use Rattle.std.specs.Prelude.{◌≡◌, ◌<◌, [], IfSome, length};
 ghost use Rattle.hera_meaning.specs.Hosts.{host_takes, host_gives};
-ghost use Rattle.hera_host.specs.Tables.{host_named, takes_at, gives_at};
+ghost use Rattle.hera_host.specs.Tables.{AreHosts, host_named, takes_at, gives_at};
 ghost use Rattle.hera_sets.specs.Rows.{is_same};
 
 use hera_meaning::{HostSpec, Kind, Name};
@@ -73,10 +73,11 @@ impl Model for HostTable {
     ghost Value = { List Host };
 
     ghost use Rattle.std.specs.Prelude.{◌<◌, ◌^◌, length};
+    ghost use Rattle.hera_host.specs.Tables.{AreHosts};
 
     ghost view = { λ t. t.hosts.items };
 
-    ghost invariant = { λ t. length t.hosts.items < 2 ^ 32 };
+    ghost invariant = { λ t. (length t.hosts.items < 2 ^ 32) × AreHosts t.hosts.items };
 }
 
 impl HostTable {
@@ -87,6 +88,14 @@ impl HostTable {
         HostTable {
             hosts: Vec::new(alloc),
         }
+    }
+
+    /// How many there are.
+    pub fn len(&self) -> u32
+        ensures count { result ≡ length self.now }
+        ensures valid { AreHosts self.now }
+    {
+        self.hosts.len() as u32
     }
 
     /// The number of the host of this name, `None` exactly where there is none.

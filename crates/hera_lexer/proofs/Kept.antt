@@ -1,6 +1,7 @@
 -- What the tokens of a cut keep.
-use Rattle.std.proofs.Common.{◌≡◌, ℕ, ◌+◌, ◌≤◌, List, [], ◌∷◌, length, true, None, refl, ap, arith}
-use Rattle.std.proofs.Math.Utf8.{scalars}
+use Rattle.std.proofs.Common.{◌≡◌, ℕ, ◌+◌, ◌≤◌, List, [], ◌∷◌, length, ◌++◌, true, None, refl, ap, arith, rules, tests}
+use Rattle.std.proofs.Math.Utf8.{scalar, scalars}
+use Rattle.std.proofs.lemmas.Bool.{and_parts}
 use Rattle.std.proofs.lemmas.Str.{length-le-encodes}
 use Rattle.hera_syntax.specs.declared.token.PieceShape.{PieceShape}
 use Rattle.hera_syntax.specs.declared.token.TokenKind.{TokenKind}
@@ -9,8 +10,9 @@ use Rattle.hera_syntax.specs.Lexemes.{IsPiece, IsToken, ident, key, int, text, p
 use Rattle.hera_meaning.specs.Identifiers.{is_word}
 use Rattle.hera_syntax.specs.declared.token.PieceShape.TheVariants as shapes
 use Rattle.hera_syntax.specs.Lex.{size, Cuts, Lex, done, skip, keep}
-use Rattle.hera_syntax.specs.Tokens.{deep_at, AscendsFrom, HasName, HaveNames, AreTokens}
+use Rattle.hera_syntax.specs.Tokens.{deep_at, AscendsFrom, HasValue, HaveValues, AreTokens}
 use Rattle.hera_lexer.proofs.Bytes.{size-append}
+use Rattle.hera_lexer.proofs.Texts.{text_value}
 use Rattle.hera_lexer.proofs.Walk.{piece_some, scalars_front, scalars_back}
 
 size_some : (k : PieceShape) (p : List ℕ) → IsPiece k p → 1 ≤ size p
@@ -34,23 +36,23 @@ ascends at _ _ (keep {shape = k} {piece = p} {more = x} {tokens = ts} l t c) =
 piece_word : (p : List ℕ) → IsPiece shapes.Word p → is_word p ≡ true
 piece_word _ (word w) = w
 
-has_name : (k : PieceShape) (p : List ℕ) (kind : TokenKind) → scalars p ≡ true → IsPiece k p → IsToken k p kind → HasName kind
-has_name _ p _ s h (ident n l) = record { chars = p; scalars = s; word = piece_word p h; spelled = refl; short = l }
-has_name _ p _ s h (key n) = tt
-has_name _ p _ s h (int n) = tt
-has_name _ _ _ s h (text n l) = tt
-has_name _ p _ s h punct = tt
+has_value : (k : PieceShape) (p : List ℕ) (kind : TokenKind) → scalars p ≡ true → IsPiece k p → IsToken k p kind → HasValue kind
+has_value _ p _ s h (ident n l) = record { chars = p; scalars = s; word = piece_word p h; spelled = refl; short = l }
+has_value _ p _ s h (key n) = tt
+has_value _ p _ s h (int n) = search (rules, tests)
+has_value _ _ _ s h (text {body} {value} n l) = text_value body value n (scalars_front body (34 ∷ []) (and_parts (scalar 34) (scalars (body ++ 34 ∷ [])) s).1) l
+has_value _ p _ s h punct = tt
 
-have_names : (at : ℕ) (cs : List ℕ) (ts : List Token) → scalars cs ≡ true → Cuts at cs ts → HaveNames ts
-have_names at _ _ s done = tt
-have_names at _ _ s (skip {piece = p} {more = x} {tokens = ts} l b c) = have_names (at + size p) x ts (scalars_back p x s) c
-have_names at _ _ s (keep {shape = k} {piece = p} {more = x} {kind} {tokens = ts} l t c) =
-    (has_name k p kind (scalars_front p x s) l.looks t, have_names (at + size p) x ts (scalars_back p x s) c)
+have_values : (at : ℕ) (cs : List ℕ) (ts : List Token) → scalars cs ≡ true → Cuts at cs ts → HaveValues ts
+have_values at _ _ s done = tt
+have_values at _ _ s (skip {piece = p} {more = x} {tokens = ts} l b c) = have_values (at + size p) x ts (scalars_back p x s) c
+have_values at _ _ s (keep {shape = k} {piece = p} {more = x} {kind} {tokens = ts} l t c) =
+    (has_value k p kind (scalars_front p x s) l.looks t, have_values (at + size p) x ts (scalars_back p x s) c)
 
 pub are_tokens : (bytes : List ℕ) (ts : List Token) → Lex bytes ts → length bytes ≤ 1048576 → deep_at 0 ts ≡ None → AreTokens ts
 are_tokens bytes ts h short shallow = record {
   few = omega (arith, few 0 h.0 ts h.3, ap length h.2);
   ascending = ascends 0 h.0 ts h.3;
   shallow = shallow;
-  names = have_names 0 h.0 ts h.1 h.3;
+  values = have_values 0 h.0 ts h.1 h.3;
 }

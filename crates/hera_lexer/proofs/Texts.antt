@@ -88,6 +88,14 @@ word_text w u h short = record {
   short = short;
 }
 
+-- what a literal spells is a text
+pub text_value : (body value : List ℕ) → Spells body value → scalars body ≡ true → length (encodes value) ≤ 255 → IsText (encodes value)
+text_value body value h s short = record {
+  utf8 = value_utf8 body value h s;
+  nonzero = nonzero (encodes value) (bytes_no_zero value (spells_no_zero body value h));
+  short = short;
+}
+
 -- the value of a literal is a text
 pub quoted_value : (bs v : List ℕ) → IsUtf8 bs → (h : IsPiece shapes.Quoted (chars bs)) → v ≡ value_of false (encodes (is_quoted (chars bs) h).body) → length v ≤ 255 → IsText v
 quoted_value bs v u h e short =

@@ -4,6 +4,8 @@ use Rattle.hera_syntax.specs.declared.token.TokenKind.{TokenKind}
 use Rattle.hera_syntax.specs.declared.token.TokenKind.TheVariants as kinds
 use Rattle.hera_syntax.specs.declared.token.Token.{Token}
 use Rattle.hera_meaning.specs.Identifiers.{IsIdentifier}
+use Rattle.hera_meaning.specs.Scalars.{fits_int}
+use Rattle.hera_meaning.specs.Texts.{IsText}
 
 -- an opening bracket
 abbrev pub opens : TokenKind → Bool
@@ -33,21 +35,22 @@ abbrev pub AscendsFrom : ℕ → List Token → Type 0
 AscendsFrom n [] = Unit {0}
 AscendsFrom n (t ∷ ts) = (n ≤ t.at) × AscendsFrom (t.at + 1) ts
 
--- a name has an identifier's shape
-abbrev pub HasName : TokenKind → Type 0
-HasName (kinds.Ident name) = IsIdentifier name
-HasName (kinds.Int n) = Unit {0}
-HasName (kinds.Text text) = Unit {0}
-HasName (kinds.Key k) = Unit {0}
-HasName (kinds.Punct i) = Unit {0}
+-- a name has an identifier's shape, an int is in range, and a text is one
+abbrev pub HasValue : TokenKind → Type 0
+HasValue (kinds.Ident name) = IsIdentifier name
+HasValue (kinds.Int n) = fits_int n ≡ true
+HasValue (kinds.Text text) = IsText text
+HasValue (kinds.Key k) = Unit {0}
+HasValue (kinds.Punct i) = Unit {0}
 
-abbrev pub HaveNames : List Token → Type 0
-HaveNames [] = Unit {0}
-HaveNames (t ∷ ts) = HasName t.kind × HaveNames ts
+abbrev pub HaveValues : List Token → Type 0
+HaveValues [] = Unit {0}
+HaveValues (t ∷ ts) = HasValue t.kind × HaveValues ts
 
--- at most 1,048,576 tokens, whose offsets ascend, with at most 64 open brackets and names of an identifier's shape
+-- at most 1,048,576 tokens, whose offsets ascend, with at most 64 open brackets, names of an identifier's
+-- shape, ints in range and texts that are texts
 pub record AreTokens (tokens : List Token) : Type 0 where
   pub few : length tokens ≤ 1048576
   pub ascending : AscendsFrom 0 tokens
   pub shallow : deep_at 0 tokens ≡ None
-  pub names : HaveNames tokens
+  pub values : HaveValues tokens

@@ -2,7 +2,8 @@ use crate::Token;
 use std::marker::Model;
 
 /// The tokens of a script, and the script's length in bytes. There are at most 1,048,576 of them, their
-/// offsets ascend, at most 64 brackets are open at once, and names have an identifier's shape.
+/// offsets ascend, at most 64 brackets are open at once, names have an identifier's shape, ints are in
+/// range and texts are texts.
 #[derive(Drop)]
 pub struct Tokens {
     items: Vec<Token>,
