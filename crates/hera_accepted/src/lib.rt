@@ -1,0 +1,6 @@
+//! Accepted scripts: a text has one script, and a script one program.
+#![tactic(auto)]
+
+mod laws;
+
+pub use laws::a_script_has_one_program;
