@@ -1,7 +1,6 @@
 -- The pieces of a row, one after another.
 use Rattle.std.proofs.Common.{◌≡◌, ℕ, zero, suc, ◌+◌, ◌-◌, ◌<◌, ◌≤◌, List, [], ◌∷◌, Some, length, take, drop, refl, sym, ap, ◌∙◌, arith}
 use Rattle.std.specs.List.{slice_get}
-use Rattle.std.proofs.lemmas.List.{drop_all}
 use Rattle.hera_meaning.specs.declared.scalars.Kind.{Kind}
 use Rattle.hera_meaning.specs.declared.scalars.Kind.TheVariants.{Int as int_kind, Bool as bool_kind, Text as text_kind}
 use Rattle.hera_meaning.specs.declared.schemas.Attr.{Attr}
@@ -56,6 +55,3 @@ before_step schema row i place a rest after n at h size moved l =
           ∙ ap (λ attrs. piece_at (pieces attrs rest) (i - place)) (sym (drop_attr schema place a at))
           ∙ l.same;
     }
-
-pub before_end : (schema : List Attr) (row : List ℕ) (i place : ℕ) (rest : List ℕ) → length schema ≤ place → IsBefore schema row i place rest → [] ≡ piece_at (pieces schema row) i
-before_end schema row i place rest h l = ap (λ attrs. piece_at (pieces attrs rest) (i - place)) (sym (drop_all place schema h)) ∙ l.same

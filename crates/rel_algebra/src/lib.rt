@@ -4,10 +4,16 @@
 //! pages and views are read where they stand.
 #![tactic(auto)]
 
+mod fronts;
+mod gathering;
+mod order;
 mod pieces;
 mod projection;
 mod sets;
 
+pub use fronts::Begun;
+pub use gathering::set_of;
+pub use order::{is_below, is_same};
 pub use pieces::{at_places, piece, piece_len};
 pub use projection::project;
 pub use sets::{Both, Common, Without, inter, minus, same_rows, union};
@@ -16,12 +22,12 @@ pub use sets::{Both, Common, Without, inter, minus, same_rows, union};
 mod tests {
     use super::*;
     use hera_meaning::{Attr, Kind, Schema, Text};
-    use hera_rows::{RowSet, Sorted};
+    use hera_rows::{RowBuf, RowSet, Sorted};
     use std::alloc::{AllocError, Global};
     use std::test::Fail;
 
     /// The set of two rows.
-    fn set_of(alloc: Global, first: &[u8], second: &[u8]) -> Result<RowSet, AllocError> {
+    fn two(alloc: Global, first: &[u8], second: &[u8]) -> Result<RowSet, AllocError> {
         let mut set = RowSet::new(alloc);
         let _first = set.insert(first)?;
         let _second = set.insert(second)?;
@@ -43,8 +49,8 @@ mod tests {
 
     #[test]
     fn sets_are_put_together_and_taken_apart(rt: HostRuntime) -> Result<(), Fail> {
-        let a = set_of(rt.alloc(), b"p", b"q")?;
-        let b = set_of(rt.alloc(), b"r", b"q")?;
+        let a = two(rt.alloc(), b"p", b"q")?;
+        let b = two(rt.alloc(), b"r", b"q")?;
         assert!(rt; union(rt.alloc(), &a, &b)?.len() == 3);
         assert!(rt; minus(rt.alloc(), &a, &b)?.has(b"p"));
         assert!(rt; inter(rt.alloc(), &a, &b)?.has(b"q"));
@@ -55,11 +61,29 @@ mod tests {
     #[test]
     fn fields_are_taken_in_the_order_of_the_places(rt: HostRuntime) -> Result<(), Fail> {
         let schema = flags(rt.alloc())?;
-        let rows = set_of(rt.alloc(), b"\x00\x01", b"\x01\x01")?;
+        let rows = two(rt.alloc(), b"\x00\x01", b"\x01\x01")?;
         let second = project(rt.alloc(), &schema, &[1], &rows)?;
         assert!(rt; second.len() == 1 && second.has(b"\x01"));
         let turned = project(rt.alloc(), &schema, &[1, 0], &rows)?;
         assert!(rt; turned.len() == 2 && turned.has(b"\x01\x00"));
+        Ok(())
+    }
+
+    #[test]
+    fn rows_in_any_order_are_found_by_their_front(rt: HostRuntime) -> Result<(), Fail> {
+        let mut rows = Vec::new(rt.alloc());
+        for row in [b"qb".as_slice(), b"p", b"q", b"p"] {
+            rows.push(RowBuf::new(rt.alloc(), row)?)?;
+        }
+        let set = set_of(rt.alloc(), rows)?;
+        let q = Begun {
+            a: &set,
+            front: b"q",
+        };
+        assert!(rt; set.len() == 3 && q.has(b"qb") && !q.has(b"p"));
+        assert_eq!(rt; q.above(None), Some(b"q".as_slice()));
+        assert_eq!(rt; q.above(Some(b"q")), Some(b"qb".as_slice()));
+        assert!(rt; q.above(Some(b"qb")).is_none());
         Ok(())
     }
 }

@@ -2,6 +2,7 @@
 ghost use Rattle.std.specs.Prelude.{◌≡◌, IfOk};
 ghost use Rattle.hera_meaning.specs.Relations.{project_of};
 
+use crate::gathering::set_of;
 use crate::pieces::at_places;
 use hera_meaning::Schema;
 use hera_rows::{RowSet, Sorted};
@@ -17,12 +18,12 @@ pub fn project<A: Sorted>(
 ) -> Result<RowSet, AllocError>
     ensures { IfOk result (λ set. set ≡ project_of schema.now places.now (A.rows a.now)) }
 {
-    let mut set = RowSet::new(alloc);
+    let mut images = Vec::new(alloc);
     let mut last: Option<&[u8]> = None;
     while let Some(row) = a.above(last) {
         let image = at_places(alloc, schema, places, row)?;
-        set.insert(image.bytes())?;
+        images.push(image)?;
         last = Some(row);
     }
-    Ok(set)
+    set_of(alloc, images)
 }

@@ -1,9 +1,9 @@
 //! The set operations, over any two sorted sets.
 ghost use Rattle.std.specs.Prelude.{◌≡◌, ◌↔◌, IsTrue, IfOk};
 ghost use Rattle.std.specs.Option.{option_copied};
-ghost use Rattle.hera_sets.specs.Rows.{is_below};
 ghost use Rattle.hera_sets.specs.Sets.{union_of, minus_of, inter_of, least_of};
 
+use crate::order::is_below;
 use hera_rows::{RowSet, Sorted, collect};
 use std::alloc::{AllocError, Global};
 
@@ -116,12 +116,4 @@ pub fn same_rows<A: Sorted, B: Sorted>(a: &A, b: &B) -> bool
     ensures { IsTrue result ↔ (A.rows a.now ≡ B.rows b.now) }
 {
     hera_rows::same_rows(a, b)
-}
-
-/// Whether the first row stands before the second in byte order.
-#[tactic(auto, unfolding(hera_sets::specs::Rows::is_below))]
-fn is_below(a: &[u8], b: &[u8]) -> bool
-    ensures { result ≡ is_below a.now b.now }
-{
-    a.cmp(b).is_lt()
 }

@@ -1,0 +1,5 @@
+pub mod Totals
+pub mod Bests
+pub mod KeyLemmas
+pub mod GroupLemmas
+pub mod KeySteps

@@ -1,0 +1,170 @@
+-- A left row and a right row, attribute by attribute of the right schema.
+use Rattle.std.proofs.Common.{◌≡◌, ℕ, suc, ◌+◌, ◌≤◌, Bool, true, false, cond, not, ◌||◌, ◌&&◌, List, [], ◌∷◌, ◌++◌, Some, None, is_some, length, take, drop, refl, sym, ap, ◌∙◌, subst, arith, append_assoc, length-append}
+use Rattle.std.specs.List.{filter, list_any, list_all, flat_map, position_from, slice_get}
+use Rattle.std.proofs.Math.Seq.{take-add}
+use Rattle.std.proofs.lemmas.Bool.{both_ways, and_parts, or_parts}
+use Rattle.std.proofs.lemmas.Option.{none-some, same_Some}
+use Rattle.std.proofs.lemmas.List.{append-nil, drop_all}
+use Rattle.hera_sets.specs.Rows.{Row, is_same, holds}
+use Rattle.hera_sets.proofs.Order.{same_true, same_itself, before, level, behind, stands}
+use Rattle.hera_meaning.specs.declared.schemas.Attr.{Attr}
+use Rattle.hera_meaning.specs.Schemas.{AreDistinct, names_of}
+use Rattle.hera_meaning.specs.Rows.{first_piece, pieces}
+use Rattle.hera_meaning.specs.Relations.{piece_at, has_name, piece_named, agree}
+use Rattle.hera_row.proofs.RowLemmas.{drop_attr}
+use Rattle.rel_algebra.specs.Fronts.{begins}
+use Rattle.rel_algebra.proofs.PieceLemmas.{first_piece_front}
+use Rattle.rel_algebra.proofs.FrontLemmas.{begins_from}
+use Rattle.join_exec.specs.Leading.{leading_of}
+
+-- ---- a name's place
+
+pub is_some-position : (p : Attr → Bool) (i : ℕ) (attrs : List Attr) → is_some (position_from p i attrs) ≡ list_any p attrs
+is_some-position p i [] = refl
+is_some-position p i (a ∷ attrs) =
+    elim (p a) as (λ v. is_some (cond v (Some i) (position_from p (i + 1) attrs)) ≡ (v || list_any p attrs)) [
+      | true ↦ refl
+      | false ↦ is_some-position p (i + 1) attrs
+    ]
+
+placed : (name : List ℕ) (attrs : List Attr) (row : List ℕ) (i n : ℕ) → position_from (λ a. is_same name a.name) i attrs ≡ Some n → (m : ℕ) × (n ≡ i + m) × (piece_named name attrs (pieces attrs row) ≡ piece_at (pieces attrs row) m)
+placed name [] row i n h = absurd (none-some n h)
+placed name (a ∷ attrs) row i n h = by (placed name attrs (drop (length (first_piece a.kind row)) row) (i + 1) n) (is_same name a.name) refl h
+  where
+    rest : List ℕ
+    rest = drop (length (first_piece a.kind row)) row
+
+    by : (position_from (λ a. is_same name a.name) (i + 1) attrs ≡ Some n → (m : ℕ) × (n ≡ i + 1 + m) × (piece_named name attrs (pieces attrs rest) ≡ piece_at (pieces attrs rest) m)) → (v : Bool) → is_same name a.name ≡ v → cond v (Some i) (position_from (λ a. is_same name a.name) (i + 1) attrs) ≡ Some n → (m : ℕ) × (n ≡ i + m) × (piece_named name (a ∷ attrs) (pieces (a ∷ attrs) row) ≡ piece_at (pieces (a ∷ attrs) row) m)
+    by more true e g = (0, omega (arith, same_Some i n g), rw e refl)
+    by more false e g =
+        let r = more g in
+        (suc r.0, omega (arith, r.1), rw e r.2)
+
+-- the field of a name is the field at its place
+pub piece_named-place : (name : List ℕ) (attrs : List Attr) (row : List ℕ) (n : ℕ) → position_from (λ a. is_same name a.name) 0 attrs ≡ Some n → piece_at (pieces attrs row) n ≡ piece_named name attrs (pieces attrs row)
+piece_named-place name attrs row n h =
+    let r = placed name attrs row 0 n h in
+    let same : n ≡ r.0 = omega (arith, r.1) in
+    ap (piece_at (pieces attrs row)) same ∙ sym r.2
+
+pub piece_named-nowhere : (name : List ℕ) (attrs : List Attr) (row : List ℕ) (i : ℕ) → position_from (λ a. is_same name a.name) i attrs ≡ None → [] ≡ piece_named name attrs (pieces attrs row)
+piece_named-nowhere name [] row i h = refl
+piece_named-nowhere name (a ∷ attrs) row i h = by (piece_named-nowhere name attrs (drop (length (first_piece a.kind row)) row) (i + 1)) (is_same name a.name) refl h
+  where
+    rest : List ℕ
+    rest = drop (length (first_piece a.kind row)) row
+
+    by : (position_from (λ a. is_same name a.name) (i + 1) attrs ≡ None → [] ≡ piece_named name attrs (pieces attrs rest)) → (v : Bool) → is_same name a.name ≡ v → cond v (Some i) (position_from (λ a. is_same name a.name) (i + 1) attrs) ≡ None → [] ≡ piece_named name (a ∷ attrs) (pieces (a ∷ attrs) row)
+    by more true e g = absurd (none-some i (sym g))
+    by more false e g = rw e (more g)
+
+-- ---- whether the rows agree, from an attribute on
+
+-- the rows are equal in those of these attributes that the left schema has
+abbrev pub agree_on : List Attr → List Attr → Row → Row → List Attr → Bool
+agree_on left right x y attrs =
+    list_all (λ a. is_same (piece_named a.name left (pieces left x)) (piece_named a.name right (pieces right y))) (filter (λ a. has_name left a.name) attrs)
+
+pub agree_on-skip : (left right : List Attr) (x y : Row) (place : ℕ) (a : Attr) (name : List ℕ) → slice_get right place ≡ Some a → name ≡ a.name → false ≡ has_name left name → agree_on left right x y (drop (place + 1) right) ≡ agree_on left right x y (drop place right)
+agree_on-skip left right x y place a name at e h =
+    let lacks : has_name left a.name ≡ false = ap (has_name left) (sym e) ∙ sym h in
+    sym (ap (agree_on left right x y) (drop_attr right place a at) ∙ rw lacks refl)
+
+pub agree_on-same : (left right : List Attr) (x y : Row) (place : ℕ) (a : Attr) (name ours theirs : List ℕ) → slice_get right place ≡ Some a → name ≡ a.name → true ≡ has_name left name → ours ≡ piece_named name left (pieces left x) → theirs ≡ piece_named name right (pieces right y) → true ≡ is_same ours theirs → agree_on left right x y (drop (place + 1) right) ≡ agree_on left right x y (drop place right)
+agree_on-same left right x y place a name ours theirs at e h o t s =
+    let has : has_name left a.name ≡ true = ap (has_name left) (sym e) ∙ sym h in
+    let same : is_same (piece_named a.name left (pieces left x)) (piece_named a.name right (pieces right y)) ≡ true =
+    sym (s ∙ (λ i. is_same ((o ∙ ap (λ n. piece_named n left (pieces left x)) e) i) ((t ∙ ap (λ n. piece_named n right (pieces right y)) e) i)))
+    in
+    sym (ap (agree_on left right x y) (drop_attr right place a at) ∙ rw (has, same) refl)
+
+pub agree_on-differ : (left right : List Attr) (x y : Row) (place : ℕ) (a : Attr) (name ours theirs : List ℕ) → slice_get right place ≡ Some a → name ≡ a.name → true ≡ has_name left name → ours ≡ piece_named name left (pieces left x) → theirs ≡ piece_named name right (pieces right y) → false ≡ is_same ours theirs → false ≡ agree_on left right x y (drop place right)
+agree_on-differ left right x y place a name ours theirs at e h o t s =
+    let has : has_name left a.name ≡ true = ap (has_name left) (sym e) ∙ sym h in
+    let other : is_same (piece_named a.name left (pieces left x)) (piece_named a.name right (pieces right y)) ≡ false =
+    sym (s ∙ (λ i. is_same ((o ∙ ap (λ n. piece_named n left (pieces left x)) e) i) ((t ∙ ap (λ n. piece_named n right (pieces right y)) e) i)))
+    in
+    sym (ap (agree_on left right x y) (drop_attr right place a at) ∙ rw (has, other) refl)
+
+-- ---- the right row's rest, from an attribute on
+
+-- the fields of the right row at those of these attributes that the left schema lacks
+abbrev pub rest_at : List Attr → List Attr → Row → List Attr → Row
+rest_at left right y attrs = flat_map (λ a. piece_named a.name right (pieces right y)) (filter (λ a. not (has_name left a.name)) attrs)
+
+pub rest_at-skip : (left right : List Attr) (y done : Row) (place : ℕ) (a : Attr) (name : List ℕ) → slice_get right place ≡ Some a → name ≡ a.name → true ≡ has_name left name → done ++ rest_at left right y (drop (place + 1) right) ≡ done ++ rest_at left right y (drop place right)
+rest_at-skip left right y done place a name at e h =
+    let has : has_name left a.name ≡ true = ap (has_name left) (sym e) ∙ sym h in
+    ap (λ t. done ++ t) (sym (ap (rest_at left right y) (drop_attr right place a at) ∙ rw has refl))
+
+pub rest_at-take : (left right : List Attr) (y done piece after : Row) (place : ℕ) (a : Attr) (name : List ℕ) → slice_get right place ≡ Some a → name ≡ a.name → false ≡ has_name left name → piece ≡ piece_named name right (pieces right y) → after ≡ done ++ piece → after ++ rest_at left right y (drop (place + 1) right) ≡ done ++ rest_at left right y (drop place right)
+rest_at-take left right y done piece after place a name at e h p g =
+    let lacks : has_name left a.name ≡ false = ap (has_name left) (sym e) ∙ sym h in
+    let here : piece ≡ piece_named a.name right (pieces right y) = p ∙ ap (λ n. piece_named n right (pieces right y)) e in
+    ap (λ t. t ++ rest_at left right y (drop (place + 1) right)) (g ∙ ap (λ t. done ++ t) here)
+    ∙ append_assoc done (piece_named a.name right (pieces right y)) (rest_at left right y (drop (place + 1) right))
+    ∙ ap (λ t. done ++ t) (sym (ap (rest_at left right y) (drop_attr right place a at) ∙ rw lacks refl))
+
+-- ---- the leading fields, from an attribute on
+
+pub leading_of-take : (left : List Attr) (x : Row) (right : List Attr) (done piece after : Row) (place : ℕ) (a : Attr) (name : List ℕ) → slice_get right place ≡ Some a → name ≡ a.name → true ≡ has_name left name → piece ≡ piece_named name left (pieces left x) → after ≡ done ++ piece → after ++ leading_of left x (drop (place + 1) right) ≡ done ++ leading_of left x (drop place right)
+leading_of-take left x right done piece after place a name at e h p g =
+    let has : has_name left a.name ≡ true = ap (has_name left) (sym e) ∙ sym h in
+    let here : piece ≡ piece_named a.name left (pieces left x) = p ∙ ap (λ n. piece_named n left (pieces left x)) e in
+    ap (λ t. t ++ leading_of left x (drop (place + 1) right)) (g ∙ ap (λ t. done ++ t) here)
+    ∙ append_assoc done (piece_named a.name left (pieces left x)) (leading_of left x (drop (place + 1) right))
+    ∙ ap (λ t. done ++ t) (sym (ap (leading_of left x) (drop_attr right place a at) ∙ rw has refl))
+
+pub leading_of-stop : (left : List Attr) (x : Row) (right : List Attr) (done : Row) (place : ℕ) (a : Attr) (name : List ℕ) → slice_get right place ≡ Some a → name ≡ a.name → false ≡ has_name left name → done ≡ done ++ leading_of left x (drop place right)
+leading_of-stop left x right done place a name at e h =
+    let lacks : has_name left a.name ≡ false = ap (has_name left) (sym e) ∙ sym h in
+    sym (ap (λ t. done ++ t) (ap (leading_of left x) (drop_attr right place a at) ∙ rw lacks refl) ∙ append-nil done)
+
+pub leading_of-end : (left : List Attr) (x : Row) (right : List Attr) (done : Row) (place : ℕ) → length right ≤ place → done ≡ done ++ leading_of left x (drop place right)
+leading_of-end left x right done place h = sym (ap (λ attrs. done ++ leading_of left x attrs) (drop_all place right h) ∙ append-nil done)
+
+-- ---- a right row that agrees begins with the leading fields
+
+same_turned : (a b : Row) → is_same a b ≡ false → is_same b a ≡ false
+same_turned a b h = elim (stands b a) [
+  | before _ _ s ↦ s
+  | level e _ _ _ ↦ absurd (both_ways _ h (subst (λ z. is_same a z ≡ true) (sym e) (same_itself a)))
+  | behind _ _ s ↦ s
+]
+
+-- attributes of other names are equal in what is behind the first field too
+agree_on-behind : (left : List Attr) (x : Row) (a : Attr) (attrs : List Attr) (y : Row) (rest : List Attr) → holds (names_of rest) a.name ≡ false → agree_on left (a ∷ attrs) x y rest ≡ agree_on left attrs x (drop (length (first_piece a.kind y)) y) rest
+agree_on-behind left x a attrs y [] h = refl
+agree_on-behind left x a attrs y (b ∷ rest) h =
+    let p = or_parts (is_same a.name b.name) (holds (names_of rest) a.name) h in
+    let other = same_turned a.name b.name p.0 in
+    let more = agree_on-behind left x a attrs y rest p.1 in
+    elim (has_name left b.name) as (λ v. list_all (λ c. is_same (piece_named c.name left (pieces left x)) (piece_named c.name (a ∷ attrs) (pieces (a ∷ attrs) y))) (cond v (b ∷ filter (λ c. has_name left c.name) rest) (filter (λ c. has_name left c.name) rest)) ≡ list_all (λ c. is_same (piece_named c.name left (pieces left x)) (piece_named c.name attrs (pieces attrs (drop (length (first_piece a.kind y)) y)))) (cond v (b ∷ filter (λ c. has_name left c.name) rest) (filter (λ c. has_name left c.name) rest))) [
+      | true ↦ rw other (ap (λ v. is_same (piece_named b.name left (pieces left x)) (piece_named b.name attrs (pieces attrs (drop (length (first_piece a.kind y)) y))) && v) more)
+      | false ↦ more
+    ]
+
+goes : (left : List Attr) (x : Row) (attrs : List Attr) (y : Row) → AreDistinct (names_of attrs) → agree_on left attrs x y attrs ≡ true → take (length (leading_of left x attrs)) y ≡ leading_of left x attrs
+goes left x [] y apart h = refl
+goes left x (a ∷ attrs) y apart h = by (goes left x attrs (drop (length (first_piece a.kind y)) y) apart.1) (has_name left a.name) refl
+  where
+    piece : Row
+    piece = first_piece a.kind y
+
+    more : Row
+    more = leading_of left x attrs
+
+    whole : piece_named a.name left (pieces left x) ≡ piece → take (length more) (drop (length piece) y) ≡ more → take (length (piece_named a.name left (pieces left x) ++ more)) y ≡ piece_named a.name left (pieces left x) ++ more
+    whole e g =
+        let P : Row → Type 0 = λ z. take (length (z ++ more)) y ≡ z ++ more in
+        subst P (sym e) (ap (λ n. take n y) (length-append piece more) ∙ take-add (length piece) (length more) y ∙ (λ i. first_piece_front a.kind y i ++ g i))
+
+    by : (agree_on left attrs x (drop (length piece) y) attrs ≡ true → take (length more) (drop (length piece) y) ≡ more) → (v : Bool) → has_name left a.name ≡ v → take (length (leading_of left x (a ∷ attrs))) y ≡ leading_of left x (a ∷ attrs)
+    by others false e = rw e refl
+    by others true e =
+        let q = and_parts (is_same (piece_named a.name left (pieces left x)) (piece_named a.name (a ∷ attrs) (pieces (a ∷ attrs) y))) (agree_on left (a ∷ attrs) x y attrs) (rw e at h) in
+        let first : piece_named a.name (a ∷ attrs) (pieces (a ∷ attrs) y) ≡ piece = rw (same_itself a.name) refl in
+        rw e (whole (same_true _ _ q.0 ∙ first) (others (sym (agree_on-behind left x a attrs y attrs apart.0) ∙ q.1)))
+
+pub agree_begins : (left right : List Attr) (x y : Row) → AreDistinct (names_of right) → agree left right (x, y) ≡ true → begins (leading_of left x right) y ≡ true
+agree_begins left right x y apart h = begins_from (leading_of left x right) y (goes left x right y apart h)
