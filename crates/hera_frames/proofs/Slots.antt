@@ -1,0 +1,30 @@
+-- Slots, which are kept as values of the machine.
+use Rattle.std.proofs.Common.{◌≡◌, ℕ, zero, suc, ◌<◌, ◌≤◌, true, false, List, [], ◌∷◌, length, map, refl, ap, arith, is_some}
+use Rattle.std.specs.Prelude.{slice_set, slice_get}
+use Rattle.std.proofs.lemmas.Option.{slice_get-map}
+use Rattle.hera_meaning.specs.Values.{Value}
+use Rattle.hera_meaning.specs.Worlds.{set_local}
+
+pub set_local-map : {A : Type 0} → (f : A → Value) (xs : List A) (i : ℕ) (v : A) → map f (slice_set xs i v) ≡ set_local (map f xs) i (f v)
+set_local-map f [] i v = refl
+set_local-map f (x ∷ xs) zero v = refl
+set_local-map f (x ∷ xs) (suc i) v = ap (λ ys. f x ∷ ys) (set_local-map f xs i v)
+
+pub set_local-past : {A : Type 0} → (f : A → Value) (xs : List A) (i : ℕ) (v : Value) → length xs ≤ i → set_local (map f xs) i v ≡ map f xs
+set_local-past f [] i v h = refl
+set_local-past f (x ∷ xs) zero v h = absurd (omega (arith, h))
+set_local-past f (x ∷ xs) (suc i) v h = ap (λ ys. f x ∷ ys) (set_local-past f xs i v (omega (arith, h)))
+
+pub slot-past : {A : Type 0} → (f : A → Value) (xs : List A) (i : ℕ) → length xs ≤ i → false ≡ is_some (slice_get (map f xs) i)
+slot-past f [] i h = refl
+slot-past f (x ∷ xs) zero h = absurd (omega (arith, h))
+slot-past f (x ∷ xs) (suc i) h = slot-past f xs i (omega (arith, h))
+
+pub slot-within : {A : Type 0} → (f : A → Value) (xs : List A) (i : ℕ) → i < length xs → true ≡ is_some (slice_get (map f xs) i)
+slot-within f [] i h = absurd (omega (arith, h))
+slot-within f (x ∷ xs) zero h = refl
+slot-within f (x ∷ xs) (suc i) h = slot-within f xs i (omega (arith, h))
+
+pub ruleset slots = (set_local-map, set_local-past, slot-past, slot-within)
+
+pub ruleset copies = (slice_get-map)

@@ -1,0 +1,12 @@
+-- Frames that wait, with the layers at their time.
+use Rattle.std.specs.Prelude.{ℕ, List, [], ◌∷◌, drop}
+use Rattle.hera_meaning.specs.Deltas.{Delta}
+use Rattle.hera_code.specs.Machine as machine
+use Rattle.hera_frames.specs.declared.frames.Frame.{Frame}
+
+-- from the layers at hand, and how many of them are the running frame's own: these are gone when the
+-- frame that waits goes on
+abbrev pub frames_of : List Delta → ℕ → List Frame → List machine.Frame
+frames_of layers own [] = []
+frames_of layers own (f ∷ fs) =
+    record { at = f.at; operands = f.operands; locals = f.locals; walks = f.walks; layers = drop own layers; own = f.own } ∷ frames_of (drop own layers) f.own fs

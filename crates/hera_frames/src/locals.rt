@@ -1,0 +1,78 @@
+//! Slots.
+ghost use Rattle.std.specs.Prelude.{◌≡◌, slice_get, IfOk};
+ghost use Rattle.std.specs.Option.{option_map, is_some};
+ghost use Rattle.hera_meaning.specs.Worlds.{set_local, locals_from};
+ghost use Rattle.delta_atoms.specs.Plain.{value_of};
+
+use crate::values::{discard, int_zero};
+use delta_atoms::{Value, copy_value};
+use hera_prims::Args;
+use std::alloc::{AllocError, Global};
+use std::marker::Model;
+use std::mem::replace;
+
+/// The slots of a body.
+#[derive(Drop)]
+pub struct Locals {
+    items: Vec<Value>,
+}
+
+impl Model for Locals {
+    ghost use Rattle.std.specs.Prelude.{List, map};
+    ghost use Rattle.hera_meaning.specs.Values as plain;
+    ghost use Rattle.delta_atoms.specs.Plain.{value_of};
+
+    ghost Value = { List plain.Value };
+
+    ghost view = { λ s. map value_of s.items.items };
+}
+
+impl Locals {
+    /// A copy of a slot's value, if the slot is there.
+    #[tactic(auto, using(crate::proofs::Slots::copies))]
+    pub fn copy_of(&self, i: usize) -> Result<Option<Value>, AllocError>
+        ensures { IfOk result (λ v. option_map value_of v ≡ slice_get self.now i) }
+    {
+        match self.items.get(i) {
+            Some(v) => Ok(Some(copy_value(v)?)),
+            None => Ok(None),
+        }
+    }
+
+    /// Whether the slot is there.
+    #[tactic(auto, using(crate::proofs::Slots::slots))]
+    pub fn has(&self, i: usize) -> bool
+        ensures { result ≡ is_some (slice_get self.now i) }
+    {
+        i < self.items.len()
+    }
+
+    /// Puts a value into a slot, if the slot is there. It takes no memory.
+    #[tactic(auto, using(crate::proofs::Slots::slots))]
+    pub fn put(&mut self, i: usize, v: Value) -> bool
+        ensures there { result ≡ is_some (slice_get self.old i) }
+        ensures put { self.new ≡ set_local self.old i (value_of v) }
+    {
+        if i < self.items.len() {
+            discard(replace(&mut self.items[i], v));
+            true
+        } else {
+            discard(v);
+            false
+        }
+    }
+
+    /// A body's slots as it starts: its arguments, and the int 0 in each other one.
+    pub fn start(alloc: Global, mut args: Args, slots: u32) -> Result<Locals, AllocError>
+        ensures { IfOk result (λ locals. locals ≡ locals_from slots args) }
+    {
+        let mut items = Vec::with_capacity(alloc, slots as usize)?;
+        while let Some(v) = args.pop_front() {
+            items.push(v)?;
+        }
+        while items.len() < slots as usize {
+            items.push(int_zero())?;
+        }
+        Ok(Locals { items })
+    }
+}

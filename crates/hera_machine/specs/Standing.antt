@@ -1,0 +1,72 @@
+-- What contracts see of a machine, and what its events tell.
+use Rattle.std.specs.Prelude.{◌≡◌, ◌≢◌, ℕ, List, Option, Some, None, Result, Ok, Err}
+use Rattle.std.specs.declared.alloc.AllocError.{AllocError}
+use Rattle.hera_meaning.specs.declared.schemas.RelDecl.{RelDecl}
+use Rattle.hera_meaning.specs.Deltas.{Delta, State, apply_of}
+use Rattle.hera_meaning.specs.Run.{finished, stopped, out_of_turns}
+use Rattle.hera_code.specs.declared.instrs.Code.{Code}
+use Rattle.hera_code.specs.Machine.{Machine, Stop, ended, stuck, Step, quiet, says, commits, ends}
+use Rattle.hera_machine.specs.declared.events.End.{End}
+use Rattle.hera_machine.specs.declared.events.End.TheVariants.{Done, Trap, Spent, Stuck}
+use Rattle.hera_machine.specs.declared.events.Event.{Event}
+use Rattle.hera_machine.specs.declared.events.Event.TheVariants.{Quiet, Out, Commit, Ended}
+use Rattle.hera_machine.specs.declared.events.Status.{Status}
+use Rattle.hera_machine.specs.declared.events.Status.TheVariants.{Working, Over, GaveUp}
+use Rattle.hera_machine.specs.Descends.{IsLower}
+
+-- the code and its relations, the state in which the machine is, whether it works, and the delta of a
+-- commit that was not taken yet
+pub record Standing : Type 0 where
+  pub code : Code
+  pub relations : List RelDecl
+  pub state : Machine
+  pub status : Status
+  pub waits : Option Delta
+
+-- the machine of the code for which a machine stands over a committed state
+abbrev pub machine_over : State → Standing → Machine
+machine_over s m = m.state
+
+-- why a run is over
+abbrev pub stop_of : End → Stop
+stop_of Done = ended finished
+stop_of (Trap name at) = ended (stopped name at)
+stop_of Spent = ended out_of_turns
+stop_of Stuck = stuck
+
+-- a commit of the delta that waits; the machine then stands over the state that it stored
+abbrev pub commit_over : State → Option Delta → Standing → Step
+commit_over s None m = ends stuck
+commit_over s (Some d) m = commits d (machine_over (apply_of s d) m)
+
+-- the step that an event and the machine behind it tell, from a committed state
+abbrev pub event_over : State → Event → Standing → Step
+event_over s Quiet m = quiet (machine_over s m)
+event_over s (Out line) m = says line (machine_over s m)
+event_over s Commit m = commit_over s m.waits m
+event_over s (Ended end) m = ends (stop_of end)
+
+-- an end stays, and so does want of memory
+abbrev pub status_by : Event → Status
+status_by Quiet = Working
+status_by (Out line) = Working
+status_by Commit = Working
+status_by (Ended end) = Over end
+
+abbrev pub status_after : Result Event AllocError → Status
+status_after (Ok e) = status_by e
+status_after (Err e) = GaveUp
+
+-- a commit's delta waits behind a commit, and behind no other event
+abbrev pub WaitsBy : Option Delta → Event → Type 0
+WaitsBy w Quiet = w ≡ None
+WaitsBy w (Out line) = w ≡ None
+WaitsBy w Commit = w ≢ None
+WaitsBy w (Ended end) = w ≡ None
+
+-- unless the run ended, less is left of code of this length
+abbrev pub IsNearer : ℕ → Machine → Machine → Event → Type 0
+IsNearer l old new Quiet = IsLower l old new
+IsNearer l old new (Out line) = IsLower l old new
+IsNearer l old new Commit = IsLower l old new
+IsNearer l old new (Ended end) = Unit {0}

@@ -1,0 +1,20 @@
+-- What an operation answered.
+use Rattle.std.specs.Prelude.{◌≡◌, cond, ℤ, pos, Option, None, Some, Result, Ok, Err}
+use Rattle.std.specs.Ordering.{int_eq}
+use Rattle.hera_meaning.specs.declared.trees.TrapName.{TrapName}
+use Rattle.hera_meaning.specs.declared.trees.TrapName.TheVariants.{DivZero, Overflow}
+use Rattle.hera_meaning.specs.Primitives.{Answer, gives, refuses, is_least_by_minus_one}
+use Rattle.delta_atoms.specs.declared.value.Value.{Value}
+use Rattle.delta_atoms.specs.Plain.{value_of}
+use Rattle.hera_prims.specs.declared.end.PrimEnd.{PrimEnd}
+use Rattle.hera_prims.specs.declared.end.PrimEnd.TheVariants.{Trap, Memory}
+
+-- the value or the trap; of want of memory nothing is said
+abbrev pub IsAnswer : Result Value PrimEnd → Answer → Type 0
+IsAnswer (Ok v) a = a ≡ gives (value_of v)
+IsAnswer (Err (Trap name)) a = a ≡ refuses name
+IsAnswer (Err Memory) a = Unit {0}
+
+-- why there is no quotient and no remainder
+abbrev pub division_trap : ℤ → ℤ → Option TrapName
+division_trap a b = cond (int_eq b (pos 0)) (Some DivZero) (cond (is_least_by_minus_one a b) (Some Overflow) None)

@@ -1,0 +1,5 @@
+pub mod Built
+pub mod Newest
+pub mod Wanted
+pub mod Answered
+pub mod Joins
