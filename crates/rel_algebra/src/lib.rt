@@ -59,6 +59,26 @@ mod tests {
     }
 
     #[test]
+    fn empty_and_equal_sets_are_taken(rt: HostRuntime) -> Result<(), Fail> {
+        let none = RowSet::new(rt.alloc());
+        let mut one = RowSet::new(rt.alloc());
+        assert!(rt; one.insert(b"q")?);
+        let both = two(rt.alloc(), b"p", b"q")?;
+        for (a, b, united, left, common) in [
+            (&both, &both, 2, 0, 2),
+            (&both, &none, 2, 2, 0),
+            (&none, &both, 2, 0, 0),
+            (&both, &one, 2, 1, 1),
+            (&none, &none, 0, 0, 0),
+        ] {
+            assert_eq!(rt; union(rt.alloc(), a, b)?.len(), united);
+            assert_eq!(rt; minus(rt.alloc(), a, b)?.len(), left);
+            assert_eq!(rt; inter(rt.alloc(), a, b)?.len(), common);
+        }
+        Ok(())
+    }
+
+    #[test]
     fn fields_are_taken_in_the_order_of_the_places(rt: HostRuntime) -> Result<(), Fail> {
         let schema = flags(rt.alloc())?;
         let rows = two(rt.alloc(), b"\x00\x01", b"\x01\x01")?;
