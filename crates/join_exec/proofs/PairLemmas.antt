@@ -41,11 +41,11 @@ placed name (a ∷ attrs) row i n h = by (placed name attrs (drop (length (first
         (suc r.0, omega (arith, r.1), rw e r.2)
 
 -- the field of a name is the field at its place
-pub piece_named-place : (name : List ℕ) (attrs : List Attr) (row : List ℕ) (n : ℕ) → position_from (λ a. is_same name a.name) 0 attrs ≡ Some n → piece_at (pieces attrs row) n ≡ piece_named name attrs (pieces attrs row)
-piece_named-place name attrs row n h =
-    let r = placed name attrs row 0 n h in
+pub piece_named-place : (name : List ℕ) (attrs : List Attr) (bytes : List ℕ) (n : ℕ) → position_from (λ a. is_same name a.name) 0 attrs ≡ Some n → piece_at (pieces attrs bytes) n ≡ piece_named name attrs (pieces attrs bytes)
+piece_named-place name attrs bytes n h =
+    let r = placed name attrs bytes 0 n h in
     let same : n ≡ r.0 = omega (arith, r.1) in
-    ap (piece_at (pieces attrs row)) same ∙ sym r.2
+    ap (piece_at (pieces attrs bytes)) same ∙ sym r.2
 
 pub piece_named-nowhere : (name : List ℕ) (attrs : List Attr) (row : List ℕ) (i : ℕ) → position_from (λ a. is_same name a.name) i attrs ≡ None → [] ≡ piece_named name attrs (pieces attrs row)
 piece_named-nowhere name [] row i h = refl
