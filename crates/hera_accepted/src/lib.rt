@@ -4,3 +4,6 @@
 mod laws;
 
 pub use laws::a_script_has_one_program;
+
+#[cfg(test)]
+mod tests;

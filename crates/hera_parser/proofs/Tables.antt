@@ -4,7 +4,7 @@ use Rattle.std.specs.Prelude.{slice_index_or}
 use Rattle.std.specs.List.{list_any, list_all}
 use Rattle.hera_syntax.specs.declared.token.Token.{Token}
 use Rattle.hera_syntax.specs.declared.token.Terminal.{Terminal}
-use Rattle.hera_syntax.specs.Grammar.{terminal_of, is_one_of, word, mark, comma, dot, paren, prefix_ops, cmp_ops, signs, ops, Level, whens, ors, ands, sums, terms, smashes, merges, Production, Part, keep, leave, phrase, alternatives, alternative}
+use Rattle.hera_syntax.specs.Grammar.{terminal_of, is_one_of, word, comma, dot, paren, cmp_ops, signs, ops, Level, whens, ors, ands, sums, terms, smashes, merges, Production, Part, keep, leave, phrase, alternatives, alternative}
 use Rattle.hera_syntax.specs.Grammar as phrases
 use Rattle.hera_syntax.specs.Trees.{Begins, begins_kept, begins_left, begins_phrase}
 use Rattle.hera_parser.specs.Reading.{firsts, nullable, starts, stands, pick_from, pick, choice, type_starts, expr_starts, stmt_starts}

@@ -3,7 +3,7 @@ use Rattle.std.specs.Prelude.{◌≡◌, ◌+◌, ℕ, suc, List, [], ◌∷◌,
 use Rattle.hera_syntax.specs.declared.token.Token.{Token}
 use Rattle.hera_syntax.specs.declared.token.Terminal.{Terminal}
 use Rattle.hera_syntax.specs.declared.token.Terminal.TheVariants as terminals
-use Rattle.hera_syntax.specs.Grammar.{Allows, terminal_of, is_one_of, word, mark, name, paren, square, brace, comma, dot, kind_words, cmp_ops, prefix_ops, signs, walk_words, pair_words, measure_words, fold_words, part_words, ops, Level, Production, Part, keep, leave, phrase, alternatives, alternative}
+use Rattle.hera_syntax.specs.Grammar.{Allows, terminal_of, is_one_of, word, mark, name, paren, brace, comma, dot, kind_words, cmp_ops, prefix_ops, signs, walk_words, pair_words, measure_words, fold_words, part_words, ops, Production, Part, keep, leave, phrase, alternatives, alternative}
 use Rattle.hera_syntax.specs.Grammar as phrases
 use Rattle.hera_syntax.specs.Outline.{Mark, at_node, kept, left_out}
 
@@ -194,6 +194,19 @@ pub data Runs : List Part → List Token → List Mark → End → Type 0 where
   left_ended : {c : Terminal} {ps : List Part} → Runs (leave c ∷ ps) [] [] (stuck [])
   chosen : {s : Production} {ps : List Part} {ts : List Token} {ms : List Mark} {e : End}
       → (k : ℕ) → choice s (next_terminal ts) ≡ k → Runs (alternative s k ++ ps) ts ms e → Runs (phrase s ∷ ps) ts (at_node s k ∷ ms) e
+
+-- the next of these tokens tells this alternative of the production
+pub record Tells (s : Production) (k : ℕ) (tokens : List Token) : Type 0 where
+  pub number : choice s (next_terminal tokens) ≡ k
+
+-- Reading ps from old is as reading qs from new, whatever follows, and what lies between has this outline.
+pub record Gives (ps : List Part) (old : List Token) (ms : List Mark) (qs : List Part) (new : List Token) : Type 0 where
+  pub goes : (rest : List Part) (ns : List Mark) (e : End) → Runs (qs ++ rest) new ns e → Runs (ps ++ rest) old (ms ++ ns) e
+
+-- Reading ps from old, whatever follows, gets as far as new and no further.
+pub record Sticks (ps : List Part) (old new : List Token) : Type 0 where
+  pub marks : List Mark
+  pub sticks : (rest : List Part) → Runs (ps ++ rest) old marks (stuck new)
 
 -- a program is read from all the tokens, which gives this outline
 abbrev pub ReadsProgram : List Token → List Mark → Type 0

@@ -31,3 +31,8 @@ pub fn stops_at_the_fault()
 pub fn reads_a_text()
     ensures { (tree : Tree) (tokens : List Token) → ReadsProgram tokens (outline tree) → IsTextOf tree tokens }
 {}
+
+/// A list of tokens has at most one place of a fault.
+pub fn one_fault()
+    ensures { (tokens : List Token) (place other : ℕ) → IsFaultAt tokens place → IsFaultAt tokens other → place ≡ other }
+{}

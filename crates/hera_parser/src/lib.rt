@@ -1,4 +1,16 @@
-//! The parser: so far the laws of the grammar that its contract rests on.
+//! The parser: the syntax tree of a list of tokens, or the first token that cannot stand where it is.
 #![tactic(auto)]
 
+mod decls;
+mod exprs;
+mod forms;
 pub mod laws;
+mod lists;
+mod parser;
+mod program;
+mod reading;
+mod simple;
+mod stmts;
+mod terminals;
+
+pub use reading::{ParseFault, parse};

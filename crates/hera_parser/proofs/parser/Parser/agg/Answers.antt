@@ -1,0 +1,26 @@
+use Rattle.std.proofs.Common.{rules, refl, sym, ◌∙◌}
+use Rattle.hera_syntax.specs.Grammar as phrases
+use Rattle.hera_parser.proofs.Steps.{choose, next, stops, as_marks}
+use Rattle.hera_parser.proofs.Choices.{told, other}
+use Rattle.hera_parser.proofs.parser.Parser.agg.Goals as goal
+
+pub returns-in_err-count-clause-sticks : goal.returns-in_err-count-clause-sticks
+returns-in_err-count-clause-sticks c h = stops (choose phrases.agg 0 (told phrases.agg 0 refl (sym c.next_is.ensures ∙ c.if-next_is.true))) (c.in_err-count.ensures.sticks (search rules))
+
+pub returns-then-next_is-clause-reads : goal.returns-then-next_is-clause-reads
+returns-then-next_is-clause-reads c = as_marks c.count.ensures (next (choose phrases.agg 0 (told phrases.agg 0 refl (sym c.next_is.ensures ∙ c.if-next_is.true))) c.in_ok-count.ensures.reads)
+
+pub returns-in_err-word-clause-sticks : goal.returns-in_err-word-clause-sticks
+returns-in_err-word-clause-sticks c h = stops (choose phrases.agg 1 (other phrases.agg ((sym c.next_is.ensures ∙ c.if-next_is.false), tt))) (c.in_err-word.ensures.sticks (search rules))
+
+pub returns-in_err-bracket-clause-sticks : goal.returns-in_err-bracket-clause-sticks
+returns-in_err-bracket-clause-sticks c h = stops (next (choose phrases.agg 1 (other phrases.agg ((sym c.next_is.ensures ∙ c.if-next_is.false), tt))) c.in_ok-word.ensures.reads) (c.in_err-bracket.ensures.sticks (search rules))
+
+pub returns-in_err-name-clause-sticks : goal.returns-in_err-name-clause-sticks
+returns-in_err-name-clause-sticks c h = stops (next (next (choose phrases.agg 1 (other phrases.agg ((sym c.next_is.ensures ∙ c.if-next_is.false), tt))) c.in_ok-word.ensures.reads) c.in_ok-bracket.ensures.reads) (c.in_err-name.ensures.sticks (search rules))
+
+pub returns-in_err-skip-clause-sticks : goal.returns-in_err-skip-clause-sticks
+returns-in_err-skip-clause-sticks c h = stops (next (next (next (choose phrases.agg 1 (other phrases.agg ((sym c.next_is.ensures ∙ c.if-next_is.false), tt))) c.in_ok-word.ensures.reads) c.in_ok-bracket.ensures.reads) c.in_ok-name.ensures.reads) (c.in_err-skip.ensures.sticks (search rules))
+
+pub returns-clause-reads : goal.returns-clause-reads
+returns-clause-reads c = as_marks c.in_ok-agg_of.ensures (next (next (next (next (choose phrases.agg 1 (other phrases.agg ((sym c.next_is.ensures ∙ c.if-next_is.false), tt))) c.in_ok-word.ensures.reads) c.in_ok-bracket.ensures.reads) c.in_ok-name.ensures.reads) c.in_ok-skip.ensures.reads)

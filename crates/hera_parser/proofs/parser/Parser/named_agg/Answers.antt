@@ -1,0 +1,16 @@
+use Rattle.std.proofs.Common.{rules, refl}
+use Rattle.hera_syntax.specs.Grammar as phrases
+use Rattle.hera_parser.proofs.Steps.{choose, next, stops, as_marks}
+use Rattle.hera_parser.proofs.parser.Parser.named_agg.Goals as goal
+
+pub returns-in_err-name-clause-sticks : goal.returns-in_err-name-clause-sticks
+returns-in_err-name-clause-sticks c h = stops (choose phrases.named_agg 0 (record { number = refl })) (c.in_err-name.ensures.sticks (search rules))
+
+pub returns-in_err-skip-clause-sticks : goal.returns-in_err-skip-clause-sticks
+returns-in_err-skip-clause-sticks c h = stops (next (choose phrases.named_agg 0 (record { number = refl })) c.in_ok-name.ensures.reads) (c.in_err-skip.ensures.sticks (search rules))
+
+pub returns-in_err-agg-clause-sticks : goal.returns-in_err-agg-clause-sticks
+returns-in_err-agg-clause-sticks c h = stops (next (next (choose phrases.named_agg 0 (record { number = refl })) c.in_ok-name.ensures.reads) c.in_ok-skip.ensures.reads) (c.in_err-agg.ensures.sticks (search rules))
+
+pub returns-clause-reads : goal.returns-clause-reads
+returns-clause-reads c = as_marks c.new.ensures (next (next (next (choose phrases.named_agg 0 (record { number = refl })) c.in_ok-name.ensures.reads) c.in_ok-skip.ensures.reads) c.in_ok-agg.ensures.reads)

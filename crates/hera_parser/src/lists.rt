@@ -1,0 +1,118 @@
+// Names, renamings and aggregates.
+
+ghost use Rattle.std.specs.Prelude.{◌≡◌, ◌<◌, ◌≤◌, [], ◌∷◌, length, IfOk, OnOk, IsErrOf};
+ghost use Rattle.hera_syntax.specs.Grammar.{phrase};
+ghost use Rattle.hera_syntax.specs.Grammar as phrases;
+ghost use Rattle.hera_syntax.specs.Outline.{agg_outline, aggs_outline, field_outline, named_agg_outline, names_outline, renaming_outline, renamings_outline};
+ghost use Rattle.hera_parser.specs.Reading.{Gives, Sticks};
+
+use crate::parser::{Parser, Stop};
+use crate::terminals::{CLOSE_PAREN, COMMA, COUNT, DOT, EQUALS, FOLD_WORDS, NAME, PAREN};
+use hera_syntax::{AggTree, NamedAgg, NamedAggs, Names, Renaming, Renamings, Token};
+use std::alloc::Global;
+
+impl<'a> Parser<'a> {
+    /// `name (',' name)*`
+    pub fn names(&mut self, alloc: Global) -> Result<Names, Stop>
+        ensures reads { IfOk result (λ tree. Gives (phrase phrases.names ∷ []) self.old (names_outline tree) [] self.new) }
+        ensures sticks { IsErrOf result Stop.Syntax → Sticks (phrase phrases.names ∷ []) self.old self.new }
+        ensures shorter { OnOk result (length self.new < length self.old) }
+    {
+        let first = self.keep(NAME)?;
+        let mut rest = Vec::new(alloc);
+        'rest: while self.next_is(&[COMMA]) {
+            self.skip(COMMA)?;
+            let item = self.keep(NAME)?;
+            rest.push(item)?;
+        }
+        Ok(Names::new(first, rest))
+    }
+
+    /// `name '=' name`
+    fn renaming(&mut self) -> Result<Renaming, Stop>
+        ensures reads { IfOk result (λ tree. Gives (phrase phrases.renaming ∷ []) self.old (renaming_outline tree) [] self.new) }
+        ensures sticks { IsErrOf result Stop.Syntax → Sticks (phrase phrases.renaming ∷ []) self.old self.new }
+        ensures shorter { OnOk result (length self.new < length self.old) }
+    {
+        let new = self.expect(NAME)?;
+        self.skip(EQUALS)?;
+        let old = self.expect(NAME)?;
+        Ok(hera_trees::renaming(new, old)?)
+    }
+
+    /// `name '=' name (',' name '=' name)*`
+    pub fn renamings(&mut self, alloc: Global) -> Result<Renamings, Stop>
+        ensures reads { IfOk result (λ tree. Gives (phrase phrases.renamings ∷ []) self.old (renamings_outline tree) [] self.new) }
+        ensures sticks { IsErrOf result Stop.Syntax → Sticks (phrase phrases.renamings ∷ []) self.old self.new }
+        ensures shorter { OnOk result (length self.new < length self.old) }
+    {
+        let first = self.renaming()?;
+        let mut rest = Vec::new(alloc);
+        'rest: while self.next_is(&[COMMA]) {
+            self.skip(COMMA)?;
+            let item = self.renaming()?;
+            rest.push(item)?;
+        }
+        Ok(Renamings::new(first, rest))
+    }
+
+    /// `'count' | ('sum' | 'min' | 'max') '(' name ')'`
+    fn agg(&mut self) -> Result<AggTree, Stop>
+        ensures reads { IfOk result (λ tree. Gives (phrase phrases.agg ∷ []) self.old (agg_outline tree) [] self.new) }
+        ensures sticks { IsErrOf result Stop.Syntax → Sticks (phrase phrases.agg ∷ []) self.old self.new }
+        ensures shorter { OnOk result (length self.new < length self.old) }
+    {
+        if self.next_is(COUNT) {
+            let count = self.keep(COUNT)?;
+            return Ok(AggTree::count(count));
+        }
+        let word = self.expect(FOLD_WORDS)?;
+        let bracket = self.expect(PAREN)?;
+        let name = self.expect(NAME)?;
+        self.skip(CLOSE_PAREN)?;
+        Ok(hera_trees::agg_of(word, bracket, name)?)
+    }
+
+    /// `name '=' agg`
+    fn named_agg(&mut self) -> Result<NamedAgg, Stop>
+        ensures reads { IfOk result (λ tree. Gives (phrase phrases.named_agg ∷ []) self.old (named_agg_outline tree) [] self.new) }
+        ensures sticks { IsErrOf result Stop.Syntax → Sticks (phrase phrases.named_agg ∷ []) self.old self.new }
+        ensures shorter { OnOk result (length self.new < length self.old) }
+    {
+        let name = self.keep(NAME)?;
+        self.skip(EQUALS)?;
+        let agg = self.agg()?;
+        Ok(NamedAgg::new(name, agg))
+    }
+
+    /// `name '=' agg (',' name '=' agg)*`
+    pub fn aggs(&mut self, alloc: Global) -> Result<NamedAggs, Stop>
+        ensures reads { IfOk result (λ tree. Gives (phrase phrases.aggs ∷ []) self.old (aggs_outline tree) [] self.new) }
+        ensures sticks { IsErrOf result Stop.Syntax → Sticks (phrase phrases.aggs ∷ []) self.old self.new }
+        ensures shorter { OnOk result (length self.new < length self.old) }
+    {
+        let first = self.named_agg()?;
+        let mut rest = Vec::new(alloc);
+        'rest: while self.next_is(&[COMMA]) {
+            self.skip(COMMA)?;
+            let item = self.named_agg()?;
+            rest.push(item)?;
+        }
+        Ok(NamedAggs::new(first, rest))
+    }
+
+    /// `('.' name)?`, beside the part that stands before it.
+    pub fn field_behind<T: Drop>(&mut self, part: T) -> Result<(T, Option<Token>), Stop>
+        ensures same { IfOk result (λ both. both.0 ≡ part) }
+        ensures reads { IfOk result (λ both. Gives (phrase phrases.field ∷ []) self.old (field_outline both.1) [] self.new) }
+        ensures sticks { IsErrOf result Stop.Syntax → Sticks (phrase phrases.field ∷ []) self.old self.new }
+        ensures no_longer { OnOk result (length self.new ≤ length self.old) }
+    {
+        if !self.next_is(&[DOT]) {
+            return Ok((part, None));
+        }
+        self.skip(DOT)?;
+        let name = self.keep(NAME)?;
+        Ok((part, Some(name)))
+    }
+}

@@ -1,0 +1,127 @@
+ghost use Rattle.std.specs.Prelude.{◌≡◌, ◌≤◌, ◌<◌, [], ◌∷◌, length, List, drop, IfOk, OnOk, IsErrOf};
+ghost use Rattle.hera_syntax.specs.Grammar.{keep, leave};
+ghost use Rattle.hera_syntax.specs.Outline.{hold, skip};
+ghost use Rattle.hera_syntax.specs.declared.token.Token.{Token};
+ghost use Rattle.hera_parser.specs.Reading.{stands, next_terminal, Gives, Sticks};
+
+use hera_syntax::{Terminal, Token};
+use std::alloc::{AllocError, AllocFailed};
+use std::marker::Model;
+
+/// Why the reading stops.
+#[derive(Debug, Drop)]
+pub enum Stop {
+    /// The next token cannot stand here.
+    Syntax,
+    /// No memory for the tree.
+    Memory,
+}
+
+impl From<AllocError> for Stop {
+    ghost from_gives = { λ _ e. e ≡ Memory };
+
+    ghost use Rattle.hera_parser.specs.declared.parser.Stop.TheVariants.{Memory};
+
+    fn from(_: AllocError) -> Stop {
+        Stop::Memory
+    }
+}
+
+impl<T: Drop> From<AllocFailed<T>> for Stop {
+    ghost from_gives = { λ _ e. e ≡ Memory };
+
+    ghost use Rattle.hera_parser.specs.declared.parser.Stop.TheVariants.{Memory};
+
+    fn from(_: AllocFailed<T>) -> Stop {
+        Stop::Memory
+    }
+}
+
+/// Reads tokens from the left. A clause sees the tokens that are left.
+#[derive(Drop)]
+pub struct Parser<'a> {
+    tokens: &'a [Token],
+    at: usize,
+}
+
+impl<'a> Model for Parser<'a> {
+    ghost Value = { List Token };
+
+    ghost view = { λ p. drop p.at p.tokens.now };
+
+    ghost invariant = { λ p. p.at ≤ length p.tokens.now };
+}
+
+impl<'a> Parser<'a> {
+    /// At the first token.
+    pub fn new(tokens: &'a [Token]) -> Parser<'a>
+        ensures { result ≡ tokens.now }
+    {
+        Parser { tokens, at: 0 }
+    }
+
+    /// How many tokens are left.
+    pub fn left(&self) -> usize
+        ensures { result ≡ length self.now }
+    {
+        self.tokens.len() - self.at
+    }
+
+    /// Whether the next token is one of these.
+    pub fn next_is(&self, terminals: &[Terminal]) -> bool
+        ensures { result ≡ stands terminals.now (next_terminal self.now) }
+    {
+        if self.at < self.tokens.len() {
+            return self.tokens[self.at].kind.terminal().is_one_of(terminals);
+        }
+        false
+    }
+
+    /// Takes the next token, which has to be one of these.
+    pub fn expect(&mut self, terminals: &[Terminal]) -> Result<&'a Token, Stop>
+        ensures reads { IfOk result (λ t. Gives (keep terminals.now ∷ []) self.old (hold t.now) [] self.new) }
+        ensures sticks { IsErrOf result Stop.Syntax → Sticks (keep terminals.now ∷ []) self.old self.new }
+        ensures shorter { OnOk result (length self.new < length self.old) }
+    {
+        if !self.next_is(terminals) {
+            return Err(Stop::Syntax);
+        }
+        let token = &self.tokens[self.at];
+        self.at += 1;
+        Ok(token)
+    }
+
+    /// A copy of the next token, which has to be one of these and is taken.
+    pub fn keep(&mut self, terminals: &[Terminal]) -> Result<Token, Stop>
+        ensures reads { IfOk result (λ t. Gives (keep terminals.now ∷ []) self.old (hold t) [] self.new) }
+        ensures sticks { IsErrOf result Stop.Syntax → Sticks (keep terminals.now ∷ []) self.old self.new }
+        ensures shorter { OnOk result (length self.new < length self.old) }
+    {
+        let token = self.expect(terminals)?;
+        Ok(token.copy()?)
+    }
+
+    /// Passes over the next token, which has to be this one.
+    pub fn skip(&mut self, terminal: Terminal) -> Result<(), Stop>
+        ensures reads { OnOk result (Gives (leave terminal ∷ []) self.old (skip terminal) [] self.new) }
+        ensures sticks { IsErrOf result Stop.Syntax → Sticks (leave terminal ∷ []) self.old self.new }
+        ensures shorter { OnOk result (length self.new < length self.old) }
+    {
+        if !self.next_is(&[terminal]) {
+            return Err(Stop::Syntax);
+        }
+        self.at += 1;
+        Ok(())
+    }
+
+    /// Passes over the next token, which has to be this one, and hands back the part that it ends.
+    pub fn ended_by<T: Drop>(&mut self, part: T, terminal: Terminal) -> Result<T, Stop>
+        ensures same { IfOk result (λ given. given ≡ part) }
+        ensures reads { OnOk result (Gives (leave terminal ∷ []) self.old (skip terminal) [] self.new) }
+        ensures sticks { IsErrOf result Stop.Syntax → Sticks (leave terminal ∷ []) self.old self.new }
+        ensures shorter { OnOk result (length self.new < length self.old) }
+    {
+        self.skip(terminal)?;
+        Ok(part)
+    }
+}

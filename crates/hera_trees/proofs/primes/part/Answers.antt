@@ -1,0 +1,13 @@
+use Rattle.std.proofs.Common.{◌++◌, ◌∙◌, ap, rules, Some, None, sym}
+use Rattle.std.specs.List.{flat_map}
+use Rattle.hera_syntax.specs.Grammar as phrases
+use Rattle.hera_syntax.specs.Outline.{expr_outline, hold, node, skip}
+use Rattle.hera_trees.proofs.primes.part.Goals as goal
+
+pub returns : goal.returns
+returns c =
+    c.part.ensures
+    ∙ ap (λ z. node phrases.prime 18 ++ hold z ++ hold c.in_ok-bracket.bracket ++ hold c.in_ok-name.name ++ skip phrases.comma ++ expr_outline c.in_ok-over.over.value ++ skip phrases.close_paren) c.in_ok-word.ensures
+    ∙ ap (λ z. node phrases.prime 18 ++ hold c.args.word.now ++ hold z ++ hold c.in_ok-name.name ++ skip phrases.comma ++ expr_outline c.in_ok-over.over.value ++ skip phrases.close_paren) c.in_ok-bracket.ensures
+    ∙ ap (λ z. node phrases.prime 18 ++ hold c.args.word.now ++ hold c.args.bracket.now ++ hold z ++ skip phrases.comma ++ expr_outline c.in_ok-over.over.value ++ skip phrases.close_paren) c.in_ok-name.ensures
+    ∙ ap (λ z. node phrases.prime 18 ++ hold c.args.word.now ++ hold c.args.bracket.now ++ hold c.args.name.now ++ skip phrases.comma ++ expr_outline z ++ skip phrases.close_paren) c.in_ok-over.ensures.ok

@@ -1,0 +1,12 @@
+use Rattle.std.proofs.Common.{◌++◌, ◌∙◌, ap, rules, Some, None, sym}
+use Rattle.std.specs.List.{flat_map}
+use Rattle.hera_syntax.specs.Grammar as phrases
+use Rattle.hera_syntax.specs.Outline.{expr_outline, hold, node, skip}
+use Rattle.hera_syntax.specs.Programs.{block_outline}
+use Rattle.hera_trees.proofs.stmts.repeat.Goals as goal
+
+pub returns : goal.returns
+returns c =
+    c.repeat.ensures
+    ∙ ap (λ z. node phrases.stmt 3 ++ hold z ++ hold c.in_ok-bracket.bracket ++ expr_outline c.args.condition ++ skip phrases.close_paren ++ block_outline c.args.block) c.in_ok-word.ensures
+    ∙ ap (λ z. node phrases.stmt 3 ++ hold c.args.word.now ++ hold z ++ expr_outline c.args.condition ++ skip phrases.close_paren ++ block_outline c.args.block) c.in_ok-bracket.ensures
