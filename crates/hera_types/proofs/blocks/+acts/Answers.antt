@@ -1,0 +1,402 @@
+use Rattle.std.proofs.Common.{◌≡◌, ◌+◌, sym, ap, ◌∙◌, refl, arith, drop, [], ◌∷◌, ◌++◌}
+use Rattle.std.specs.Prelude.{Ok}
+use Rattle.hera_meaning.specs.declared.trees.Stmt.TheVariants.{Commit, Rollback}
+use Rattle.hera_meaning.specs.declared.trees.Stmt.TheViews as stmt_view
+use Rattle.hera_meaning.specs.Trees.{foreach, commit, rollback}
+use Rattle.hera_meaning.specs.Plain.{command_of, expr_of}
+use Rattle.hera_meaning.proofs.PlainLaws.{command_of-If, command_of-Foreach, command_of-Commit, command_of-Rollback}
+use Rattle.hera_rules.proofs.ReadActLaws.{act_of-Commit, act_of-Rollback}
+use Rattle.hera_rules.specs.declared.env.Typed.{Typed}
+use Rattle.hera_rules.specs.Agrees.{typing_of}
+use Rattle.hera_rules.specs.Environments.{env_of}
+use Rattle.hera_rules.specs.Phrases.{Branches, no_branch, branch, choosing, no_act, committing, rolling_back}
+use Rattle.hera_rules.specs.Read.{expr_phrase, word_of}
+use Rattle.hera_rules.specs.ReadActs.{act_of, acts_in, block_acts, branches_in, last_in}
+use Rattle.hera_rules.specs.Rules.{variable_row}
+use Rattle.hera_rules.specs.Typing.{slots_of}
+use Rattle.hera_rules.specs.Checked.{check}
+use Rattle.hera_rules.specs.Commands.{done, block_from, effect_row}
+use Rattle.hera_rules.specs.Statements.{slots_of_act, slots_of_acts, slots_of_branches}
+use Rattle.hera_rules.specs.CheckedActs.{stays, check_act, check_acts, check_branches}
+use Rattle.hera_typing_parts.proofs.Giving.{gives_err}
+use Rattle.hera_types.specs.Scopes.{commands_of, commands_in, armed_in}
+use Rattle.hera_types.proofs.Block_lemmas.{act_row, act_err, arm_at, arms_begin, if_done, while_done, choose_act, loop_act, visit_act, extends_none, extends_one, extends_on, cut_back, block_of_commands, acts_more, acts_none, branches_more, branches_none, commands_more, armed_more, acts_turn, acts_stop, acts_end, branches_turn, branches_stop, branches_end, choose_arm_breaks, choose_last_breaks, loop_breaks, visit_operand, visit_variable, visit_body, visit_done}
+use Rattle.hera_types.proofs.blocks.+acts.Goals as goal
+
+pub block-loop-stmt-preserved : goal.block-loop-stmt-preserved
+block-loop-stmt-preserved t c =
+    let inv = c.loop-stmt.invariant in
+    let more = acts_more c.deref-stmt-items.result.now c.loop-stmt.stmt-index c.stmt-item.result c.loop-stmt-test.true c.stmt-item.is in
+    let s = c.in_ok-core.ensures in
+    record {
+      checked = inv.checked ∙ acts_turn (env_of c.args.globals.now) c.args.returned.now c.loop-stmt.scope.locals.items c.loop-stmt.scope.next (commands_in c.loop-stmt.all.items)
+          more s.checks s.next (commands_more c.loop-stmt.all.items c.in_ok-core.core c.in_ok-put.ensures);
+      locals = extends_on inv.locals s.grows;
+      slots = omega (arith, inv.slots, s.next, ap slots_of_acts more);
+    }
+
+pub block-returns-in_err-core-clause-checks : goal.block-returns-in_err-core-clause-checks
+block-returns-in_err-core-clause-checks t c =
+    let g = env_of c.args.globals.now in
+    let r = c.args.returned.now in
+    let inv = c.loop-stmt.invariant in
+    let more = acts_more c.deref-stmt-items.result.now c.loop-stmt.stmt-index c.stmt-item.result c.loop-stmt-test.true c.stmt-item.is in
+    gives_err commands_of _ c.from_residual.ensures.1 (λ ne.
+    ap (λ xs. check_acts g r c.args.scope.now.locals.items c.args.scope.now.next [] (acts_in xs)) (sym c.deref-stmt-items.ensures.value) ∙ inv.checked
+    ∙ acts_stop g r c.loop-stmt.scope.locals.items c.loop-stmt.scope.next (commands_in c.loop-stmt.all.items) more (c.in_err-core.ensures.checks ne))
+
+pub block-returns-clause-checks : goal.block-returns-clause-checks
+block-returns-clause-checks t c =
+    let g = env_of c.args.globals.now in
+    let r = c.args.returned.now in
+    let inv = c.loop-stmt.invariant in
+    ap (λ xs. check_acts g r c.args.scope.now.locals.items c.args.scope.now.next [] (acts_in xs)) (sym c.deref-stmt-items.ensures.value) ∙ inv.checked
+    ∙ acts_end g r c.loop-stmt.scope.locals.items c.loop-stmt.scope.next (commands_in c.loop-stmt.all.items) (acts_none c.deref-stmt-items.result.now c.loop-stmt.stmt-index c.loop-stmt-test.false)
+
+pub block-returns-clause-keeps : goal.block-returns-clause-keeps
+block-returns-clause-keeps t c =
+    let inv = c.loop-stmt.invariant in
+    let whole = ap (λ xs. slots_of_acts (acts_in xs)) c.deref-stmt-items.ensures.value in
+    let none = ap slots_of_acts (acts_none c.deref-stmt-items.result.now c.loop-stmt.stmt-index c.loop-stmt-test.false) in
+    record {
+      locals = c.leave.ensures.locals ∙ cut_back inv.locals (c.len-depth.ensures ∙ c.args.scope.now.locals.ok.0);
+      next = omega (arith, inv.slots, whole, none, c.leave.ensures.next);
+    }
+
+pub statement-loop-next-init : goal.statement-loop-next-init
+statement-loop-next-init t c = record { checked = refl; locals = c.in_ok-front-in-If.ensures.keeps.locals; slots = refl }
+
+pub statement-loop-next-preserved : goal.statement-loop-next-preserved
+statement-loop-next-preserved t c =
+    let g = env_of c.args.globals.now in
+    let r = c.args.returned.now in
+    let ls = c.args.scope.now.locals.items in
+    let n = c.args.scope.now.next in
+    let inv = c.loop-next.invariant in
+    let x = c.next-item.result in
+    let more = branches_more c.deref-next-items.result.now c.loop-next.next-index x c.loop-next-test.true c.next-item.is in
+    let a = c.in_ok-more-in-If.ensures in
+    record {
+      checked = inv.checked ∙ branches_turn g r ls c.loop-next.scope.next (armed_in c.loop-next.arms.items) more
+          (arm_at g r c.loop-next.scope.next x.word.at (expr_phrase x.condition) (block_acts x.block) inv.locals a.checks) a.keeps.next (armed_more c.loop-next.arms.items c.in_ok-more-in-If.more c.in_ok-put-in-If-2.ensures);
+      locals = a.keeps.locals ∙ inv.locals;
+      slots = omega (arith, inv.slots, a.keeps.next, ap slots_of_branches more);
+    }
+
+pub statement-returns-in_err-front-in-If-clause-checks : goal.statement-returns-in_err-front-in-If-clause-checks
+statement-returns-in_err-front-in-If-clause-checks t c =
+    let g = env_of c.args.globals.now in
+    let r = c.args.returned.now in
+    let ls = c.args.scope.now.locals.items in
+    let n = c.args.scope.now.next in
+    let rest = branches_in c.in-If.else_ifs.items in
+    let whole : Branches = branch c.in-If.word.at (expr_phrase c.in-If.condition) (block_acts c.in-If.first) rest in
+    let read : act_of c.args.e.now ≡ choosing whole (last_in c.in-If.last) = choose_act c.in-If.word _ c.in-If.condition c.in-If.first c.in-If.else_ifs c.in-If.last c.in-If.is in
+    let same : whole ≡ branch c.in-If.word.at (expr_phrase c.in-If.condition) (block_acts c.in-If.first) rest = refl in
+    act_err g r ls n (act_of c.args.e.now) _ _ c.from_residual.ensures.1 (λ ne. choose_arm_breaks g r ls n read (branches_stop g r ls n [] same (c.in_err-front-in-If.ensures.checks ne)))
+
+pub statement-returns-in_err-more-in-If-clause-checks : goal.statement-returns-in_err-more-in-If-clause-checks
+statement-returns-in_err-more-in-If-clause-checks t c =
+    let g = env_of c.args.globals.now in
+    let r = c.args.returned.now in
+    let ls = c.args.scope.now.locals.items in
+    let n = c.args.scope.now.next in
+    let rest = branches_in c.in-If.else_ifs.items in
+    let whole : Branches = branch c.in-If.word.at (expr_phrase c.in-If.condition) (block_acts c.in-If.first) rest in
+    let read : act_of c.args.e.now ≡ choosing whole (last_in c.in-If.last) = choose_act c.in-If.word _ c.in-If.condition c.in-If.first c.in-If.else_ifs c.in-If.last c.in-If.is in
+    let inv = c.loop-next.invariant in
+    let xs = c.deref-next-items.result.now in
+    let front = c.in_ok-front-in-If in
+    let all = c.loop-next.arms.items in
+    let begun : check_branches g r ls n [] whole ≡ check_branches g r ls c.loop-next.scope.next (armed_in all) (branches_in (drop c.loop-next.next-index xs)) =
+    arms_begin g r ls n c.in-If.word.at (expr_phrase c.in-If.condition) (block_acts c.in-If.first) rest front.front front.ensures.checks front.ensures.keeps.next c.new-arms.ensures.items c.in_ok-put-in-If.ensures
+    ∙ ap (λ ys. check_branches g r ls c.arm.new.scope.next (armed_in c.put.new.items.items) (branches_in ys)) (sym c.deref-next-items.ensures.value) ∙ inv.checked in
+    let x = c.next-item.result in
+    let more = branches_more xs c.loop-next.next-index x c.loop-next-test.true c.next-item.is in
+    act_err g r ls n (act_of c.args.e.now) _ _ c.from_residual-in_err-more-in-If.ensures.1 (λ ne. choose_arm_breaks g r ls n read
+    (begun ∙ branches_stop g r ls c.loop-next.scope.next (armed_in all) more
+    (arm_at g r c.loop-next.scope.next x.word.at (expr_phrase x.condition) (block_acts x.block) inv.locals (c.in_err-more-in-If.ensures.checks ne))))
+
+pub statement-returns-in_err-other-in-Some-clause-checks : goal.statement-returns-in_err-other-in-Some-clause-checks
+statement-returns-in_err-other-in-Some-clause-checks t c =
+    let g = env_of c.args.globals.now in
+    let r = c.args.returned.now in
+    let ls = c.args.scope.now.locals.items in
+    let n = c.args.scope.now.next in
+    let rest = branches_in c.in-If.else_ifs.items in
+    let whole : Branches = branch c.in-If.word.at (expr_phrase c.in-If.condition) (block_acts c.in-If.first) rest in
+    let read : act_of c.args.e.now ≡ choosing whole (last_in c.in-If.last) = choose_act c.in-If.word _ c.in-If.condition c.in-If.first c.in-If.else_ifs c.in-If.last c.in-If.is in
+    let inv = c.loop-next.invariant in
+    let xs = c.deref-next-items.result.now in
+    let front = c.in_ok-front-in-If in
+    let all = c.loop-next.arms.items in
+    let begun : check_branches g r ls n [] whole ≡ check_branches g r ls c.loop-next.scope.next (armed_in all) (branches_in (drop c.loop-next.next-index xs)) =
+    arms_begin g r ls n c.in-If.word.at (expr_phrase c.in-If.condition) (block_acts c.in-If.first) rest front.front front.ensures.checks front.ensures.keeps.next c.new-arms.ensures.items c.in_ok-put-in-If.ensures
+    ∙ ap (λ ys. check_branches g r ls c.arm.new.scope.next (armed_in c.put.new.items.items) (branches_in ys)) (sym c.deref-next-items.ensures.value) ∙ inv.checked in
+    let none : branches_in (drop c.loop-next.next-index xs) ≡ no_branch = branches_none xs c.loop-next.next-index c.loop-next-test.false in
+    let arms : check_branches g r ls n [] whole ≡ Ok (armed_in all) = begun ∙ branches_end g r ls c.loop-next.scope.next (armed_in all) none in
+    let slots = ap (λ ys. slots_of_branches (branches_in ys)) c.deref-next-items.ensures.value in
+    let count : c.loop-next.scope.next ≡ n + slots_of_branches whole = omega (arith, inv.slots, ap slots_of_branches none, slots, front.ensures.keeps.next) in
+    let inner = c.in-Some.inner in
+    let last : act_of c.args.e.now ≡ choosing whole (block_acts inner) = read ∙ ap (λ l. choosing whole (last_in l)) c.in-Some.is in
+    act_err g r ls n (act_of c.args.e.now) _ _ c.from_residual-in_err-other-in-Some.ensures.1 (λ ne. choose_last_breaks g r ls n last arms count
+    (ap (λ ls. check_acts g r ls c.loop-next.scope.next [] (block_acts inner)) (sym inv.locals) ∙ c.in_err-other-in-Some.ensures.checks ne))
+
+pub statement-returns-in_ok-other-in-Some-clause-checks : goal.statement-returns-in_ok-other-in-Some-clause-checks
+statement-returns-in_ok-other-in-Some-clause-checks t c =
+    let g = env_of c.args.globals.now in
+    let r = c.args.returned.now in
+    let ls = c.args.scope.now.locals.items in
+    let n = c.args.scope.now.next in
+    let rest = branches_in c.in-If.else_ifs.items in
+    let whole : Branches = branch c.in-If.word.at (expr_phrase c.in-If.condition) (block_acts c.in-If.first) rest in
+    let read : act_of c.args.e.now ≡ choosing whole (last_in c.in-If.last) = choose_act c.in-If.word _ c.in-If.condition c.in-If.first c.in-If.else_ifs c.in-If.last c.in-If.is in
+    let inv = c.loop-next.invariant in
+    let xs = c.deref-next-items.result.now in
+    let front = c.in_ok-front-in-If in
+    let all = c.loop-next.arms.items in
+    let begun : check_branches g r ls n [] whole ≡ check_branches g r ls c.loop-next.scope.next (armed_in all) (branches_in (drop c.loop-next.next-index xs)) =
+    arms_begin g r ls n c.in-If.word.at (expr_phrase c.in-If.condition) (block_acts c.in-If.first) rest front.front front.ensures.checks front.ensures.keeps.next c.new-arms.ensures.items c.in_ok-put-in-If.ensures
+    ∙ ap (λ ys. check_branches g r ls c.arm.new.scope.next (armed_in c.put.new.items.items) (branches_in ys)) (sym c.deref-next-items.ensures.value) ∙ inv.checked in
+    let none : branches_in (drop c.loop-next.next-index xs) ≡ no_branch = branches_none xs c.loop-next.next-index c.loop-next-test.false in
+    let arms : check_branches g r ls n [] whole ≡ Ok (armed_in all) = begun ∙ branches_end g r ls c.loop-next.scope.next (armed_in all) none in
+    let slots = ap (λ ys. slots_of_branches (branches_in ys)) c.deref-next-items.ensures.value in
+    let count : c.loop-next.scope.next ≡ n + slots_of_branches whole = omega (arith, inv.slots, ap slots_of_branches none, slots, front.ensures.keeps.next) in
+    let inner = c.in-Some.inner in
+    let last : act_of c.args.e.now ≡ choosing whole (block_acts inner) = read ∙ ap (λ l. choosing whole (last_in l)) c.in-Some.is in
+    let other = c.in_ok-other-in-Some in
+    if_done g r ls n all other.other.items c.block.new.scope.locals.items (stmt_view.If c.loop-next.arms other.other) last arms count
+    (ap (λ ls. check_acts g r ls c.loop-next.scope.next [] (block_acts inner)) (sym inv.locals) ∙ other.ensures.checks)
+    (other.ensures.keeps.locals ∙ inv.locals) (command_of-If c.loop-next.arms other.other)
+
+pub statement-returns-in_ok-other-in-Some-clause-next : goal.statement-returns-in_ok-other-in-Some-clause-next
+statement-returns-in_ok-other-in-Some-clause-next t c =
+    let g = env_of c.args.globals.now in
+    let r = c.args.returned.now in
+    let ls = c.args.scope.now.locals.items in
+    let n = c.args.scope.now.next in
+    let rest = branches_in c.in-If.else_ifs.items in
+    let whole : Branches = branch c.in-If.word.at (expr_phrase c.in-If.condition) (block_acts c.in-If.first) rest in
+    let read : act_of c.args.e.now ≡ choosing whole (last_in c.in-If.last) = choose_act c.in-If.word _ c.in-If.condition c.in-If.first c.in-If.else_ifs c.in-If.last c.in-If.is in
+    let inv = c.loop-next.invariant in
+    let xs = c.deref-next-items.result.now in
+    let front = c.in_ok-front-in-If in
+    let all = c.loop-next.arms.items in
+    let begun : check_branches g r ls n [] whole ≡ check_branches g r ls c.loop-next.scope.next (armed_in all) (branches_in (drop c.loop-next.next-index xs)) =
+    arms_begin g r ls n c.in-If.word.at (expr_phrase c.in-If.condition) (block_acts c.in-If.first) rest front.front front.ensures.checks front.ensures.keeps.next c.new-arms.ensures.items c.in_ok-put-in-If.ensures
+    ∙ ap (λ ys. check_branches g r ls c.arm.new.scope.next (armed_in c.put.new.items.items) (branches_in ys)) (sym c.deref-next-items.ensures.value) ∙ inv.checked in
+    let none : branches_in (drop c.loop-next.next-index xs) ≡ no_branch = branches_none xs c.loop-next.next-index c.loop-next-test.false in
+    let arms : check_branches g r ls n [] whole ≡ Ok (armed_in all) = begun ∙ branches_end g r ls c.loop-next.scope.next (armed_in all) none in
+    let slots = ap (λ ys. slots_of_branches (branches_in ys)) c.deref-next-items.ensures.value in
+    let count : c.loop-next.scope.next ≡ n + slots_of_branches whole = omega (arith, inv.slots, ap slots_of_branches none, slots, front.ensures.keeps.next) in
+    let inner = c.in-Some.inner in
+    let last : act_of c.args.e.now ≡ choosing whole (block_acts inner) = read ∙ ap (λ l. choosing whole (last_in l)) c.in-Some.is in
+    omega (arith, ap slots_of_act last, count, c.in_ok-other-in-Some.ensures.keeps.next)
+
+pub statement-returns-in_ok-other-in-Some-clause-grows : goal.statement-returns-in_ok-other-in-Some-clause-grows
+statement-returns-in_ok-other-in-Some-clause-grows t c = extends_none (c.in_ok-other-in-Some.ensures.keeps.locals ∙ c.loop-next.invariant.locals)
+
+pub statement-returns-in-None-clause-checks : goal.statement-returns-in-None-clause-checks
+statement-returns-in-None-clause-checks t c =
+    let g = env_of c.args.globals.now in
+    let r = c.args.returned.now in
+    let ls = c.args.scope.now.locals.items in
+    let n = c.args.scope.now.next in
+    let rest = branches_in c.in-If.else_ifs.items in
+    let whole : Branches = branch c.in-If.word.at (expr_phrase c.in-If.condition) (block_acts c.in-If.first) rest in
+    let read : act_of c.args.e.now ≡ choosing whole (last_in c.in-If.last) = choose_act c.in-If.word _ c.in-If.condition c.in-If.first c.in-If.else_ifs c.in-If.last c.in-If.is in
+    let inv = c.loop-next.invariant in
+    let xs = c.deref-next-items.result.now in
+    let front = c.in_ok-front-in-If in
+    let all = c.loop-next.arms.items in
+    let begun : check_branches g r ls n [] whole ≡ check_branches g r ls c.loop-next.scope.next (armed_in all) (branches_in (drop c.loop-next.next-index xs)) =
+    arms_begin g r ls n c.in-If.word.at (expr_phrase c.in-If.condition) (block_acts c.in-If.first) rest front.front front.ensures.checks front.ensures.keeps.next c.new-arms.ensures.items c.in_ok-put-in-If.ensures
+    ∙ ap (λ ys. check_branches g r ls c.arm.new.scope.next (armed_in c.put.new.items.items) (branches_in ys)) (sym c.deref-next-items.ensures.value) ∙ inv.checked in
+    let none : branches_in (drop c.loop-next.next-index xs) ≡ no_branch = branches_none xs c.loop-next.next-index c.loop-next-test.false in
+    let arms : check_branches g r ls n [] whole ≡ Ok (armed_in all) = begun ∙ branches_end g r ls c.loop-next.scope.next (armed_in all) none in
+    let slots = ap (λ ys. slots_of_branches (branches_in ys)) c.deref-next-items.ensures.value in
+    let count : c.loop-next.scope.next ≡ n + slots_of_branches whole = omega (arith, inv.slots, ap slots_of_branches none, slots, front.ensures.keeps.next) in
+    let last : act_of c.args.e.now ≡ choosing whole no_act = read ∙ ap (λ l. choosing whole (last_in l)) c.in-None.is in
+    let empty = c.new.result in
+    if_done g r ls n all empty.items c.loop-next.scope.locals.items (stmt_view.If c.loop-next.arms empty) last arms count
+    (ap (λ ss. Ok (commands_in ss)) (sym c.new.ensures.items)) inv.locals (command_of-If c.loop-next.arms empty)
+
+pub statement-returns-in-None-clause-next : goal.statement-returns-in-None-clause-next
+statement-returns-in-None-clause-next t c =
+    let g = env_of c.args.globals.now in
+    let r = c.args.returned.now in
+    let ls = c.args.scope.now.locals.items in
+    let n = c.args.scope.now.next in
+    let rest = branches_in c.in-If.else_ifs.items in
+    let whole : Branches = branch c.in-If.word.at (expr_phrase c.in-If.condition) (block_acts c.in-If.first) rest in
+    let read : act_of c.args.e.now ≡ choosing whole (last_in c.in-If.last) = choose_act c.in-If.word _ c.in-If.condition c.in-If.first c.in-If.else_ifs c.in-If.last c.in-If.is in
+    let inv = c.loop-next.invariant in
+    let xs = c.deref-next-items.result.now in
+    let front = c.in_ok-front-in-If in
+    let all = c.loop-next.arms.items in
+    let begun : check_branches g r ls n [] whole ≡ check_branches g r ls c.loop-next.scope.next (armed_in all) (branches_in (drop c.loop-next.next-index xs)) =
+    arms_begin g r ls n c.in-If.word.at (expr_phrase c.in-If.condition) (block_acts c.in-If.first) rest front.front front.ensures.checks front.ensures.keeps.next c.new-arms.ensures.items c.in_ok-put-in-If.ensures
+    ∙ ap (λ ys. check_branches g r ls c.arm.new.scope.next (armed_in c.put.new.items.items) (branches_in ys)) (sym c.deref-next-items.ensures.value) ∙ inv.checked in
+    let none : branches_in (drop c.loop-next.next-index xs) ≡ no_branch = branches_none xs c.loop-next.next-index c.loop-next-test.false in
+    let arms : check_branches g r ls n [] whole ≡ Ok (armed_in all) = begun ∙ branches_end g r ls c.loop-next.scope.next (armed_in all) none in
+    let slots = ap (λ ys. slots_of_branches (branches_in ys)) c.deref-next-items.ensures.value in
+    let count : c.loop-next.scope.next ≡ n + slots_of_branches whole = omega (arith, inv.slots, ap slots_of_branches none, slots, front.ensures.keeps.next) in
+    let last : act_of c.args.e.now ≡ choosing whole no_act = read ∙ ap (λ l. choosing whole (last_in l)) c.in-None.is in
+    omega (arith, ap slots_of_act last, count)
+
+pub statement-returns-in-None-clause-grows : goal.statement-returns-in-None-clause-grows
+statement-returns-in-None-clause-grows t c = extends_none c.loop-next.invariant.locals
+
+pub statement-returns-in_err-front-in-While-clause-checks : goal.statement-returns-in_err-front-in-While-clause-checks
+statement-returns-in_err-front-in-While-clause-checks t c =
+    let g = env_of c.args.globals.now in
+    let r = c.args.returned.now in
+    let ls = c.args.scope.now.locals.items in
+    let n = c.args.scope.now.next in
+    let read = loop_act c.in-While.word _ c.in-While.condition c.in-While.inner c.in-While.is in
+    act_err g r ls n (act_of c.args.e.now) _ _ c.from_residual-in_err-front-in-While.ensures.1 (λ ne. loop_breaks g r ls n read (c.in_err-front-in-While.ensures.checks ne))
+
+pub statement-returns-in_ok-front-in-While-clause-checks : goal.statement-returns-in_ok-front-in-While-clause-checks
+statement-returns-in_ok-front-in-While-clause-checks t c =
+    let g = env_of c.args.globals.now in
+    let r = c.args.returned.now in
+    let ls = c.args.scope.now.locals.items in
+    let n = c.args.scope.now.next in
+    let read = loop_act c.in-While.word _ c.in-While.condition c.in-While.inner c.in-While.is in
+    let front = c.in_ok-front-in-While in
+    while_done g r ls n front.front c.arm-in-While.new.scope.locals.items c.while_of.result read front.ensures.checks front.ensures.keeps.locals c.while_of.ensures
+
+pub statement-returns-in_ok-front-in-While-clause-next : goal.statement-returns-in_ok-front-in-While-clause-next
+statement-returns-in_ok-front-in-While-clause-next t c =
+    let read = loop_act c.in-While.word _ c.in-While.condition c.in-While.inner c.in-While.is in
+    omega (arith, ap slots_of_act read, c.in_ok-front-in-While.ensures.keeps.next)
+
+pub statement-returns-in_ok-front-in-While-clause-grows : goal.statement-returns-in_ok-front-in-While-clause-grows
+statement-returns-in_ok-front-in-While-clause-grows t c = extends_none c.in_ok-front-in-While.ensures.keeps.locals
+
+pub statement-returns-in_err-of-in-Foreach-clause-checks : goal.statement-returns-in_err-of-in-Foreach-clause-checks
+statement-returns-in_err-of-in-Foreach-clause-checks t c =
+    let g = env_of c.args.globals.now in
+    let r = c.args.returned.now in
+    let ls = c.args.scope.now.locals.items in
+    let n = c.args.scope.now.next in
+    let read = visit_act c.in-Foreach.word _ c.in-Foreach.name c.in-Foreach.over c.in-Foreach.inner c.in-Foreach.is in
+    let p = expr_phrase c.in-Foreach.over in
+    let slot = c.in_ok-slot-in-Foreach in
+    let took = slot.ensures.keeps in
+    act_err g r ls n (act_of c.args.e.now) _ _ c.from_residual-in_err-of-in-Foreach.ensures.1 (λ ne. visit_operand g r ls n read
+    (ap (λ ls. check g ls (n + 1) p) (sym took.locals) ∙ ap (λ m. check g c.take_slot.new.scope.locals.items m p) (sym took.next) ∙ c.in_err-of-in-Foreach.ensures.checks ne))
+
+pub statement-returns-in_err-local-in-Foreach-clause-checks : goal.statement-returns-in_err-local-in-Foreach-clause-checks
+statement-returns-in_err-local-in-Foreach-clause-checks t c =
+    let g = env_of c.args.globals.now in
+    let r = c.args.returned.now in
+    let ls = c.args.scope.now.locals.items in
+    let n = c.args.scope.now.next in
+    let read = visit_act c.in-Foreach.word _ c.in-Foreach.name c.in-Foreach.over c.in-Foreach.inner c.in-Foreach.is in
+    let p = expr_phrase c.in-Foreach.over in
+    let slot = c.in_ok-slot-in-Foreach in
+    let took = slot.ensures.keeps in
+    let typed : check g ls (n + 1) p ≡ Ok (typing_of c.in_ok-of-in-Foreach.of) =
+    ap (λ ls. check g ls (n + 1) p) (sym took.locals) ∙ ap (λ m. check g c.take_slot.new.scope.locals.items m p) (sym took.next) ∙ c.in_ok-of-in-Foreach.ensures.checks in
+    let of = c.in_ok-of-in-Foreach in
+    let same = of.ensures.keeps.locals ∙ took.locals in
+    act_err g r ls n (act_of c.args.e.now) _ _ c.from_residual-in_err-local-in-Foreach.ensures.1 (λ ne. visit_variable g r ls n read typed
+    (ap (λ ls. variable_row g ls (word_of c.in-Foreach.name) c.in-Foreach.word.at n of.of.shape) (sym (c.deref.ensures.value ∙ same))
+    ∙ ap (λ i. variable_row g c.deref.result.now (word_of c.in-Foreach.name) c.in-Foreach.word.at i of.of.shape) (sym slot.ensures.slot) ∙ c.in_err-local-in-Foreach.ensures ne))
+
+pub statement-returns-in_err-body-in-Foreach-clause-checks : goal.statement-returns-in_err-body-in-Foreach-clause-checks
+statement-returns-in_err-body-in-Foreach-clause-checks t c =
+    let g = env_of c.args.globals.now in
+    let r = c.args.returned.now in
+    let ls = c.args.scope.now.locals.items in
+    let n = c.args.scope.now.next in
+    let read = visit_act c.in-Foreach.word _ c.in-Foreach.name c.in-Foreach.over c.in-Foreach.inner c.in-Foreach.is in
+    let p = expr_phrase c.in-Foreach.over in
+    let slot = c.in_ok-slot-in-Foreach in
+    let took = slot.ensures.keeps in
+    let typed : check g ls (n + 1) p ≡ Ok (typing_of c.in_ok-of-in-Foreach.of) =
+    ap (λ ls. check g ls (n + 1) p) (sym took.locals) ∙ ap (λ m. check g c.take_slot.new.scope.locals.items m p) (sym took.next) ∙ c.in_ok-of-in-Foreach.ensures.checks in
+    let of = c.in_ok-of-in-Foreach in
+    let same = of.ensures.keeps.locals ∙ took.locals in
+    let variable : variable_row g ls (word_of c.in-Foreach.name) c.in-Foreach.word.at n of.of.shape ≡ Ok c.in_ok-local-in-Foreach.local =
+    ap (λ ls. variable_row g ls (word_of c.in-Foreach.name) c.in-Foreach.word.at n of.of.shape) (sym (c.deref.ensures.value ∙ same))
+    ∙ ap (λ i. variable_row g c.deref.result.now (word_of c.in-Foreach.name) c.in-Foreach.word.at i of.of.shape) (sym slot.ensures.slot) ∙ c.in_ok-local-in-Foreach.ensures in
+    let local = c.in_ok-local-in-Foreach.local in
+    let pushed : ls ++ local ∷ [] ≡ c.push_local.new.scope.locals.items = ap (λ ls. ls ++ local ∷ []) (sym same) ∙ sym c.in_ok-push_local-in-Foreach.ensures.locals in
+    let count : c.push_local.new.scope.next ≡ n + 1 + slots_of p = omega (arith, took.next, of.ensures.keeps.next, c.in_ok-push_local-in-Foreach.ensures.next) in
+    let acts = block_acts c.in-Foreach.inner in
+    act_err g r ls n (act_of c.args.e.now) _ _ c.from_residual-in_err-body-in-Foreach.ensures.1 (λ ne. visit_body g r ls n read typed variable count
+    (ap (λ ls. check_acts g r ls c.push_local.new.scope.next [] acts) pushed ∙ c.in_err-body-in-Foreach.ensures.checks ne))
+
+pub statement-returns-in_ok-body-in-Foreach-clause-checks : goal.statement-returns-in_ok-body-in-Foreach-clause-checks
+statement-returns-in_ok-body-in-Foreach-clause-checks t c =
+    let g = env_of c.args.globals.now in
+    let r = c.args.returned.now in
+    let ls = c.args.scope.now.locals.items in
+    let n = c.args.scope.now.next in
+    let read = visit_act c.in-Foreach.word _ c.in-Foreach.name c.in-Foreach.over c.in-Foreach.inner c.in-Foreach.is in
+    let p = expr_phrase c.in-Foreach.over in
+    let slot = c.in_ok-slot-in-Foreach in
+    let took = slot.ensures.keeps in
+    let typed : check g ls (n + 1) p ≡ Ok (typing_of c.in_ok-of-in-Foreach.of) =
+    ap (λ ls. check g ls (n + 1) p) (sym took.locals) ∙ ap (λ m. check g c.take_slot.new.scope.locals.items m p) (sym took.next) ∙ c.in_ok-of-in-Foreach.ensures.checks in
+    let of = c.in_ok-of-in-Foreach in
+    let same = of.ensures.keeps.locals ∙ took.locals in
+    let variable : variable_row g ls (word_of c.in-Foreach.name) c.in-Foreach.word.at n of.of.shape ≡ Ok c.in_ok-local-in-Foreach.local =
+    ap (λ ls. variable_row g ls (word_of c.in-Foreach.name) c.in-Foreach.word.at n of.of.shape) (sym (c.deref.ensures.value ∙ same))
+    ∙ ap (λ i. variable_row g c.deref.result.now (word_of c.in-Foreach.name) c.in-Foreach.word.at i of.of.shape) (sym slot.ensures.slot) ∙ c.in_ok-local-in-Foreach.ensures in
+    let local = c.in_ok-local-in-Foreach.local in
+    let pushed : ls ++ local ∷ [] ≡ c.push_local.new.scope.locals.items = ap (λ ls. ls ++ local ∷ []) (sym same) ∙ sym c.in_ok-push_local-in-Foreach.ensures.locals in
+    let count : c.push_local.new.scope.next ≡ n + 1 + slots_of p = omega (arith, took.next, of.ensures.keeps.next, c.in_ok-push_local-in-Foreach.ensures.next) in
+    let acts = block_acts c.in-Foreach.inner in
+    let body = c.in_ok-body-in-Foreach in
+    let left : c.leave.new.scope.locals.items ≡ ls = c.leave.ensures.locals ∙ cut_back (extends_one local (body.ensures.keeps.locals ∙ sym pushed)) (c.len-depth.ensures ∙ c.args.scope.now.locals.ok.0) in
+    let core : foreach n (expr_of of.of.core) (block_from (commands_in body.body.items)) ≡ command_of (stmt_view.Foreach slot.slot c.into_core.result body.body) =
+    ap (λ i. foreach i (expr_of of.of.core) (block_from (commands_in body.body.items))) (sym slot.ensures.slot)
+    ∙ ap (λ e. foreach slot.slot (expr_of e) (block_from (commands_in body.body.items))) (sym (c.into_core.ensures ∙ ap (λ (v : Typed). v.core) c.into_typed-typed.ensures))
+    ∙ ap (λ b. foreach slot.slot (expr_of c.into_core.result) b) (sym (block_of_commands body.body.items)) ∙ sym (command_of-Foreach slot.slot c.into_core.result body.body) in
+    visit_done g r ls n read typed variable count (ap (λ ls. check_acts g r ls c.push_local.new.scope.next [] acts) pushed ∙ body.ensures.checks)
+    ∙ ap (λ ls. Ok (done ls (foreach n (expr_of of.of.core) (block_from (commands_in body.body.items))))) (sym left) ∙ ap (λ s. Ok (done c.leave.new.scope.locals.items s)) core
+
+pub statement-returns-in_ok-body-in-Foreach-clause-next : goal.statement-returns-in_ok-body-in-Foreach-clause-next
+statement-returns-in_ok-body-in-Foreach-clause-next t c =
+    let n = c.args.scope.now.next in
+    let read = visit_act c.in-Foreach.word _ c.in-Foreach.name c.in-Foreach.over c.in-Foreach.inner c.in-Foreach.is in
+    let p = expr_phrase c.in-Foreach.over in
+    let slot = c.in_ok-slot-in-Foreach in
+    let took = slot.ensures.keeps in
+    omega (arith, ap slots_of_act read, took.next, c.in_ok-of-in-Foreach.ensures.keeps.next, c.in_ok-push_local-in-Foreach.ensures.next, c.in_ok-body-in-Foreach.ensures.keeps.next, c.leave.ensures.next)
+
+pub statement-returns-in_ok-body-in-Foreach-clause-grows : goal.statement-returns-in_ok-body-in-Foreach-clause-grows
+statement-returns-in_ok-body-in-Foreach-clause-grows t c =
+    let ls = c.args.scope.now.locals.items in
+    let same = c.in_ok-of-in-Foreach.ensures.keeps.locals ∙ c.in_ok-slot-in-Foreach.ensures.keeps.locals in
+    let local = c.in_ok-local-in-Foreach.local in
+    let pushed : ls ++ local ∷ [] ≡ c.push_local.new.scope.locals.items = ap (λ ls. ls ++ local ∷ []) (sym same) ∙ sym c.in_ok-push_local-in-Foreach.ensures.locals in
+    extends_none (c.leave.ensures.locals ∙ cut_back (extends_one local (c.in_ok-body-in-Foreach.ensures.keeps.locals ∙ sym pushed)) (c.len-depth.ensures ∙ c.args.scope.now.locals.ok.0))
+
+pub statement-returns-in-Commit-clause-checks : goal.statement-returns-in-Commit-clause-checks
+statement-returns-in-Commit-clause-checks t c =
+    let g = env_of c.args.globals.now in
+    let r = c.args.returned.now in
+    let ls = c.args.scope.now.locals.items in
+    let n = c.args.scope.now.next in
+    let at = c.in-Commit.word.at in
+    let read : act_of c.args.e.now ≡ committing at = ap act_of c.in-Commit.is ∙ act_of-Commit c.in-Commit.word in
+    act_row g r ls n ls c.effect_row_of.result (act_of c.args.e.now) (effect_row c.is_some.result at (command_of Commit))
+    (ap (λ a. check_act g r ls n a) read ∙ ap (λ b. stays ls (effect_row b at commit)) (sym c.is_some.ensures) ∙ ap (λ s. stays ls (effect_row c.is_some.result at s)) (sym command_of-Commit))
+    refl c.effect_row_of.ensures
+
+pub statement-returns-in-Rollback-clause-checks : goal.statement-returns-in-Rollback-clause-checks
+statement-returns-in-Rollback-clause-checks t c =
+    let g = env_of c.args.globals.now in
+    let r = c.args.returned.now in
+    let ls = c.args.scope.now.locals.items in
+    let n = c.args.scope.now.next in
+    let at = c.in-Rollback.word.at in
+    let func = c.is_some-in-Rollback in
+    let read : act_of c.args.e.now ≡ rolling_back at = ap act_of c.in-Rollback.is ∙ act_of-Rollback c.in-Rollback.word in
+    act_row g r ls n ls c.effect_row_of-in-Rollback.result (act_of c.args.e.now) (effect_row func.result at (command_of Rollback))
+    (ap (λ a. check_act g r ls n a) read ∙ ap (λ b. stays ls (effect_row b at rollback)) (sym func.ensures) ∙ ap (λ s. stays ls (effect_row func.result at s)) (sym command_of-Rollback))
+    refl c.effect_row_of-in-Rollback.ensures

@@ -1,0 +1,15 @@
+use Rattle.hera_rules.specs.ReadActs.{script_of}
+use Rattle.hera_types.proofs.Decided.{typed_script, first_fault, sound_script}
+use Rattle.hera_types.proofs.scripts.elaborate.Goals as goal
+
+pub returns-clause-typed : goal.returns-clause-typed
+returns-clause-typed c = typed_script c.args.hosts.now (script_of c.args.tree.now) _ c.checked.ensures
+
+pub returns-clause-sound : goal.returns-clause-sound
+returns-clause-sound c =
+    sound_script c.args.hosts.now (script_of c.args.tree.now) _
+    (λ p e. c.typed_programs_are_sound.ensures c.args.tree.now c.requires.0 c.args.hosts.now p c.requires.1 c.requires.2 c.len-count.ensures.valid e)
+    (typed_script c.args.hosts.now (script_of c.args.tree.now) _ c.checked.ensures)
+
+pub returns-clause-fault : goal.returns-clause-fault
+returns-clause-fault c = first_fault c.args.hosts.now (script_of c.args.tree.now) _ c.checked.ensures

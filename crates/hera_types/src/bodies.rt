@@ -1,0 +1,200 @@
+// The fourth pass over a script: the bodies of funcs, procs and main.
+
+ghost use Rattle.std.specs.Prelude.{◌≡◌, ◌+◌, [], Some, None, IfOk, is_some, map};
+ghost use Rattle.hera_meaning.specs.Plain.{block_in, body_of, command_of};
+ghost use Rattle.hera_meaning.specs.Sound.{arms_return, command_returns, returns};
+ghost use Rattle.hera_rules.specs.Agrees.{Gives};
+ghost use Rattle.hera_rules.specs.CheckedScripts.{check_funcs, check_procs};
+ghost use Rattle.hera_rules.specs.Environments.{env_of};
+ghost use Rattle.hera_rules.specs.ReadActs.{block_acts, func_phrase, main_acts, proc_phrase};
+ghost use Rattle.hera_types.specs.Passes.{bodies_of, body_row, func_body_row};
+
+use crate::blocks::block;
+use hera_meaning::{Arm, Body, Shape, Stmt};
+use hera_rules::{FuncSig, Globals, Local, ProcSig, Scope, TypeFault};
+use hera_syntax::{Block, Func, Main, Proc};
+use hera_typing_parts::{number_of, put};
+use std::alloc::{AllocError, Global};
+
+// ---- what returns
+
+/// Whether the last statement of the arm's block returns.
+#[cycle(returning)]
+fn arm_returns(arm: &Arm) -> bool
+    ensures { result ≡ returns (block_in arm.now.block.items) }
+{
+    let mut last = false;
+    for stmt in &arm.block {
+        last = statement_returns(stmt);
+    }
+    last
+}
+
+/// Whether a statement returns: a `return`, or an `if` whose blocks all return.
+#[cycle(returning)]
+#[tactic(auto, using(hera_meaning::proofs::PlainLaws::plain))]
+fn statement_returns(stmt: &Stmt) -> bool
+    ensures { result ≡ command_returns (command_of stmt.now) }
+{
+    match stmt {
+        Stmt::Return(value) => value.is_some(),
+        Stmt::If(arms, other) => {
+            for arm in arms {
+                if !arm_returns(arm) {
+                    return false;
+                }
+            }
+            let mut ends = false;
+            for stmt in other {
+                ends = statement_returns(stmt);
+            }
+            ends
+        }
+        Stmt::Set(_, _) => false,
+        Stmt::Call(_, _) => false,
+        Stmt::While(_, _) => false,
+        Stmt::Foreach(_, _, _) => false,
+        Stmt::Print(_, _) => false,
+        Stmt::Apply(_, _) => false,
+        Stmt::Assert(_, _) => false,
+        Stmt::Commit => false,
+        Stmt::Rollback => false,
+    }
+}
+
+/// Whether the last of these statements returns.
+fn block_returns(stmts: &[Stmt]) -> bool
+    ensures { result ≡ returns (block_in stmts.now) }
+{
+    let mut last = false;
+    for stmt in stmts {
+        last = statement_returns(stmt);
+    }
+    last
+}
+
+// ---- bodies
+
+/// A copy of locals.
+fn locals_copy(alloc: Global, locals: &[Local]) -> Result<Vec<Local>, AllocError>
+    ensures { IfOk result (λ copy. copy.items ≡ locals.now) }
+{
+    let mut copy = Vec::new(alloc);
+    for local in locals {
+        put(&mut copy, local_copy(local)?)?;
+    }
+    Ok(copy)
+}
+
+/// A copy of a local.
+fn local_copy(local: &Local) -> Result<Local, AllocError>
+    ensures { IfOk result (λ copy. copy ≡ local.now) }
+{
+    let name = local.name.copy()?;
+    let shape = local.shape.copy()?;
+    Ok(Local {
+        name,
+        slot: local.slot,
+        shape,
+    })
+}
+
+/// A body with these parameters, which returns this.
+fn body_of_block(
+    alloc: Global,
+    globals: &Globals,
+    returned: &Option<Shape>,
+    params: &[Local],
+    e: &Block,
+) -> Result<Body, TypeFault>
+    ensures { Gives body_of result (body_row (env_of globals.now) returned.now params.now (block_acts e.now)) }
+{
+    let count = number_of(params.len())?;
+    let locals = locals_copy(alloc, params)?;
+    let mut scope = Scope {
+        locals,
+        next: count,
+    };
+    let stmts = block(alloc, globals, returned, &mut scope, e)?;
+    Ok(Body {
+        params: count,
+        slots: scope.next,
+        func: returned.is_some(),
+        block: stmts,
+    })
+}
+
+/// The body of a func, whose last statement returns.
+fn func_body(
+    alloc: Global,
+    globals: &Globals,
+    sig: &FuncSig,
+    tree: &Func,
+) -> Result<Body, TypeFault>
+    ensures { Gives body_of result (func_body_row (env_of globals.now) sig.now (func_phrase tree.now)) }
+{
+    let returned = Some(sig.result.copy()?);
+    let body = body_of_block(alloc, globals, &returned, sig.params.items(), &tree.block)?;
+    if !block_returns(&body.block) {
+        return Err(TypeFault::NoReturn { at: tree.name.at });
+    }
+    Ok(body)
+}
+
+/// The body of a proc.
+fn proc_body(
+    alloc: Global,
+    globals: &Globals,
+    sig: &ProcSig,
+    tree: &Proc,
+) -> Result<Body, TypeFault>
+    ensures { Gives body_of result (body_row (env_of globals.now) None sig.now.params (block_acts tree.now.block)) }
+{
+    body_of_block(alloc, globals, &None, sig.params.items(), &tree.block)
+}
+
+/// The bodies of the funcs, one for each signature.
+pub fn func_bodies(alloc: Global, globals: &Globals, trees: &[Func]) -> Result<Vec<Body>, TypeFault>
+    ensures { Gives bodies_of result (check_funcs (env_of globals.now) [] globals.now.funcs.items (map func_phrase trees.now)) }
+{
+    let mut bodies = Vec::new(alloc);
+    let count = trees.len().min(globals.funcs.len());
+    for i in 0..count {
+        let body = func_body(alloc, globals, &globals.funcs[i], &trees[i])?;
+        put(&mut bodies, body)?;
+    }
+    Ok(bodies)
+}
+
+/// These bodies, and behind them those of the procs, one for each signature.
+pub fn proc_bodies(
+    alloc: Global,
+    globals: &Globals,
+    front: Vec<Body>,
+    trees: &[Proc],
+) -> Result<Vec<Body>, TypeFault>
+    ensures { Gives bodies_of result (check_procs (env_of globals.now) (bodies_of front) globals.now.procs.items (map proc_phrase trees.now)) }
+{
+    let mut bodies = front;
+    let count = trees.len().min(globals.procs.len());
+    for i in 0..count {
+        let body = proc_body(alloc, globals, &globals.procs[i], &trees[i])?;
+        put(&mut bodies, body)?;
+    }
+    Ok(bodies)
+}
+
+/// The body of main, empty where there is no main.
+pub fn main_body(alloc: Global, globals: &Globals, tree: &Option<Main>) -> Result<Body, TypeFault>
+    ensures { Gives body_of result (body_row (env_of globals.now) None [] (main_acts tree.now)) }
+{
+    match tree {
+        Some(main) => body_of_block(alloc, globals, &None, &[], &main.block),
+        None => Ok(Body {
+            params: 0,
+            slots: 0,
+            func: false,
+            block: Vec::new(alloc),
+        }),
+    }
+}

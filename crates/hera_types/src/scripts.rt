@@ -1,0 +1,96 @@
+// The four passes over a script.
+
+ghost use Rattle.std.specs.Prelude.{◌≡◌, ◌⊎◌, ◌∷◌, List, Err, IfOk, OnOk};
+ghost use Rattle.hera_host.specs.Tables.{specs_of};
+ghost use Rattle.hera_meaning.specs.Plain.{program_of};
+ghost use Rattle.hera_meaning.specs.Sound.{Sound};
+ghost use Rattle.hera_rules.specs.Agrees.{Gives};
+ghost use Rattle.hera_rules.specs.CheckedScripts.{check_script};
+ghost use Rattle.hera_rules.specs.Environments.{env_of};
+ghost use Rattle.hera_rules.specs.Programs.{ElabScript, FirstFault, env_row};
+ghost use Rattle.hera_rules.specs.ReadActs.{script_of};
+ghost use Rattle.hera_rules.specs.declared.fault.TypeFault.{TypeFault};
+ghost use Rattle.hera_syntax.specs.Tokens.{AreTokens};
+ghost use Rattle.hera_syntax.specs.Trees.{IsTextOf};
+ghost use Rattle.hera_syntax.specs.declared.token.Token.{Token};
+
+use crate::bodies::{func_bodies, main_body, proc_bodies};
+use crate::relations::relations_of;
+use crate::signatures::{funcs_of, procs_of, relation_names, with_funcs, with_procs};
+use hera_host::HostTable;
+use hera_meaning::{Body, Program, RelDecl};
+use hera_rules::{Globals, TypeFault};
+use hera_sound::typed_programs_are_sound;
+use hera_syntax::Tree;
+use std::alloc::{AllocError, Global};
+
+/// The program of a script, or its first fault in the order of checking.
+///
+/// The relations are checked first, then the names of funcs and procs, then their signatures, then the bodies
+/// with main last, each in the order of the text. `Memory` tells nothing of the script.
+pub fn elaborate(alloc: Global, tree: &Tree, hosts: &HostTable) -> Result<Program, TypeFault>
+    requires { (tokens : List Token) × IsTextOf tree.now tokens × AreTokens tokens }
+    ensures typed { IfOk result (λ p. ElabScript hosts.now (script_of tree.now) (program_of p)) }
+    ensures sound { IfOk result (λ p. Sound (program_of p) (specs_of hosts.now)) }
+    ensures fault { (fault : TypeFault) → result ≡ Err fault → (fault ≡ TypeFault.Memory) ⊎ FirstFault hosts.now (script_of tree.now) fault }
+{
+    let _count = hosts.len();
+    typed_programs_are_sound();
+    checked(alloc, tree, hosts)
+}
+
+/// The four passes.
+fn checked(alloc: Global, tree: &Tree, hosts: &HostTable) -> Result<Program, TypeFault>
+    ensures { Gives program_of result (check_script hosts.now (script_of tree.now)) }
+{
+    let globals = globals_of(alloc, tree, hosts)?;
+    let funcs = func_bodies(alloc, &globals, &tree.funcs)?;
+    let mut bodies = proc_bodies(alloc, &globals, funcs, &tree.procs)?;
+    let main = main_body(alloc, &globals, &tree.main)?;
+    put_first(&mut bodies, main)?;
+    let relations = relations_into(globals);
+    Ok(Program { relations, bodies })
+}
+
+/// What the global names of a script mean: the first three passes.
+fn globals_of<'a>(
+    alloc: Global,
+    tree: &Tree,
+    hosts: &'a HostTable,
+) -> Result<Globals<'a>, TypeFault>
+    ensures { Gives env_of result (env_row hosts.now (script_of tree.now)) }
+{
+    let relations = relations_of(alloc, &tree.relations)?;
+    let own = relation_names(alloc, &relations)?;
+    let some = with_funcs(alloc, own, &tree.funcs)?;
+    let taken = with_procs(alloc, some, &tree.procs)?;
+    let funcs = funcs_of(alloc, &relations, &taken, &tree.funcs)?;
+    let procs = procs_of(alloc, &relations, &taken, funcs.len(), &tree.procs)?;
+    Ok(Globals {
+        relations,
+        funcs,
+        procs,
+        hosts,
+    })
+}
+
+/// The declared relations.
+fn relations_into(globals: Globals) -> Vec<RelDecl>
+    ensures { result.items ≡ globals.entry.relations }
+{
+    let Globals {
+        relations,
+        funcs: _,
+        procs: _,
+        hosts: _,
+    } = globals;
+    relations.into_decls()
+}
+
+/// A body more, in front of these.
+fn put_first(bodies: &mut Vec<Body>, body: Body) -> Result<(), AllocError>
+    ensures { OnOk result (bodies.new.items ≡ body ∷ bodies.old.items) }
+{
+    bodies.insert(0, body)?;
+    Ok(())
+}

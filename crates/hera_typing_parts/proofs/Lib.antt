@@ -1,0 +1,4 @@
+pub mod Before
+pub mod Equal
+pub mod Giving
+pub mod Snocs
