@@ -1,0 +1,4 @@
+pub mod Ends
+pub mod Kept
+pub mod Loops
+pub mod Found
