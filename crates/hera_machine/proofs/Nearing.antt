@@ -14,7 +14,6 @@ use Rattle.hera_code.specs.Forward.{Forward}
 use Rattle.hera_code.specs.Machine.{Machine, Step, act, code_step}
 use Rattle.hera_machine.specs.declared.events.Told.{Told}
 use Rattle.hera_machine.specs.declared.events.Told.TheVariants.{Quiet, Out, Commit, Ended}
-use Rattle.hera_machine.specs.Built.{is_built_instr, are_built}
 use Rattle.hera_machine.specs.Telling.{step_of, TellsNearer}
 use Rattle.hera_machine.proofs.Lowered.{Lowers, step_lowers}
 
@@ -36,16 +35,5 @@ result_nearer code rels hosts s old new (Ok told) o e h forward =
     tells_nearer code rels hosts s old new told forward (h ∙ ap (λ i. act code rels hosts i s old) (sym e))
 result_nearer code rels hosts s old new (Err a) o e h forward = tt
 
--- an instruction of built code is built
-built_at : (is : List Instr) (a : ℕ) (i : Instr) → list_all is_built_instr is ≡ true → slice_get is a ≡ Some i → is_built_instr i ≡ true
-built_at [] a i h e = absurd (none-some i e)
-built_at (x ∷ is) zero i h e = subst (λ (y : Instr). is_built_instr y ≡ true) (same_Some x i e) (and_parts (is_built_instr x) (list_all is_built_instr is) h).0
-built_at (x ∷ is) (suc a) i h e = built_at is a i (and_parts (is_built_instr x) (list_all is_built_instr is) h).1 e
-
-pub built_instr : (code : Code) (a : ℕ) (i : Instr) → are_built code ≡ true → Some i ≡ slice_get code.instrs a → is_built_instr i ≡ true
-built_instr code a i h e = built_at code.instrs a i h (sym e)
-
 pub here_within : (code : Code) (a : ℕ) (i : Instr) → Some i ≡ slice_get code.instrs a → a < length code.instrs
 here_within code a i e = slice_get_within code.instrs a i (sym e)
-
-pub ruleset one = (built_instr, here_within)

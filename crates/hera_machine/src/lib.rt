@@ -4,12 +4,13 @@
 //! recurses: frames that wait stand in a list, so calls may nest as deep as there are turns.
 #![tactic(auto)]
 
-mod built;
 mod events;
 mod machine;
 mod relations;
 mod running;
 
-pub use built::are_built;
 pub use events::{End, Event, Status};
 pub use machine::Machine;
+
+#[cfg(test)]
+mod tests;

@@ -6,7 +6,6 @@ ghost use Rattle.hera_code.specs.Forward.{Forward};
 ghost use Rattle.hera_code.specs.Machine.{code_step};
 ghost use Rattle.hera_code.specs.Reached.{start_of};
 ghost use Rattle.hera_machine.specs.Over.{state_over};
-ghost use Rattle.hera_machine.specs.Built.{are_built};
 ghost use Rattle.hera_machine.specs.Standing.{machine_over, event_over, status_after, WaitsBy, IsNearer};
 
 use crate::events::{End, Event, Status, Told};
@@ -75,7 +74,6 @@ impl<'c> Machine<'c> {
         hosts: &HostTable,
     ) -> Result<Event, AllocError>
         requires taken { self.old.waits ≡ None }
-        requires built { are_built self.old.code ≡ true }
         requires no_hosts { hosts.now ≡ [] }
         ensures steps { self.old.status ≡ Status.Working → let stored = state_over base.now.state commits.now in IfOk result (λ e. event_over stored e self.new ≡ code_step self.old.code self.old.relations (specs_of hosts.now) stored (machine_over stored self.old)) }
         ensures nearer { Forward self.old.code → IfOk result (IsNearer (length self.old.code.instrs) self.old.state self.new.state) }

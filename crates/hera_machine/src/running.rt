@@ -11,9 +11,7 @@ ghost use Rattle.hera_host.specs.Tables.{specs_of};
 ghost use Rattle.hera_code.specs.Forward.{Forward};
 ghost use Rattle.hera_code.specs.Machine as machine;
 ghost use Rattle.hera_code.specs.Machine.{quiet, commits, ends, ended, on_with, on_top, on_some, on_walk, pushes, needs_slot, needs_address, goes_to, spends, by_bool, enters, leaves_layer, opens_walk, next_row, keeps, gathers, calls_body, goes_back, prints, applies, answers, asks_host, rows_value, current_state, code_step};
-ghost use Rattle.hera_prims.specs.Built.{is_built};
 ghost use Rattle.hera_machine.specs.Over.{state_over};
-ghost use Rattle.hera_machine.specs.Built.{is_built_instr, are_built};
 ghost use Rattle.hera_machine.specs.Telling.{step_of, TellsNearer};
 
 use crate::events::{End, Told};
@@ -146,8 +144,7 @@ impl Running {
     }
 
     fn prim(&mut self, op: &Op, at: u32) -> Result<Told, AllocError>
-        requires next { self.old.at + 1 < 2 ^ 64 }
-        requires built { is_built op.now ≡ true }
+        requires { self.old.at + 1 < 2 ^ 64 }
         ensures { IfOk result (λ told. step_of told self.new ≡ on_some (arity op.now) self.old.operands (λ args vs. answers at op.now args vs self.old)) }
     {
         match self.operands.take(self.alloc, arity(op))? {
@@ -332,7 +329,7 @@ impl Running {
             None => Ok(Told::Ended(End::Stuck)),
             Some(mut walk) => match self.operands.pop() {
                 None => Ok(Told::Ended(End::Stuck)),
-                Some(v) => match bool_of(&v) {
+                Some(kept) => match bool_of(&kept) {
                     None => Ok(Told::Ended(End::Stuck)),
                     Some(true) => {
                         walk.keep()?;
@@ -572,7 +569,6 @@ impl Running {
         hosts: &HostTable,
     ) -> Result<Told, AllocError>
         requires next { self.old.at + 1 < 2 ^ 64 }
-        requires built { is_built_instr instr.now ≡ true }
         requires no_hosts { hosts.now ≡ [] }
         ensures { IfOk result (λ told. step_of told self.new ≡ machine.act code.now relations.now (specs_of hosts.now) (Some instr.now) (state_over base.now.state commits.now) self.old) }
     {
@@ -607,7 +603,7 @@ impl Running {
     }
 
     /// Executes the instruction at hand.
-    #[tactic(auto, using(crate::proofs::Nearing::one))]
+    #[tactic(auto, using(crate::proofs::Nearing::here_within))]
     pub(crate) fn one(
         &mut self,
         code: &Code,
@@ -616,8 +612,7 @@ impl Running {
         commits: &[Delta],
         hosts: &HostTable,
     ) -> Result<Told, AllocError>
-        requires built { are_built code.now ≡ true }
-        requires no_hosts { hosts.now ≡ [] }
+        requires { hosts.now ≡ [] }
         ensures steps { IfOk result (λ told. step_of told self.new ≡ code_step code.now relations.now (specs_of hosts.now) (state_over base.now.state commits.now) self.old) }
         ensures nearer { Forward code.now → IfOk result (TellsNearer (length code.now.instrs) self.old self.new) }
     {

@@ -6,3 +6,5 @@ pub mod Ranges
 pub mod Equals
 pub mod PlaceTests
 pub mod Fitted
+pub mod Tuples
+pub mod Computed

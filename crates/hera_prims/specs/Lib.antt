@@ -1,4 +1,3 @@
-pub mod Built
 pub mod Newest
 pub mod Wanted
 pub mod Answered

@@ -4,6 +4,7 @@
 //! operation gives of operands that fit is the definition's value or trap.
 #![tactic(auto)]
 
+mod aggs;
 mod args;
 mod compare;
 mod deltas;
@@ -14,6 +15,7 @@ mod ops;
 mod places;
 mod prims;
 mod rows;
+mod sets;
 mod shapes;
 mod values;
 mod wants;
@@ -21,7 +23,7 @@ mod wants;
 pub use args::Args;
 pub use end::PrimEnd;
 pub use matching::fits;
-pub use ops::{arity, is_built};
+pub use ops::arity;
 pub use prims::prim;
 pub use shapes::{has_shape, is_delta_of};
 
@@ -52,7 +54,7 @@ mod tests {
             (Op::Div, i64::MIN, -1, None),
         ] {
             let args = ints(rt.alloc(), a, b)?;
-            assert!(rt; arity(&op) == args.len() && is_built(&op) && fits(&op, &args));
+            assert!(rt; arity(&op) == args.len() && fits(&op, &args));
             match prim(rt.alloc(), &op, args) {
                 Ok(Value::Scalar(Scalar::Int(v))) => assert_eq!(rt; Some(v), told),
                 Err(PrimEnd::Trap(TrapName::Overflow)) => assert_eq!(rt; None, told),

@@ -1,7 +1,6 @@
 //! What is known of an operation without its operands.
 ghost use Rattle.std.specs.Prelude.{◌≡◌};
 ghost use Rattle.hera_meaning.specs.Fits.{arity};
-ghost use Rattle.hera_prims.specs.Built.{is_built};
 
 use hera_meaning::Op;
 
@@ -28,27 +27,5 @@ pub fn arity(op: &Op) -> usize
         Op::Del(_) => 1,
         Op::IsFail => 1,
         _ => 2,
-    }
-}
-
-/// Whether the operation is carried out today.
-pub fn is_built(op: &Op) -> bool
-    ensures { result ≡ is_built op.now }
-{
-    match op {
-        Op::MakeRel(_) => false,
-        Op::Project(_, _) => false,
-        Op::Union => false,
-        Op::Minus => false,
-        Op::Inter => false,
-        Op::Join(_, _) => false,
-        Op::Group(_, _, _) => false,
-        Op::Sum(_, _) => false,
-        Op::Min(_, _) => false,
-        Op::Max(_, _) => false,
-        Op::Bulk(_, _) => false,
-        Op::Ins(_) => false,
-        Op::Del(_) => false,
-        _ => true,
     }
 }
