@@ -1,6 +1,7 @@
 //! The program `hera`: its words, real files and standard output.
 //!
-//! `hera eval TURNS FILE` runs the script in the file.
+//! `hera check FILE` says whether the script in the file is accepted, `hera list FILE` lists its code, and
+//! `hera eval TURNS FILE` runs it.
 #![tactic(auto)]
 
 ghost use Rattle.std.specs.Prelude.{◌≡◌, IfOk, length};

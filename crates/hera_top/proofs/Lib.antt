@@ -1,7 +1,6 @@
-pub mod Answering
-pub mod Following
-pub mod Outcomes
-pub mod Printing
-pub mod Progressing
-pub mod Reading
-pub mod Refusing
+mod Saying
+mod Outcomes
+mod Running
+mod Distinct
+mod Lines
+mod One

@@ -1,11 +1,5 @@
-pub mod Exec
-pub mod Faults
-pub mod Form
-pub mod Marks
-pub mod Outcome
-pub mod Program
-pub mod Progress
-pub mod Reads
-pub mod Sources
-pub mod Steps
 pub mod Words
+pub mod Sources
+pub mod Outcome
+pub mod Said
+pub mod Running

@@ -1,18 +1,30 @@
-ghost use Rattle.std.specs.Prelude.{◌≡◌, ℕ, List, [], ◌∷◌, Ok, Err, IfOk, OnErr, ◌≤◌};
+ghost use Rattle.std.specs.Prelude.{◌≡◌, ℕ, ◌≤◌, ◌⊎◌, [], take, length, Err, IfOk, OnOk, OnErr, string_bytes, codes, ◌++◌};
+ghost use Rattle.std.specs.Io.KnownBytes.{Appends};
 ghost use Rattle.hera_causes.specs.Causes.{Rose};
-ghost use Rattle.hera_top.specs.Exec.{exec};
-ghost use Rattle.hera_top.specs.Progress.{Goes, IsOver, SaysPart};
-ghost use Rattle.hera_top.specs.declared.steps.Step.{Step};
+ghost use Rattle.hera_meaning.specs.Plain.{program_of};
+ghost use Rattle.hera_meaning.specs.Printed.{trap_name, commit_text};
+ghost use Rattle.hera_meaning.specs.Sound.{Sound};
+ghost use Rattle.hera_code.specs.Forward.{Forward};
+ghost use Rattle.hera_code.specs.Scheme.{code_of};
+ghost use Rattle.hera_top.specs.Outcome.{outcome_of, IsWhole, SaysPart};
+ghost use Rattle.hera_top.specs.Running.{last_text, EndsSaid, PartSaid};
+ghost use Rattle.hera_top.specs.declared.words.Command.{Command};
 
-use crate::arith::calculate;
-use crate::say::{overflow_line, print_line, say};
-use crate::stack::Stack;
-use crate::steps::Step;
+use crate::catalogue::catalogue_of;
+use crate::say::{NO_MEMORY, OUTPUT_FAILED, say};
+use delta_atoms::Delta;
 use hera_causes::{Failed, Output};
-use std::alloc::{AllocError, Global};
+use hera_code::Code;
+use hera_codegen::code_does_what_the_program_means;
+use hera_host::HostTable;
+use hera_machine::{End, Event, Machine};
+use hera_meaning::{Program, RelDecl, TrapName};
+use hera_print::end_line;
+use rel_pages::Base;
+use std::alloc::{AllocError, AllocFailed, Global};
 use thiserror::Error;
 
-/// Why a run ends before its meaning does.
+/// Why a run is cut short.
 #[derive(Debug, Drop, Error)]
 pub(crate) enum RunFault {
     /// The output failed.
@@ -21,6 +33,19 @@ pub(crate) enum RunFault {
     /// No memory.
     #[error("out of memory")]
     Memory,
+}
+
+impl RunFault {
+    /// The exit status.
+    pub(crate) fn status(&self) -> u8
+        ensures either { (result ≡ 8) ⊎ (result ≡ 9) }
+        ensures output { result ≡ 8 → self.now ≡ RunFault.Output }
+    {
+        match self {
+            RunFault::Output => OUTPUT_FAILED,
+            RunFault::Memory => NO_MEMORY,
+        }
+    }
 }
 
 impl From<Failed> for RunFault {
@@ -43,69 +68,113 @@ impl From<AllocError> for RunFault {
     }
 }
 
-/// What follows a step.
-#[derive(Clone, Copy)]
-pub(crate) enum Flow {
-    /// The next step.
-    On,
-    /// The end of the run, with this status.
-    Over(u8),
+impl<T: Drop> From<AllocFailed<T>> for RunFault {
+    ghost use Rattle.hera_top.specs.declared.run.RunFault.TheVariants.{Memory};
+
+    ghost from_gives = { λ _ e. e ≡ Memory };
+
+    fn from(_: AllocFailed<T>) -> Self {
+        RunFault::Memory
+    }
 }
 
-/// Carries out one step.
-fn carry_out<W: Output>(
-    alloc: Global,
-    outside: &mut W,
-    stack: &mut Stack,
-    step: Step,
-) -> Result<Flow, RunFault>
-    ensures on { result ≡ Ok Flow.On → (more : List Step) → Goes (W.emitted outside.old) (W.emitted outside.new) (exec (step ∷ more) stack.old) (exec more stack.new) }
-    ensures over { (status : ℕ) → result ≡ Ok (Flow.Over status) → (more : List Step) → IsOver (W.emitted outside.old) (W.emitted outside.new) (exec (step ∷ more) stack.old) status }
-    ensures cut { OnErr result ((more : List Step) → SaysPart (W.emitted outside.old) (W.emitted outside.new) (exec (step ∷ more) stack.old)) }
+/// The beginning of a trap's line.
+fn trap_label(name: TrapName) -> &'static str
+    ensures { result.now ≡ codes "trap " ++ trap_name name }
+{
+    match name {
+        TrapName::DivZero => "trap DivZero",
+        TrapName::Overflow => "trap Overflow",
+        TrapName::EmptyMin => "trap EmptyMin",
+        TrapName::ApplyFail => "trap ApplyFail",
+        TrapName::WhenFail => "trap WhenFail",
+        TrapName::ReadFail => "trap ReadFail",
+        TrapName::Assert => "trap Assert",
+    }
+}
+
+/// The line of the commit of this number.
+fn commit_line(alloc: Global, number: usize) -> Result<String, AllocError>
+    ensures { IfOk result (λ line. string_bytes line ≡ commit_text number) }
+{
+    format!(in alloc; "commit {number}\n")
+}
+
+/// Emits the last line of a run that ends so, or a prefix of it. A run that is done has none.
+fn say_end<W: Output>(alloc: Global, outside: &mut W, end: End) -> Result<(), RunFault>
+    ensures whole { OnOk result (Appends (W.emitted outside.old) (W.emitted outside.new) (last_text end)) }
+    ensures part { OnErr result ((n : ℕ) × Appends (W.emitted outside.old) (W.emitted outside.new) (take n (last_text end))) }
     ensures later { W.output_faults outside.old ≤ W.output_faults outside.new }
     ensures output { result ≡ Err RunFault.Output → Rose (W.output_faults outside.old) (W.output_faults outside.new) }
 {
-    match step {
-        Step::Push(value) => {
-            stack.push(value)?;
-            Ok(Flow::On)
+    match end {
+        End::Done | End::Stuck => Ok(()),
+        End::Trap(name, at) => {
+            let line = end_line(alloc, trap_label(name), u64::from(at))?;
+            Ok(say(outside, line.bytes())?)
         }
-        Step::Prim(op, at) => {
-            let right = stack.pop();
-            let left = stack.pop();
-            match calculate(op, left, right) {
-                Some(value) => {
-                    stack.push(value)?;
-                    Ok(Flow::On)
-                }
-                None => {
-                    say(outside, overflow_line(alloc, at)?.as_bytes())?;
-                    Ok(Flow::Over(1))
-                }
+        End::Spent => Ok(say(outside, b"turns spent\n")?),
+    }
+}
+
+/// Runs code from the state of a base, emits what it prints, and gives its end.
+fn run_code<W: Output>(
+    alloc: Global,
+    code: &Code,
+    relations: &[RelDecl],
+    base: &Base,
+    turns: u64,
+    outside: &mut W,
+) -> Result<End, RunFault>
+    requires forward { Forward code.now }
+    ensures whole { IfOk result (λ end. EndsSaid code.now relations.now base.now.state turns (W.emitted outside.old) (W.emitted outside.new) end) }
+    ensures cut { OnErr result (PartSaid code.now relations.now base.now.state turns (W.emitted outside.old) (W.emitted outside.new)) }
+    ensures later { W.output_faults outside.old ≤ W.output_faults outside.new }
+    ensures output { result ≡ Err RunFault.Output → Rose (W.output_faults outside.old) (W.output_faults outside.new) }
+{
+    let hosts = HostTable::new(alloc);
+    let mut machine = Machine::new(alloc, code, relations, turns)?;
+    let mut commits: Vec<Delta> = Vec::new(alloc);
+    'steps: loop {
+        match machine.step(base, &commits, &hosts)? {
+            Event::Quiet => {}
+            Event::Out(line) => say(outside, line.bytes())?,
+            Event::Commit => {
+                commits.push(machine.take_pending())?;
+                say(outside, commit_line(alloc, commits.len())?.as_bytes())?;
+            }
+            Event::Ended(end) => {
+                say_end(alloc, outside, end)?;
+                return Ok(end);
             }
         }
-        Step::Print => {
-            let value = stack.pop();
-            say(outside, print_line(alloc, value)?.as_bytes())?;
-            Ok(Flow::On)
-        }
-        Step::Halt => Ok(Flow::Over(0)),
     }
 }
 
-/// Runs the steps, and gives the status of their end.
-pub(crate) fn run<W: Output>(alloc: Global, outside: &mut W, code: &[Step]) -> Result<u8, RunFault>
-    ensures whole { IfOk result (IsOver (W.emitted outside.old) (W.emitted outside.new) (exec code.now [])) }
-    ensures cut { OnErr result (SaysPart (W.emitted outside.old) (W.emitted outside.new) (exec code.now [])) }
+/// Runs a program's code on empty relations with at most so many turns, emits what it prints, and gives the status of its
+/// end.
+pub(crate) fn run<W: Output>(
+    alloc: Global,
+    program: &Program,
+    code: &Code,
+    turns: u64,
+    outside: &mut W,
+) -> Result<u8, RunFault>
+    requires sound { Sound (program_of program.now) [] }
+    requires code { code.now ≡ code_of (program_of program.now) }
+    requires forward { Forward code.now }
+    ensures whole { IfOk result (λ status. IsWhole (outcome_of (Command.Eval turns) (program_of program.now)) status (W.emitted outside.old) (W.emitted outside.new)) }
+    ensures cut { OnErr result (SaysPart (outcome_of (Command.Eval turns) (program_of program.now)) (W.emitted outside.old) (W.emitted outside.new)) }
     ensures later { W.output_faults outside.old ≤ W.output_faults outside.new }
     ensures output { result ≡ Err RunFault.Output → Rose (W.output_faults outside.old) (W.output_faults outside.new) }
 {
-    let mut stack = Stack::new(alloc);
-    for step in code {
-        match carry_out(alloc, outside, &mut stack, *step)? {
-            Flow::On => {}
-            Flow::Over(status) => return Ok(status),
-        }
+    code_does_what_the_program_means();
+    let base = Base::empty(alloc, catalogue_of(alloc, &program.relations)?)?;
+    let _catalogue = base.catalogue();
+    match run_code(alloc, code, &program.relations, &base, turns, outside)? {
+        End::Done => Ok(0),
+        End::Trap(_, _) => Ok(1),
+        End::Spent => Ok(4),
+        End::Stuck => unreachable!(),
     }
-    Ok(0)
 }

@@ -1,12 +1,18 @@
-ghost use Rattle.std.specs.Prelude.{◌≡◌, ℕ, take, OnOk, OnErr, IfOk, string_bytes};
+ghost use Rattle.std.specs.Prelude.{◌≡◌, ℕ, ◌≤◌, ◌<◌, ◌⊎◌, take, OnOk, OnErr};
 ghost use Rattle.std.specs.Io.KnownBytes.{Appends};
-ghost use Rattle.hera_causes.specs.Causes.{HasCause};
-ghost use Rattle.hera_meaning.specs.Printed.{trap_line};
-ghost use Rattle.hera_meaning.specs.declared.trees.TrapName.TheVariants.{Overflow};
-ghost use Rattle.hera_top.specs.Exec.{int_line};
+ghost use Rattle.hera_causes.specs.Causes.{HasCause, Rose};
+ghost use Rattle.hera_top.specs.Outcome.{Outcome, refused, text_of_outcome, status_of_outcome, IsSaid};
 
+use crate::refusal::Refusal;
 use hera_causes::{Failed, Output, emit_all};
-use std::alloc::{AllocError, Global};
+use hera_print::end_line;
+use std::alloc::Global;
+
+/// The status where the output failed.
+pub(crate) const OUTPUT_FAILED: u8 = 8;
+
+/// The status where there was no memory.
+pub(crate) const NO_MEMORY: u8 = 9;
 
 /// Emits the line, or a prefix of it up to the first failure.
 pub(crate) fn say<W: Output>(outside: &mut W, line: &[u8]) -> Result<(), Failed>
@@ -17,16 +23,34 @@ pub(crate) fn say<W: Output>(outside: &mut W, line: &[u8]) -> Result<(), Failed>
     emit_all(outside, line)
 }
 
-/// The line of a printed int.
-pub(crate) fn print_line(alloc: Global, value: i64) -> Result<String, AllocError>
-    ensures { IfOk result (λ line. string_bytes line ≡ int_line value) }
+/// Prints a text and gives its status, or that of a failed output.
+pub(crate) fn say_all<W: Output>(outside: &mut W, text: &[u8], status: u8) -> u8
+    requires { status < 8 }
+    ensures said { (outcome : Outcome) → text_of_outcome outcome ≡ text.now → status_of_outcome outcome ≡ status → IsSaid outcome result (W.emitted outside.old) (W.emitted outside.new) }
+    ensures status { (result ≡ status) ⊎ (result ≡ 8) }
+    ensures later { W.output_faults outside.old ≤ W.output_faults outside.new }
+    ensures output { result ≡ 8 → Rose (W.output_faults outside.old) (W.output_faults outside.new) }
 {
-    format!(in alloc; "{value}\n")
+    match say(outside, text) {
+        Ok(()) => status,
+        Err(_) => OUTPUT_FAILED,
+    }
 }
 
-/// The line of the trap Overflow at this offset.
-pub(crate) fn overflow_line(alloc: Global, at: u32) -> Result<String, AllocError>
-    ensures { IfOk result (λ line. string_bytes line ≡ trap_line Overflow at) }
+/// Prints the line of a refusal and gives its status, or that of a failed output or of no memory.
+pub(crate) fn refuse<W: Output>(alloc: Global, outside: &mut W, refusal: Refusal) -> u8
+    ensures said { IsSaid (refused refusal) result (W.emitted outside.old) (W.emitted outside.new) }
+    ensures later { W.output_faults outside.old ≤ W.output_faults outside.new }
+    ensures output { result ≡ 8 → Rose (W.output_faults outside.old) (W.output_faults outside.new) }
+    ensures unread { result ≡ 7 → refusal ≡ Refusal.Unread }
+    ensures usage { result ≡ 2 → refusal ≡ Refusal.Usage }
 {
-    format!(in alloc; "trap Overflow at {at}\n")
+    match refusal {
+        Refusal::Usage => say_all(outside, b"usage\n", 2),
+        Refusal::Unread => say_all(outside, b"script unread\n", 7),
+        Refusal::Script { cause, at } => match end_line(alloc, cause.label(), u64::from(at)) {
+            Ok(line) => say_all(outside, line.bytes(), 3),
+            Err(_) => NO_MEMORY,
+        },
+    }
 }

@@ -39,73 +39,43 @@ fn check(
     Ok(())
 }
 
-/// As many blanks.
-fn blanks(alloc: Global, n: usize) -> Result<Vec<u8>, AllocError> {
-    vec![in alloc; b' '; n]
-}
-
-#[test]
-fn scripts_print_sums(rt: HostRuntime) -> Result<(), Fail> {
-    let rows: [(&[u8], &[u8], u8); 6] = [
-        (b"main { print 2 + 3 * 4; }", b"14\n", 0),
-        (b"main { }", b"", 0),
-        (
-            b"main { print 9223372036854775807 + 1; }",
-            b"trap Overflow at 33\n",
-            1,
-        ),
-        (b"main { print true; }", b"refused Unbuilt at 0\n", 3),
-        (b"main { print 7 - 2 - 1; print 2 * 3 - 4; }", b"4\n2\n", 0),
-        (
-            b"main { print 1; /* none */ }",
-            b"refused Unbuilt at 0\n",
-            3,
-        ),
-    ];
-    for (script, output, status) in rows {
-        check(
-            &rt,
-            rt.alloc(),
-            &["eval", "100", "f"],
-            script,
-            (&[], &[]),
-            output,
-            status,
-        )?;
-    }
-    Ok(())
-}
-
 #[test]
 fn faulty_words_are_refused(rt: HostRuntime) -> Result<(), Fail> {
-    let lines: [&[&str]; 6] = [
+    let lines: [&[&str]; 7] = [
         &["eval", "-1", "f"],
         &["run", "d"],
         &[],
         &["eval", "100"],
+        &["check", "1", "f"],
         &["eval", "18446744073709551616", "f"],
         &["eval", "000000000000000000001", "f"],
     ];
     for line in lines {
-        check(
-            &rt,
-            rt.alloc(),
-            line,
-            b"main { }",
-            (&[], &[]),
-            b"usage\n",
-            2,
-        )?;
+        check(&rt, rt.alloc(), line, b"", (&[], &[]), b"usage\n", 2)?;
     }
+    let line: &[&str] = &["eval", "00018446744073709551", "f"];
+    check(&rt, rt.alloc(), line, b"main { }", (&[], &[]), b"", 0)?;
+    Ok(())
+}
+
+#[test]
+fn bytes_are_refused_before_tokens(rt: HostRuntime) -> Result<(), Fail> {
+    let alloc = rt.alloc();
+    let line: &[&str] = &["check", "f"];
     check(
         &rt,
-        rt.alloc(),
-        &["eval", "00018446744073709551", "f"],
-        b"main { }",
+        alloc,
+        line,
+        b"\xff",
         (&[], &[]),
-        b"",
-        0,
+        b"refused BadUtf8 at 0\n",
+        3,
     )?;
+    let more = vec![in alloc; b' '; 1_048_577]?;
+    let refused = b"refused TooLong at 1048576\n";
+    check(&rt, alloc, line, &more, (&[], &[]), refused, 3)?;
+    let most = vec![in alloc; b' '; 1_048_576]?;
+    check(&rt, alloc, line, &most, (&[], &[]), b"accepted\n", 0)?;
     Ok(())
 }
 
@@ -113,44 +83,18 @@ fn faulty_words_are_refused(rt: HostRuntime) -> Result<(), Fail> {
 fn faults_end_the_call(rt: HostRuntime) -> Result<(), Fail> {
     let alloc = rt.alloc();
     let line: &[&str] = &["eval", "100", "f"];
-    let script: &[u8] = b"main { print 2 + 3 * 4; }";
+    let script: &[u8] = b"main { print 14; print 15; }";
+    let cut = &[Piece::Take(4), Piece::Fail];
+    check(&rt, alloc, line, script, (&[], cut), b"14\n1", 8)?;
+    let unread: &[Piece] = &[Piece::Fail];
     check(
         &rt,
         alloc,
         line,
         script,
-        (&[], &[Piece::Take(1), Piece::Fail]),
-        b"1",
-        8,
-    )?;
-    check(
-        &rt,
-        alloc,
-        line,
-        script,
-        (&[Piece::Fail], &[]),
+        (unread, &[]),
         b"script unread\n",
         7,
-    )?;
-    let most = blanks(alloc, 1_048_576)?;
-    check(
-        &rt,
-        alloc,
-        line,
-        &most,
-        (&[], &[]),
-        b"refused Unbuilt at 0\n",
-        3,
-    )?;
-    let more = blanks(alloc, 1_048_577)?;
-    check(
-        &rt,
-        alloc,
-        line,
-        &more,
-        (&[], &[]),
-        b"refused TooLong at 1048576\n",
-        3,
     )?;
     Ok(())
 }

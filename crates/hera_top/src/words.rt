@@ -1,11 +1,15 @@
 ghost use Rattle.std.specs.Prelude.{◌≡◌, ◌≤◌, length};
 ghost use Rattle.std.specs.List.{list_all};
 ghost use Rattle.std.specs.Char.{is_ascii_digit};
-ghost use Rattle.hera_top.specs.Words.{words_of, turns_of, command_at, command_of, files_in};
+ghost use Rattle.hera_top.specs.Words.{words_of, turns_of, command_of, files_in};
 
 /// What the words of the command line ask for.
 #[derive(Clone, Copy)]
 pub enum Command {
+    /// Says whether a script is accepted.
+    Check,
+    /// Lists the code of a script.
+    List,
     /// Runs a script on an empty database with at most so many turns.
     Eval(u64),
 }
@@ -39,6 +43,8 @@ pub(crate) fn read_words(words: &Vec<String>) -> Option<Command>
 {
     match words.as_slice() {
         [name, number, _] if name.as_str() == "eval" => turns(number.as_str()).map(Command::Eval),
+        [name, _] if name.as_str() == "check" => Some(Command::Check),
+        [name, _] if name.as_str() == "list" => Some(Command::List),
         _ => None,
     }
 }
@@ -52,6 +58,7 @@ pub fn files_of(words: &Vec<String>) -> (usize, usize)
 {
     match read_words(words) {
         Some(Command::Eval(_)) => (2, 3),
+        Some(Command::Check | Command::List) => (1, 2),
         None => (0, 0),
     }
 }

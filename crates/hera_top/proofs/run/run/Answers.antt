@@ -1,43 +1,57 @@
-use Rattle.std.proofs.Common.{◌<◌, ◌+◌, [], pos, List, Ok, length, get_or, drop, ap, subst, arith}
+use Rattle.std.proofs.Common.{◌≡◌, ℕ, List, [], Option, refl, sym, ap, ◌∙◌, subst}
 use Rattle.std.proofs.lemmas.Result.{MatchResult-from_err}
-use Rattle.hera_meaning.specs.Run.{Report}
-use Rattle.hera_top.specs.declared.steps.Step.{Step}
-use Rattle.hera_top.specs.declared.steps.Step.TheVariants.{Push}
-use Rattle.hera_top.specs.Exec.{exec}
-use Rattle.hera_top.specs.Progress.{Goes}
-use Rattle.hera_top.proofs.Progressing.{Goes-trans, over_behind, part_behind, exec_more}
+use Rattle.hera_meaning.specs.Catalogues.{IsCatalogue}
+use Rattle.hera_meaning.specs.Plain.{program_of}
+use Rattle.hera_meaning.specs.Run.{finished, stopped, out_of_turns}
+use Rattle.hera_machine.specs.declared.events.End.{End}
+use Rattle.hera_machine.specs.Standing.{stop_of}
+use Rattle.rel_pages.specs.Stored.{empty_state}
+use Rattle.rel_pages.proofs.States.{empty_is_state}
+use Rattle.hera_top.specs.Running.{EndsSaid}
+use Rattle.hera_top.proofs.Saying.{Appends-nothing}
+use Rattle.hera_top.proofs.Running.{run_whole, run_part, never_stuck, own_end, own_part}
 use Rattle.hera_top.proofs.run.run.Goals as goal
 
-pub returns-in_err-carry_out-clause-cut : goal.returns-in_err-carry_out-clause-cut
-returns-in_err-carry_out-clause-cut g c =
-    let before = g.W.Output.emitted c.args.outside.now in
-    let now = g.W.Output.emitted c.loop-step.outside in
-    let code : List Step = c.args.code.now in
-    let i = c.loop-step.step-index in
-    let step : Step = get_or code i (Push (pos 0)) in
-    let more : List Step = drop (i + 1) code in
-    let here : i < length code = omega arith in
-    let goes = subst (λ (r : Report). Goes before now (exec code []) r) (exec_more code i (Push (pos 0)) c.loop-step.stack here) c.loop-step.invariant.goes in
-    MatchResult-from_err c.from_residual.result _ _ c.from_residual.ensures.0 (λ _. part_behind _ _ _ _ _ goes (c.in_err-carry_out.ensures.cut more))
+pub catalogue_of-requires : goal.catalogue_of-requires
+catalogue_of-requires g c = subst IsCatalogue (sym c.deref.ensures.value) c.requires.sound.shaped.relations
 
-pub returns-in-Over-clause-whole : goal.returns-in-Over-clause-whole
-returns-in-Over-clause-whole g c =
-    let before = g.W.Output.emitted c.args.outside.now in
-    let now = g.W.Output.emitted c.loop-step.outside in
-    let code : List Step = c.args.code.now in
-    let i = c.loop-step.step-index in
-    let more : List Step = drop (i + 1) code in
-    let here : i < length code = omega arith in
-    let goes = subst (λ (r : Report). Goes before now (exec code []) r) (exec_more code i (Push (pos 0)) c.loop-step.stack here) c.loop-step.invariant.goes in
-    over_behind _ _ _ _ _ c.in-Over.status goes (c.in_ok-carry_out.ensures.over c.in-Over.status (ap Ok c.in-Over.is) more)
+pub returns-in_err-base-clause-cut : goal.returns-in_err-base-clause-cut
+returns-in_err-base-clause-cut g c = MatchResult-from_err c.from_residual-in_err-base.result _ _ c.from_residual-in_err-base.ensures.0 (λ _. (0, Appends-nothing (g.W.Output.emitted c.args.outside.now)))
 
-pub loop-step-preserved : goal.loop-step-preserved
-loop-step-preserved g c =
-    let before = g.W.Output.emitted c.args.outside.now in
-    let now = g.W.Output.emitted c.loop-step.outside in
-    let code : List Step = c.args.code.now in
-    let i = c.loop-step.step-index in
-    let more : List Step = drop (i + 1) code in
-    let here : i < length code = omega arith in
-    let goes = subst (λ (r : Report). Goes before now (exec code []) r) (exec_more code i (Push (pos 0)) c.loop-step.stack here) c.loop-step.invariant.goes in
-    record { later = omega (arith, c.loop-step.invariant.later, c.carry_out.ensures.later); goes = Goes-trans _ _ _ _ _ _ goes (c.in_ok-carry_out.ensures.on (ap Ok c.in-On.is) more) }
+pub returns-in_err-run_code-clause-cut : goal.returns-in_err-run_code-clause-cut
+returns-in_err-run_code-clause-cut g c =
+    let p = program_of c.args.program.now in
+    let own = c.in_ok-base.ensures.state ∙ ap empty_state (c.in_ok-catalogue_of.ensures ∙ c.deref.ensures.value) in
+    MatchResult-from_err c.from_residual-in_err-run_code.result _ _ c.from_residual-in_err-run_code.ensures.0
+    (λ _. run_part p c.args.turns _ _ (c.code_does_what_the_program_means.ensures.prefixes p [] (empty_state p.relations) c.args.turns c.requires.sound (empty_is_state p.relations))
+    (own_part p c.args.turns c.args.code.now c.deref-2.result.now c.in_ok-base.base.state _ _ c.requires.code c.deref-2.ensures.value own c.in_err-run_code.ensures.cut))
+
+pub returns-in-Done-clause-whole : goal.returns-in-Done-clause-whole
+returns-in-Done-clause-whole g c =
+    let p = program_of c.args.program.now in
+    let own = c.in_ok-base.ensures.state ∙ ap empty_state (c.in_ok-catalogue_of.ensures ∙ c.deref.ensures.value) in
+    run_whole p c.args.turns _ _ c.in_ok-run_code.field-0 finished 0 (c.code_does_what_the_program_means.ensures.only p [] (empty_state p.relations) c.args.turns c.requires.sound (empty_is_state p.relations)) (ap stop_of c.in-Done.is) refl
+    (own_end p c.args.turns c.args.code.now c.deref-2.result.now c.in_ok-base.base.state _ _ _ c.requires.code c.deref-2.ensures.value own c.in_ok-run_code.ensures.whole)
+
+pub returns-in-Trap-clause-whole : goal.returns-in-Trap-clause-whole
+returns-in-Trap-clause-whole g c =
+    let p = program_of c.args.program.now in
+    let own = c.in_ok-base.ensures.state ∙ ap empty_state (c.in_ok-catalogue_of.ensures ∙ c.deref.ensures.value) in
+    run_whole p c.args.turns _ _ c.in_ok-run_code.field-0 (stopped c.in-Trap.field-0 c.in-Trap.field-1) 1 (c.code_does_what_the_program_means.ensures.only p [] (empty_state p.relations) c.args.turns c.requires.sound (empty_is_state p.relations)) (ap stop_of c.in-Trap.is) refl
+    (own_end p c.args.turns c.args.code.now c.deref-2.result.now c.in_ok-base.base.state _ _ _ c.requires.code c.deref-2.ensures.value own c.in_ok-run_code.ensures.whole)
+
+pub returns-in-Spent-clause-whole : goal.returns-in-Spent-clause-whole
+returns-in-Spent-clause-whole g c =
+    let p = program_of c.args.program.now in
+    let own = c.in_ok-base.ensures.state ∙ ap empty_state (c.in_ok-catalogue_of.ensures ∙ c.deref.ensures.value) in
+    run_whole p c.args.turns _ _ c.in_ok-run_code.field-0 out_of_turns 4 (c.code_does_what_the_program_means.ensures.only p [] (empty_state p.relations) c.args.turns c.requires.sound (empty_is_state p.relations)) (ap stop_of c.in-Spent.is) refl
+    (own_end p c.args.turns c.args.code.now c.deref-2.result.now c.in_ok-base.base.state _ _ _ c.requires.code c.deref-2.ensures.value own c.in_ok-run_code.ensures.whole)
+
+-- the code of a sound program is never stuck
+pub unreachable-requires : goal.unreachable-requires
+unreachable-requires g c =
+    let p = program_of c.args.program.now in
+    let own = c.in_ok-base.ensures.state ∙ ap empty_state (c.in_ok-catalogue_of.ensures ∙ c.deref.ensures.value) in
+    never_stuck p c.args.turns _ _ (c.code_does_what_the_program_means.ensures.only p [] (empty_state p.relations) c.args.turns c.requires.sound (empty_is_state p.relations))
+    (own_end p c.args.turns c.args.code.now c.deref-2.result.now c.in_ok-base.base.state _ _ _ c.requires.code c.deref-2.ensures.value own
+    (subst (λ (e : End). EndsSaid c.args.code.now c.deref-2.result.now c.in_ok-base.base.state c.args.turns (g.W.Output.emitted c.args.outside.now) (g.W.Output.emitted c.run_code.new.outside) e) c.in-Stuck.is c.in_ok-run_code.ensures.whole))

@@ -1,0 +1,111 @@
+//! Runs the cases of standard input, each a command line and a script, by the top call of `hera`, over sources and an
+//! output in memory.
+//!
+//! A case begins with a line `== WORDS`, the words of its command line. Where the last word is `-`, the lines up to the
+//! next case, joined by line feeds, are its script; else the script is the file of that name. For each case the program
+//! prints that line, what the call emitted, and a line `-- STATUS`.
+#![tactic(auto)]
+
+ghost use Rattle.std.specs.Prelude.{◌≡◌, IfOk, length};
+
+use hera_causes::{MemOutput, MemSource};
+use hera_top::{files_of, hera};
+use std::alloc::{AllocError, Global};
+use std::fs::{self, Files};
+use std::io::{self, BufRead, BufReader};
+
+/// A command line and a script.
+#[derive(Drop)]
+struct Case {
+    heading: String,
+    script: Vec<u8>,
+}
+
+impl Case {
+    /// A case of this heading, with no script yet.
+    fn new(alloc: Global, heading: &str) -> Result<Case, AllocError> {
+        Ok(Case {
+            heading: String::from_str(alloc, heading)?,
+            script: Vec::new(alloc),
+        })
+    }
+
+    /// Appends a line to the script.
+    fn add_line(&mut self, line: &str) -> Result<(), AllocError> {
+        if !self.script.is_empty() {
+            self.script.push(b'\n')?;
+        }
+        self.script.extend_from_slice(line.as_bytes())?;
+        Ok(())
+    }
+
+    /// Takes the script from the file that the last word names, but for the word `-`.
+    fn load<R: Files + AllocGlobal>(&mut self, rt: &R) -> io::Result<()> {
+        match self.heading.rsplit(' ').next() {
+            Some("-") | None => Ok(()),
+            Some(file) => {
+                let text = fs::read_to_string(rt, file)?;
+                self.script.extend_from_slice(text.as_bytes())?;
+                Ok(())
+            }
+        }
+    }
+
+    /// The words of the command line.
+    fn words(&self, alloc: Global) -> Result<Vec<String>, AllocError> {
+        let mut words = Vec::new(alloc);
+        for word in self.heading.split(' ') {
+            words.push(String::from_str(alloc, word)?)?;
+        }
+        Ok(words)
+    }
+}
+
+/// As many sources of the script.
+fn sources_of(alloc: Global, script: &[u8], count: usize) -> Result<Vec<MemSource>, AllocError>
+    ensures { IfOk result (λ sources. length sources.items ≡ count) }
+{
+    let mut sources = Vec::new(alloc);
+    for _ in 0..count {
+        sources.push(MemSource::new(script.to_vec(alloc)?, Vec::new(alloc)))?;
+    }
+    Ok(sources)
+}
+
+/// Runs the case, and prints its heading, what was emitted, and the status.
+fn run<R: Files + Print + AllocGlobal>(rt: &R, mut case: Case) -> io::Result<()> {
+    let alloc = rt.alloc();
+    case.load(rt)?;
+    let words = case.words(alloc)?;
+    let (first, last) = files_of(&words);
+    let mut sources = sources_of(alloc, &case.script, last - first)?;
+    let mut outside = MemOutput::new(alloc, Vec::new(alloc));
+    let status = hera(alloc, &words, &mut sources, &mut outside);
+    println!(rt; "== {}", case.heading)?;
+    rt.write_all(outside.bytes())?;
+    println!(rt; "-- {status}")
+}
+
+fn main(rt: HostRuntime) -> io::Result<()> {
+    let alloc = rt.alloc();
+    let mut current = None;
+    for line in BufReader::new(alloc, rt.reader())?.lines(alloc) {
+        let line = line?;
+        match line.strip_prefix("== ") {
+            Some(heading) => {
+                if let Some(case) = current.replace(Case::new(alloc, heading)?) {
+                    run(&rt, case)?;
+                }
+            }
+            None => {
+                if let Some(case) = &mut current {
+                    case.add_line(&line)?;
+                }
+            }
+        }
+    }
+    if let Some(case) = current {
+        run(&rt, case)?;
+    }
+    Ok(())
+}

@@ -1,0 +1,29 @@
+-- How far the run of some code was told.
+use Rattle.std.specs.Prelude.{◌≡◌, ℕ, List, [], ◌∷◌, take, Option}
+use Rattle.std.specs.Io.KnownBytes.{Appends}
+use Rattle.hera_meaning.specs.declared.schemas.RelDecl.{RelDecl}
+use Rattle.hera_meaning.specs.Deltas.{State}
+use Rattle.hera_meaning.specs.Worlds.{Event}
+use Rattle.hera_meaning.specs.Run.{printed}
+use Rattle.hera_code.specs.declared.instrs.Code.{Code}
+use Rattle.hera_code.specs.Reached.{over, code_at, with_line}
+use Rattle.hera_codegen.specs.Correct.{events_in}
+use Rattle.hera_machine.specs.declared.events.End.{End}
+use Rattle.hera_machine.specs.Standing.{stop_of}
+
+-- the last line of a run that ends so, nothing at its own end
+abbrev pub last_text : End → List ℕ
+last_text end = printed (with_line [] (stop_of end))
+
+-- the code ends so, and all that its events print was said
+pub record EndsSaid (code : Code) (rels : List RelDecl) (s : State) (turns : ℕ) (before now : Option (List ℕ)) (end : End) : Type 0 where
+  pub steps : ℕ
+  pub events : List Event
+  pub ends : code_at code rels s [] turns steps ≡ over events (stop_of end)
+  pub said : Appends before now (printed events)
+
+-- a front was said of what the events of the code's first steps print
+pub record PartSaid (code : Code) (rels : List RelDecl) (s : State) (turns : ℕ) (before now : Option (List ℕ)) : Type 0 where
+  pub steps : ℕ
+  pub front : ℕ
+  pub said : Appends before now (take front (printed (events_in (code_at code rels s [] turns steps))))
