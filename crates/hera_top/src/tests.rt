@@ -84,7 +84,7 @@ fn faults_end_the_call(rt: HostRuntime) -> Result<(), Fail> {
     let alloc = rt.alloc();
     let line: &[&str] = &["eval", "100", "f"];
     let script: &[u8] = b"main { print 14; print 15; }";
-    let cut = &[Piece::Take(4), Piece::Fail];
+    let cut = &[Piece::Take(3), Piece::Take(1), Piece::Fail];
     check(&rt, alloc, line, script, (&[], cut), b"14\n1", 8)?;
     let unread: &[Piece] = &[Piece::Fail];
     check(
