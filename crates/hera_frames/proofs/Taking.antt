@@ -1,5 +1,5 @@
 -- Operands that are taken off a stack one by one.
-use Rattle.std.proofs.Common.{◌≡◌, ℕ, suc, ◌+◌, ◌-◌, ◌<◌, List, [], ◌∷◌, None, ap, arith}
+use Rattle.std.proofs.Common.{◌≡◌, ℕ, suc, ◌+◌, ◌-◌, ◌<◌, List, ◌∷◌, ap, arith}
 use Rattle.hera_meaning.specs.Values.{Value}
 use Rattle.hera_code.specs.Machine.{taken}
 
@@ -7,8 +7,3 @@ pub taken_next : (n i : ℕ) (args : List Value) (v : Value) (vs : List Value) �
 taken_next n i args v vs h =
     let e : n - i ≡ suc (n - (i + 1)) = omega arith in
     ap (λ k. taken k args (v ∷ vs)) e
-
-pub taken_short : (n i : ℕ) (args : List Value) → i < n → taken (n - i) args [] ≡ None
-taken_short n i args h =
-    let e : n - i ≡ suc (n - (i + 1)) = omega arith in
-    ap (λ k. taken k args []) e

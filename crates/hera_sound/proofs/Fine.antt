@@ -118,9 +118,6 @@ module _ {g : Env} (x : Inside g) (rs : List ℕ) where
   pub moved : (ws ws' : List ℕ) (b b' : ℕ) (v : Typing) → ws ≡ ws' → b ≤ b' → Fine x rs ws b v → Fine x rs ws' b' v
   moved ws ws' b b' v e l h = let s = h.small in record { of = h.of; good = h.good; walks = h.walks ∙ e; small = omega (arith, l, s) }
 
-  pub moved_all : (ws ws' : List ℕ) (b b' : ℕ) (vs : List Typing) → ws ≡ ws' → b ≤ b' → FineAll x rs ws b vs → FineAll x rs ws' b' vs
-  moved_all ws ws' b b' vs e l h = let s = h.small in record { of = h.of; walks = h.walks ∙ e; small = omega (arith, l, s) }
-
   -- an operation of one operand
   pub one_prim : (ws : List ℕ) (b : ℕ) (v : Typing) (op : Op) (at : ℕ) (t : Shape) → OpIsOf (env_in x).relations op (form_of v.type ∷ []) (form_of t) → IsGood t →
       Fine x rs ws b v → Fine x rs ws (b + 4) (typing t (prim op (one_expr v.core) at))

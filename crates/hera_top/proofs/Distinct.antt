@@ -1,5 +1,5 @@
 -- One relation more of a catalogue.
-use Rattle.std.proofs.Common.{◌≡◌, ℕ, ◌+◌, ◌<◌, ◌≤◌, Bool, true, false, ◌||◌, List, [], ◌∷◌, ◌++◌, length, map, drop, get_or, refl, sym, ap, subst, ◌∙◌, arith, length-append}
+use Rattle.std.proofs.Common.{◌≡◌, ℕ, ◌+◌, ◌<◌, false, List, [], ◌∷◌, ◌++◌, length, map, drop, get_or, refl, sym, ap, subst, ◌∙◌}
 use Rattle.std.proofs.lemmas.Bool.{false_from_ne_true, or_parts, or_from, both_ways}
 use Rattle.std.proofs.lemmas.List.{map-append, drop_more}
 use Rattle.hera_sets.specs.Rows.{Row, is_same, holds}
@@ -26,10 +26,3 @@ next_is_new added rels i x c is here =
     let cut : added ++ get_or rels i x ∷ drop (i + 1) rels ≡ rels = ap (λ (l : List RelDecl). added ++ l) (sym (drop_more rels i x here)) ∙ is in
     let names : map decl_name added ++ map decl_name (get_or rels i x ∷ drop (i + 1) rels) ≡ map decl_name rels = sym (map-append decl_name added (get_or rels i x ∷ drop (i + 1) rels)) ∙ ap (map decl_name) cut in
     fresh_name (map decl_name added) (get_or rels i x).name (map decl_name (drop (i + 1) rels)) (subst AreDistinct (sym names) c.distinct)
-
-pub room_for_next : (added rels : List RelDecl) (i : ℕ) (x : RelDecl) → IsCatalogue rels → added ++ drop i rels ≡ rels → i < length rels → length added < 256
-room_for_next added rels i x c is here =
-    let cut : added ++ get_or rels i x ∷ drop (i + 1) rels ≡ rels = ap (λ (l : List RelDecl). added ++ l) (sym (drop_more rels i x here)) ∙ is in
-    let long : length added + length (get_or rels i x ∷ drop (i + 1) rels) ≡ length rels = sym (length-append added (get_or rels i x ∷ drop (i + 1) rels)) ∙ ap length cut in
-    let few : length rels ≤ 256 = c.few in
-    omega (arith, long, few)

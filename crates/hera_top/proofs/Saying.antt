@@ -1,17 +1,12 @@
 -- What is said of an outcome.
 use Rattle.std.proofs.Common.{◌≡◌, ℕ, ◌+◌, ◌<◌, inl, inr, ⊎_elim, ◌⊎◌, List, [], ◌∷◌, length, get_or, take, Option, Some, None, refl, sym, ap, subst, append-nil, arith, slice_set}
-use Rattle.std.specs.Io.KnownBytes.{Appends, Keeps}
+use Rattle.std.specs.Io.KnownBytes.{Appends}
 use Rattle.hera_top.specs.declared.words.Command.{Command}
 use Rattle.hera_top.specs.declared.words.Command.TheVariants.{Check, List as list_command, Eval}
-use Rattle.hera_top.specs.Outcome.{Outcome, text_of_outcome, status_of_outcome, IsSaid, ComesTo, IsRead, Answers, says, no_memory}
+use Rattle.hera_top.specs.Outcome.{Outcome, text_of_outcome, IsSaid, IsRead, Answers, says, no_memory}
 use Rattle.hera_top.specs.Said.{SaysOutcome}
 use Rattle.hera_top.specs.Sources.{Seen, first_seen}
 use Rattle.hera_top.specs.Words.{files_in}
-
-pub whole_said : (outcome : Outcome) (status : ℕ) (before now : Option (List ℕ)) (text : List ℕ) → text_of_outcome outcome ≡ text → status_of_outcome outcome ≡ status
-    → Appends before now text → IsSaid outcome status before now
-whole_said outcome status before now text is own appended =
-    inl (record { own_status = sym own; whole_text = subst (λ (l : List ℕ). Appends before now l) (sym is) appended })
 
 pub part_said : (outcome : Outcome) (before now : Option (List ℕ)) (text : List ℕ) → text_of_outcome outcome ≡ text
     → ((n : ℕ) × Appends before now (take n text)) → IsSaid outcome 8 before now
@@ -21,10 +16,6 @@ part_said outcome before now text is (n, appended) =
 pub Appends-nothing : (known : Option (List ℕ)) → Appends known known []
 Appends-nothing None = tt
 Appends-nothing (Some bytes) = sym (append-nil bytes)
-
--- nothing was said, since there was no memory
-pub nothing_said : (outcome : Outcome) (known : Option (List ℕ)) → IsSaid outcome 9 known known
-nothing_said outcome known = inr (record { cause = inr refl; front = (0, Appends-nothing known) })
 
 -- a script that was read whole, and what was said of it
 pub read_said : (command : Command) (before now : Seen) (script : List ℕ) (status : ℕ) (said_before said_now : Option (List ℕ)) → IsRead before.left now.left script

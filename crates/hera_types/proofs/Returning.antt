@@ -21,9 +21,6 @@ returns_last (y ∷ z ∷ xs) x = returns_last (z ∷ xs) x
 pub last_turn : (xs : List Stmt) (i : ℕ) (x : Stmt) {last : Bool} → i < length xs → x ≡ get_or xs i x → last ≡ command_returns (command_of x) → last ≡ returns (block_in (take (i + 1) xs))
 last_turn xs i x h e k = k ∙ sym (ap (λ ys. returns (block_in ys)) (take_at xs i x h e) ∙ returns_last (take i xs) x)
 
-pub arms_turn : (xs : List Arm) (i : ℕ) (x : Arm) {b : Bool} → i < length xs → x ≡ get_or xs i x → returns (block_in x.block.items) ≡ true → b ≡ arms_return (arms_in (drop i xs)) → b ≡ arms_return (arms_in (drop (i + 1) xs))
-arms_turn xs i x h e k v = v ∙ ap (λ ys. arms_return (arms_in ys)) (next_at xs i x h e) ∙ ap (λ b. b && arms_return (arms_in (drop (i + 1) xs))) k
-
 pub arms_stop : (xs : List Arm) (i : ℕ) (x : Arm) {b : Bool} → i < length xs → x ≡ get_or xs i x → returns (block_in x.block.items) ≡ false → b ≡ arms_return (arms_in (drop i xs)) → b ≡ false
 arms_stop xs i x h e k v = v ∙ ap (λ ys. arms_return (arms_in ys)) (next_at xs i x h e) ∙ ap (λ b. b && arms_return (arms_in (drop (i + 1) xs))) k
 

@@ -18,11 +18,6 @@ pub gives_done : {A B : Type 0} (as_b : A → B) (r : Result A TypeFault) {b : B
 gives_done as_b (Ok v) h e k = k ∙ ap (λ b. Ok b) (sym h)
 gives_done as_b (Err f) h e k = λ ne. absurd (ne e)
 
--- the definition that an answer gives is another one
-pub gives_as : {A B : Type 0} (as_b : A → B) (r : Result A TypeFault) {x y : Result B TypeFault} → Gives as_b r x → y ≡ x → Gives as_b r y
-gives_as as_b (Ok v) h e = e ∙ h
-gives_as as_b (Err f) h e = λ ne. e ∙ h ne
-
 pub on_ok : {A E : Type 0} (r : Result A E) {P : Type 0} → P → OnOk r P
 on_ok (Ok v) p = p
 on_ok (Err f) p = tt

@@ -72,10 +72,6 @@ pub no_atom : (at : ℕ) (vs : List Typed) → length vs ≡ 0 → atoms_row at 
 no_atom at [] h = refl
 no_atom at (v ∷ vs) h = absurd (omega arith)
 
-pub one_atom : (at : ℕ) (vs rest : List Typed) (v : Typed) → vs ≡ v ∷ rest → length rest ≡ 0 → atoms_row at (typings_of vs) ≡ typing delta (expr_of v.core)
-one_atom at vs [] v e h = ap (λ vs. atoms_row at (typings_of vs)) e
-one_atom at vs (w ∷ rest) v e h = absurd (omega arith)
-
 pub more_atoms : (at : ℕ) (vs rest : List Typed) (v : Typed) → vs ≡ v ∷ rest → 0 < length rest → atoms_row at (typings_of vs) ≡ typing delta (chain (expr_of v.core) (merges_from at (typings_of rest)))
 more_atoms at vs [] v e h = absurd (omega arith)
 more_atoms at vs (w ∷ rest) v e h = ap (λ vs. atoms_row at (typings_of vs)) e

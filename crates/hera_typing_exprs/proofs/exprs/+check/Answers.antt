@@ -1,44 +1,37 @@
-use Rattle.std.proofs.Common.{◌≡◌, sym, ap, ◌∙◌, refl, arith, drop, List, [], ◌∷◌, ◌++◌}
-use Rattle.std.specs.Prelude.{Ok, Some}
+use Rattle.std.proofs.Common.{sym, ap, ◌∙◌, refl, arith, drop, List, [], ◌∷◌, ◌++◌}
+use Rattle.std.specs.Prelude.{Ok}
 use Rattle.hera_meaning.specs.Plain.{expr_of}
 use Rattle.hera_syntax.specs.declared.expr.Expr.{Expr, out-Expr}
-use Rattle.hera_syntax.specs.declared.expr.Or.{Or, out-Or}
-use Rattle.hera_syntax.specs.declared.expr.And.{And, out-And}
-use Rattle.hera_syntax.specs.declared.expr.Sum.{Sum, out-Sum}
-use Rattle.hera_syntax.specs.declared.expr.Term.{Term, out-Term}
-use Rattle.hera_syntax.specs.declared.expr.Smash.{Smash, out-Smash}
-use Rattle.hera_syntax.specs.declared.expr.Merge.{Merge, out-Merge}
+use Rattle.hera_syntax.specs.declared.expr.Or.{out-Or}
+use Rattle.hera_syntax.specs.declared.expr.And.{out-And}
+use Rattle.hera_syntax.specs.declared.expr.Sum.{out-Sum}
+use Rattle.hera_syntax.specs.declared.expr.Term.{out-Term}
+use Rattle.hera_syntax.specs.declared.expr.Smash.{out-Smash}
+use Rattle.hera_syntax.specs.declared.expr.Merge.{out-Merge}
 use Rattle.hera_syntax.specs.declared.expr.WhenTail.{out-WhenTail}
 use Rattle.hera_syntax.specs.declared.expr.OrTail.{out-OrTail}
 use Rattle.hera_syntax.specs.declared.expr.AndTail.{out-AndTail}
 use Rattle.hera_syntax.specs.declared.expr.SumTail.{out-SumTail}
 use Rattle.hera_syntax.specs.declared.expr.TermTail.{out-TermTail}
 use Rattle.hera_syntax.specs.declared.expr.SmashTail.{out-SmashTail}
-use Rattle.hera_syntax.specs.declared.expr.Cmp.{Cmp, out-Cmp}
-use Rattle.hera_syntax.specs.declared.expr.CmpTail.{CmpTail, out-CmpTail}
-use Rattle.hera_syntax.specs.declared.expr.Args.{Args, out-Args}
-use Rattle.hera_syntax.specs.declared.expr.Bindings.{Bindings, out-Bindings}
+use Rattle.hera_syntax.specs.declared.expr.Cmp.{out-Cmp}
+use Rattle.hera_syntax.specs.declared.expr.CmpTail.{out-CmpTail}
 use Rattle.hera_syntax.specs.declared.expr.Binding.{out-Binding}
-use Rattle.hera_syntax.specs.declared.expr.Atoms.{Atoms, out-Atoms}
-use Rattle.hera_syntax.specs.declared.expr.Lines.{Lines, out-Lines}
-use Rattle.hera_rules.specs.declared.words.Word.{Word}
 use Rattle.hera_rules.specs.declared.words.Joint.{Joint}
 use Rattle.hera_meaning.specs.declared.trees.Shape.{Shape}
 use Rattle.hera_rules.specs.Agrees.{Keeps, typing_of, steps_of}
 use Rattle.hera_typing_exprs.specs.Parts.{list_of}
 use Rattle.hera_rules.specs.Environments.{env_of}
-use Rattle.hera_rules.specs.Phrases.{phrase, uses, no_use}
-use Rattle.hera_rules.specs.Read.{chain_phrase, joint_of, cmp_uses_in, prime_phrase, expr_phrase, or_phrase, and_phrase, cmp_phrase, sum_phrase, term_phrase, smash_phrase, merge_phrase, prefix_of_tree, expr_uses_in, or_uses_in, and_uses_in, sum_uses_in, term_uses_in, smash_uses_in, merge_uses_in, args_phrases, phrases_in, bindings_phrases, bindings_in, atoms_phrases, atoms_in, atom_phrase, lines_phrases, lines_in, line_phrase, word_of}
+use Rattle.hera_rules.specs.Phrases.{uses, no_use}
+use Rattle.hera_rules.specs.Read.{joint_of, prime_phrase, expr_phrase, or_phrase, and_phrase, cmp_phrase, sum_phrase, term_phrase, smash_phrase, merge_phrase, prefix_of_tree, expr_uses_in, or_uses_in, and_uses_in, sum_uses_in, term_uses_in, smash_uses_in, merge_uses_in, atom_phrase, line_phrase, word_of}
 use Rattle.hera_rules.specs.Rules.{joint_row, typing, chain_core, Step}
 use Rattle.hera_rules.specs.Typing.{slots_of, slots_of_all, slots_of_uses}
 use Rattle.hera_rules.specs.Checked.{check_uses}
-use Rattle.hera_rules.proofs.ReadLaws.{cmp_phrase-read, cmp_use-read, prime_phrase-Walk, expr_phrase-read, or_phrase-read, and_phrase-read, sum_phrase-read, term_phrase-read, smash_phrase-read, merge_phrase-read, args_phrases-read, bindings_phrases-read, binding_phrase-read, atoms_phrases-read, lines_phrases-read}
+use Rattle.hera_rules.proofs.ReadLaws.{prime_phrase-Walk, expr_phrase-read, or_phrase-read, and_phrase-read, sum_phrase-read, term_phrase-read, smash_phrase-read, merge_phrase-read}
 use Rattle.hera_typing_exprs.proofs.Levels.{level_first, level_done, level_breaks, uses_step, uses_operand, uses_break, slots_of-chain, left_behind, at_locals, all_first, all_rest, all_step, all_break, all_end, put_first, put_more, args_more, args_none, bindings_more, bindings_none, atoms_more, atoms_none, lines_more, lines_none, expr_more, expr_none, or_more, or_none, and_more, and_none, sum_more, sum_none, term_more, term_none, smash_more, smash_none, merge_more, merge_none}
 use Rattle.hera_typing_parts.proofs.Giving.{gives_err, gives_done, on_ok}
+use Rattle.hera_typing_exprs.proofs.Wholes.{expr_whole, or_whole, and_whole, sum_whole, term_whole, smash_whole, merge_whole, args_whole, bindings_whole, atoms_whole, lines_whole, cmp_whole}
 use Rattle.hera_typing_exprs.proofs.exprs.+check.Goals as goal
-
-expr_whole : (e : Expr) (ts : _) → ts ≡ (out-Expr e).rest.items → expr_phrase e ≡ chain_phrase (or_phrase (out-Expr e).first) (expr_uses_in ts)
-expr_whole e ts d = expr_phrase-read e ∙ ap (λ ts. chain_phrase (or_phrase (out-Expr e).first) (expr_uses_in ts)) (sym d)
 
 pub expr-returns-in_err-first-clause-checks : goal.expr-returns-in_err-first-clause-checks
 expr-returns-in_err-first-clause-checks t c =
@@ -117,9 +110,6 @@ expr-returns-clause-keeps t c =
       next = omega (arith, inv.slots, whole, none, parts, c.in_ok-first.ensures.keeps.next);
     } in on_ok _ kept
 
-or_whole : (e : Or) (ts : _) → ts ≡ (out-Or e).rest.items → or_phrase e ≡ chain_phrase (and_phrase (out-Or e).first) (or_uses_in ts)
-or_whole e ts d = or_phrase-read e ∙ ap (λ ts. chain_phrase (and_phrase (out-Or e).first) (or_uses_in ts)) (sym d)
-
 pub or-returns-in_err-first-clause-checks : goal.or-returns-in_err-first-clause-checks
 or-returns-in_err-first-clause-checks t c =
     let e = c.args.e.now in
@@ -196,9 +186,6 @@ or-returns-clause-keeps t c =
       locals = inv.locals;
       next = omega (arith, inv.slots, whole, none, parts, c.in_ok-first.ensures.keeps.next);
     } in on_ok _ kept
-
-and_whole : (e : And) (ts : _) → ts ≡ (out-And e).rest.items → and_phrase e ≡ chain_phrase (cmp_phrase (out-And e).first) (and_uses_in ts)
-and_whole e ts d = and_phrase-read e ∙ ap (λ ts. chain_phrase (cmp_phrase (out-And e).first) (and_uses_in ts)) (sym d)
 
 pub and-returns-in_err-first-clause-checks : goal.and-returns-in_err-first-clause-checks
 and-returns-in_err-first-clause-checks t c =
@@ -277,9 +264,6 @@ and-returns-clause-keeps t c =
       next = omega (arith, inv.slots, whole, none, parts, c.in_ok-first.ensures.keeps.next);
     } in on_ok _ kept
 
-sum_whole : (e : Sum) (ts : _) → ts ≡ (out-Sum e).rest.items → sum_phrase e ≡ chain_phrase (term_phrase (out-Sum e).first) (sum_uses_in ts)
-sum_whole e ts d = sum_phrase-read e ∙ ap (λ ts. chain_phrase (term_phrase (out-Sum e).first) (sum_uses_in ts)) (sym d)
-
 pub sum-returns-in_err-first-clause-checks : goal.sum-returns-in_err-first-clause-checks
 sum-returns-in_err-first-clause-checks t c =
     let e = c.args.e.now in
@@ -356,9 +340,6 @@ sum-returns-clause-keeps t c =
       locals = inv.locals;
       next = omega (arith, inv.slots, whole, none, parts, c.in_ok-first.ensures.keeps.next);
     } in on_ok _ kept
-
-term_whole : (e : Term) (ts : _) → ts ≡ (out-Term e).rest.items → term_phrase e ≡ chain_phrase (smash_phrase (out-Term e).first) (term_uses_in ts)
-term_whole e ts d = term_phrase-read e ∙ ap (λ ts. chain_phrase (smash_phrase (out-Term e).first) (term_uses_in ts)) (sym d)
 
 pub term-returns-in_err-first-clause-checks : goal.term-returns-in_err-first-clause-checks
 term-returns-in_err-first-clause-checks t c =
@@ -437,9 +418,6 @@ term-returns-clause-keeps t c =
       next = omega (arith, inv.slots, whole, none, parts, c.in_ok-first.ensures.keeps.next);
     } in on_ok _ kept
 
-smash_whole : (e : Smash) (ts : _) → ts ≡ (out-Smash e).rest.items → smash_phrase e ≡ chain_phrase (merge_phrase (out-Smash e).first) (smash_uses_in ts)
-smash_whole e ts d = smash_phrase-read e ∙ ap (λ ts. chain_phrase (merge_phrase (out-Smash e).first) (smash_uses_in ts)) (sym d)
-
 pub smash-returns-in_err-first-clause-checks : goal.smash-returns-in_err-first-clause-checks
 smash-returns-in_err-first-clause-checks t c =
     let e = c.args.e.now in
@@ -516,9 +494,6 @@ smash-returns-clause-keeps t c =
       locals = inv.locals;
       next = omega (arith, inv.slots, whole, none, parts, c.in_ok-first.ensures.keeps.next);
     } in on_ok _ kept
-
-merge_whole : (e : Merge) (ts : _) → ts ≡ (out-Merge e).rest.items → merge_phrase e ≡ chain_phrase (prefix_of_tree (out-Merge e).first) (merge_uses_in ts)
-merge_whole e ts d = merge_phrase-read e ∙ ap (λ ts. chain_phrase (prefix_of_tree (out-Merge e).first) (merge_uses_in ts)) (sym d)
 
 pub merge-returns-in_err-first-clause-checks : goal.merge-returns-in_err-first-clause-checks
 merge-returns-in_err-first-clause-checks t c =
@@ -597,9 +572,6 @@ merge-returns-clause-keeps t c =
       next = omega (arith, inv.slots, whole, none, parts, c.in_ok-first.ensures.keeps.next);
     } in on_ok _ kept
 
-args_whole : (a : Args) (xs : _) → xs ≡ (out-Args a).rest.items → args_phrases a ≡ phrase (expr_phrase (out-Args a).first) (phrases_in xs)
-args_whole a xs d = args_phrases-read a ∙ ap (λ xs. phrase (expr_phrase (out-Args a).first) (phrases_in xs)) (sym d)
-
 pub args-returns-in_err-first-clause-checks : goal.args-returns-in_err-first-clause-checks
 args-returns-in_err-first-clause-checks t c = gives_err list_of _ c.from_residual.ensures.1 (λ ne. all_first _ _ _ (args_whole _ _ refl) (c.in_err-first.ensures.checks ne))
 
@@ -636,9 +608,6 @@ args-returns-clause-keeps t c =
       locals = inv.locals;
       next = omega (arith, inv.slots, whole, none, c.in_ok-first.ensures.keeps.next);
     }
-
-bindings_whole : (a : Bindings) (xs : _) → xs ≡ (out-Bindings a).rest.items → bindings_phrases a ≡ phrase (expr_phrase (out-Binding (out-Bindings a).first).value) (bindings_in xs)
-bindings_whole a xs d = bindings_phrases-read a ∙ ap (λ p. phrase p (bindings_in (out-Bindings a).rest.items)) (binding_phrase-read (out-Bindings a).first) ∙ ap (λ xs. phrase (expr_phrase (out-Binding (out-Bindings a).first).value) (bindings_in xs)) (sym d)
 
 pub bindings-returns-in_err-first-clause-checks : goal.bindings-returns-in_err-first-clause-checks
 bindings-returns-in_err-first-clause-checks t c = gives_err list_of _ c.from_residual.ensures.1 (λ ne. all_first _ _ _ (bindings_whole _ _ refl) (c.in_err-first.ensures.checks ne))
@@ -677,9 +646,6 @@ bindings-returns-clause-keeps t c =
       next = omega (arith, inv.slots, whole, none, c.in_ok-first.ensures.keeps.next);
     }
 
-atoms_whole : (a : Atoms) (xs : _) → xs ≡ (out-Atoms a).rest.items → atoms_phrases a ≡ phrase (atom_phrase (out-Atoms a).first) (atoms_in xs)
-atoms_whole a xs d = atoms_phrases-read a ∙ ap (λ xs. phrase (atom_phrase (out-Atoms a).first) (atoms_in xs)) (sym d)
-
 pub atoms-returns-in_err-first-clause-checks : goal.atoms-returns-in_err-first-clause-checks
 atoms-returns-in_err-first-clause-checks t c = gives_err list_of _ c.from_residual.ensures.1 (λ ne. all_first _ _ _ (atoms_whole _ _ refl) (c.in_err-first.ensures.checks ne))
 
@@ -716,9 +682,6 @@ atoms-returns-clause-keeps t c =
       locals = inv.locals;
       next = omega (arith, inv.slots, whole, none, c.in_ok-first.ensures.keeps.next);
     }
-
-lines_whole : (w : Word) (a : Lines) (xs : _) → xs ≡ (out-Lines a).rest.items → lines_phrases w a ≡ phrase (line_phrase w (out-Lines a).first) (lines_in w xs)
-lines_whole w a xs d = lines_phrases-read w a ∙ ap (λ xs. phrase (line_phrase w (out-Lines a).first) (lines_in w xs)) (sym d)
 
 pub lines-returns-in_err-first-clause-checks : goal.lines-returns-in_err-first-clause-checks
 lines-returns-in_err-first-clause-checks t c = gives_err list_of _ c.from_residual.ensures.1 (λ ne. all_first _ _ _ (lines_whole (word_of c.args.name.now) _ _ refl) (c.in_err-first.ensures.checks ne))
@@ -758,9 +721,6 @@ lines-returns-clause-keeps t c =
     }
 
 -- a comparison with an operator
-cmp_whole : (e : Cmp) (t : CmpTail) → (out-Cmp e).rest ≡ Some t → cmp_phrase e ≡ chain_phrase (sum_phrase (out-Cmp e).first) (uses (joint_of (out-CmpTail t).op.kind) (out-CmpTail t).op.at (sum_phrase (out-CmpTail t).operand) no_use)
-cmp_whole e t d = cmp_phrase-read e ∙ ap (λ r. chain_phrase (sum_phrase (out-Cmp e).first) (cmp_uses_in r)) d ∙ ap (chain_phrase (sum_phrase (out-Cmp e).first)) (cmp_use-read t)
-
 pub cmp-returns-in_err-operand-in-Some-clause-checks : goal.cmp-returns-in_err-operand-in-Some-clause-checks
 cmp-returns-in_err-operand-in-Some-clause-checks t c =
     let g = env_of c.args.globals.now in
