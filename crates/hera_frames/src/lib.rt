@@ -19,3 +19,6 @@ pub use operands::Operands;
 pub use values::{bool_of, const_of, into_delta, into_rel, into_row};
 pub use views::{apply_all, apply_to};
 pub use walks::{Walk, Walks};
+
+#[cfg(test)]
+mod tests;
