@@ -1,5 +1,5 @@
 -- The phrases of a tree whose tokens have their values are made as the grammar asks: statements and scripts.
-use Rattle.std.proofs.Common.{◌≡◌, ℕ, ◌<◌, ◌≤◌, ◌+◌, List, [], ◌∷◌, ◌++◌, refl, sym, ap, ◌∙◌, subst, arith, true, append_assoc, append-nil}
+use Rattle.std.proofs.Common.{◌≡◌, ℕ, ◌<◌, ◌≤◌, ◌+◌, length, List, [], ◌∷◌, ◌++◌, refl, sym, ap, ◌∙◌, subst, arith, true, append_assoc, append-nil}
 use Rattle.std.specs.Prelude.{Option, Some, None, map, All, IsTrue, nat_eq, ◌||◌, false, ◌*◌}
 use Rattle.std.proofs.lemmas.Bool.{ne_eqb}
 use Rattle.std.specs.List.{flat_map}
@@ -25,7 +25,7 @@ use Rattle.hera_syntax.specs.declared.tree.Proc.{Proc}
 use Rattle.hera_syntax.specs.declared.tree.Main.{Main}
 use Rattle.hera_syntax.specs.declared.tree.Tree.{Tree}
 use Rattle.hera_syntax.specs.Grammar as phrases
-use Rattle.hera_syntax.specs.Tokens.{HasValue, AreTokens}
+use Rattle.hera_syntax.specs.Tokens.{HasValue, HaveValues}
 use Rattle.hera_syntax.specs.Grammar.{Allows, terminal_of, Part, keep, leave, phrase, alternatives, alternative, Production}
 use Rattle.hera_syntax.specs.declared.token.Terminal.{Terminal}
 use Rattle.hera_syntax.specs.Trees.{IsTextOf, Obeys, keeps, leaves, produces}
@@ -311,13 +311,13 @@ relations_read (x ∷ rels) ps r g o =
     }
 
 -- the script of a text is made as the grammar asks
-pub script_made : (tree : Tree) (tokens : List Token) → IsTextOf tree tokens → AreTokens tokens → ScriptIsMade (script_of tree)
-script_made tree tokens t k =
+pub script_made : (tree : Tree) (tokens : List Token) → IsTextOf tree tokens → length tokens ≤ 1048576 → HaveValues tokens → ScriptIsMade (script_of tree)
+script_made tree tokens t few values =
     let fs : List Mark = flat_map func_row tree.funcs.items in
     let ps : List Mark = flat_map proc_row tree.procs.items in
     let ms : List Mark = last_main_outline tree.main in
     let e : outline tree ≡ at_node phrases.program 0 ∷ (flat_map relation_row tree.relations.items ++ (at_node phrases.relations 1 ∷ (fs ++ (at_node phrases.funcs 1 ∷ (ps ++ (at_node phrases.procs 1 ∷ (ms ++ []))))))) = simp (append_assoc, append-nil) in
-    let g : GoodMarks (outline tree) = good_marks (outline tree) tokens t.printed k.values in
+    let g : GoodMarks (outline tree) = good_marks (outline tree) tokens t.printed values in
     let g' : GoodMarks (flat_map relation_row tree.relations.items ++ (at_node phrases.relations 1 ∷ (fs ++ (at_node phrases.funcs 1 ∷ (ps ++ (at_node phrases.procs 1 ∷ (ms ++ []))))))) = subst (λ (ms : List Mark). GoodMarks ms) e g in
     let o : Obeys (phrase phrases.program ∷ []) (at_node phrases.program 0 ∷ (flat_map relation_row tree.relations.items ++ (at_node phrases.relations 1 ∷ (fs ++ (at_node phrases.funcs 1 ∷ (ps ++ (at_node phrases.procs 1 ∷ (ms ++ [])))))))) =
     subst (λ (ms : List Mark). Obeys (phrase phrases.program ∷ []) ms) e t.levels in
@@ -331,5 +331,4 @@ script_made tree tokens t k =
     let x = funcs.few in
     let y = procs.few in
     let z = main.few in
-    let few = k.few in
     record { relations = rels.made; funcs = funcs.made; procs = procs.made; main = main.made; few = omega (arith, a, b, c, x, y, z, few) }

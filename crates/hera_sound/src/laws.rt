@@ -1,22 +1,22 @@
 // The laws of typed programs.
 
-ghost use Rattle.std.specs.Prelude.{◌≡◌, List};
+ghost use Rattle.std.specs.Prelude.{◌≡◌, ◌≤◌, List, length};
 ghost use Rattle.hera_meaning.specs.Trees.{Program_tree};
 ghost use Rattle.hera_meaning.specs.Sound.{Sound};
 ghost use Rattle.hera_host.specs.Tables.{Host, specs_of, AreHosts};
 ghost use Rattle.hera_syntax.specs.declared.token.Token.{Token};
 ghost use Rattle.hera_syntax.specs.declared.tree.Tree.{Tree};
 ghost use Rattle.hera_syntax.specs.Programs.{outline};
-ghost use Rattle.hera_syntax.specs.Tokens.{AreTokens};
+ghost use Rattle.hera_syntax.specs.Tokens.{HaveValues};
 ghost use Rattle.hera_syntax.specs.Trees.{IsTextOf};
 ghost use Rattle.hera_rules.specs.ReadActs.{script_of};
 ghost use Rattle.hera_rules.specs.Programs.{ElabScript};
 
-/// The program of a text that is typed is sound: every operand has the form that its operation takes,
+/// The program of a text that is typed, of at most 1,048,576 tokens, is sound: every operand has the form that its operation takes,
 /// every slot that is read is readable there, all numbers are in range, and there are fewer than 2^32
 /// instructions.
 pub fn typed_programs_are_sound()
-    ensures { (tree : Tree) → (tokens : List Token) → (hosts : List Host) → (p : Program_tree) → IsTextOf tree tokens → AreTokens tokens → AreHosts hosts → ElabScript hosts (script_of tree) p → Sound p (specs_of hosts) }
+    ensures { (tree : Tree) → (tokens : List Token) → (hosts : List Host) → (p : Program_tree) → IsTextOf tree tokens → length tokens ≤ 1048576 → HaveValues tokens → AreHosts hosts → ElabScript hosts (script_of tree) p → Sound p (specs_of hosts) }
 {}
 
 /// Two trees of one outline have one script, so typing sees nothing of a tree but its outline.

@@ -4,4 +4,4 @@ use Rattle.hera_sound.proofs.Scripts.{script_sound}
 use Rattle.hera_sound.proofs.laws.typed_programs_are_sound.Goals as goal
 
 pub returns : goal.returns
-returns c = λ tree tokens hosts p text tokens_are hosts_are typed. script_sound hosts (script_of tree) p hosts_are (script_made tree tokens text tokens_are) typed
+returns c = λ tree tokens hosts p text few values hosts_are typed. script_sound hosts (script_of tree) p hosts_are (script_made tree tokens text few values) typed

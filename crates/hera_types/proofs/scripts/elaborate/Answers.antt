@@ -8,7 +8,7 @@ returns-clause-typed c = typed_script c.args.hosts.now (script_of c.args.tree.no
 pub returns-clause-sound : goal.returns-clause-sound
 returns-clause-sound c =
     sound_script c.args.hosts.now (script_of c.args.tree.now) _
-    (λ p e. c.typed_programs_are_sound.ensures c.args.tree.now c.requires.0 c.args.hosts.now p c.requires.1 c.requires.2 c.len-count.ensures.valid e)
+    (λ p e. c.typed_programs_are_sound.ensures c.args.tree.now c.requires.0 c.args.hosts.now p c.requires.1 c.requires.2 c.requires.3 c.len-count.ensures.valid e)
     (typed_script c.args.hosts.now (script_of c.args.tree.now) _ c.checked.ensures)
 
 pub returns-clause-fault : goal.returns-clause-fault
