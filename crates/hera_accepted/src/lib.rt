@@ -3,7 +3,7 @@
 
 mod laws;
 
-pub use laws::a_script_has_one_program;
+pub use laws::{a_script_has_one_program, accepted_programs_are_sound};
 
 #[cfg(test)]
 mod tests;

@@ -1,4 +1,5 @@
 pub mod Ends
 pub mod Kept
+pub mod Own
 pub mod Loops
 pub mod Found

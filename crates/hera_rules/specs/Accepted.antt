@@ -1,10 +1,7 @@
--- Which scripts are accepted, with which program, and what a script means.
+-- Which scripts are accepted, and with which program.
 use Rattle.std.specs.Prelude.{◌≡◌, ℕ, List, None}
-use Rattle.hera_meaning.specs.declared.schemas.RelDecl.{RelDecl}
-use Rattle.hera_meaning.specs.Deltas.{State}
 use Rattle.hera_meaning.specs.Trees.{Program_tree}
-use Rattle.hera_meaning.specs.Run.{Report, run_of}
-use Rattle.hera_host.specs.Tables.{Host, specs_of}
+use Rattle.hera_host.specs.Tables.{Host}
 use Rattle.hera_syntax.specs.declared.token.Token.{Token}
 use Rattle.hera_syntax.specs.declared.tree.Tree.{Tree}
 use Rattle.hera_syntax.specs.Lex.{Lex}
@@ -12,7 +9,6 @@ use Rattle.hera_syntax.specs.Tokens.{deep_at}
 use Rattle.hera_syntax.specs.Trees.{IsTextOf}
 use Rattle.hera_rules.specs.ReadActs.{script_of}
 use Rattle.hera_rules.specs.Programs.{ElabScript}
-use Rattle.hera_rules.specs.Bound.{bound}
 
 -- the bytes are a script that is accepted, and this is its program: they are cut into tokens, at most 64
 -- brackets are open at once, the tokens are the text of a tree, and the tree is typed
@@ -23,9 +19,3 @@ pub record Accepted (bytes : List ℕ) (hosts : List Host) (p : Program_tree) : 
   pub shallow : deep_at 0 tokens ≡ None
   pub text : IsTextOf tree tokens
   pub typed : ElabScript hosts (script_of tree) p
-
--- the script is accepted, and from this state, with its relations bound to the catalogue's, and with n turns, it means this
-pub record Means (bytes : List ℕ) (catalogue : List RelDecl) (s : State) (hosts : List Host) (n : ℕ) (report : Report) : Type 0 where
-  pub program : Program_tree
-  pub accepted : Accepted bytes hosts program
-  pub runs : run_of (bound program catalogue) s (specs_of hosts) n ≡ report

@@ -1,5 +1,6 @@
--- Typing as one function, in the order of work. The relations are the definition; the functions here are
--- for the clauses of the private calls that do the work, and one theorem says that both agree.
+-- Typing of expressions as one function, in the order of work. For expressions and statements the relations are the
+-- definition; the functions are for the clauses of the private calls that do the work, and one theorem says that both
+-- agree. The first three passes over a script are defined as functions.
 use Rattle.std.specs.Prelude.{ℕ, List, [], ◌∷◌, ◌++◌, ◌+◌, Result, Ok, Err}
 use Rattle.hera_meaning.specs.declared.trees.Shape.{Shape}
 use Rattle.hera_rules.specs.declared.env.Local.{Local}

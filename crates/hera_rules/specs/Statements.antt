@@ -74,7 +74,8 @@ mutual
         Elab g ls n c v → cond_row at v ≡ Ok e → ElabActs g r ls (n + slots_of c) [] block cs →
         ElabBranches g r ls (n + slots_of c + slots_of_acts block) (ready ++ record { cond = e; block = cs } ∷ []) rest all → ElabBranches g r ls n ready (branch at c block rest) all
 
--- the parts of the statement that are checked before are typed, and it breaks its own rule with this fault
+-- the parts of the statement that are checked before are typed, and it breaks its own rule with this fault. (That a
+-- condition of an `if` is no bool is a case of its branches, below.)
 pub data BrokenAct (g : Env) (r : Option Shape) : List Local → ℕ → Act → TypeFault → Type 0 where
   type_breaks : {ls : List Local} {n : ℕ} {type : Type_phrase} {w : Word} {p : Phrase} {f : TypeFault} → type_row g.relations type ≡ Err f → BrokenAct g r ls n (declaring type w p) f
   declare_breaks : {ls : List Local} {n : ℕ} {type : Type_phrase} {w : Word} {p : Phrase} {t : Shape} {v : Typing} {f : TypeFault} →

@@ -91,7 +91,8 @@ mutual
         Elab g ls n p v → joint_row op at t v.type ≡ Ok r →
         ElabUses g ls (n + slots_of p) r (is ++ record { joint = op; at = at; arg = v.core } ∷ []) rest t' all → ElabUses g ls n t is (uses op at p rest) t' all
 
--- the parts of the phrase are typed, and it breaks its own rule with this fault
+-- the parts of the phrase that are checked before are typed, and it breaks its own rule with this fault. (A chain
+-- breaks the rule of one of its operators: that is a case of its uses, below.)
 pub data Broken (g : Env) : List Local → ℕ → Phrase → TypeFault → Type 0 where
   name_breaks : {ls : List Local} {n : ℕ} {w : Word} {f : TypeFault} → name_row g ls w ≡ Err f → Broken g ls n (named w) f
   prefix_breaks : {ls : List Local} {n : ℕ} {op : Prefix} {at : ℕ} {p : Phrase} {v : Typing} {f : TypeFault} → Elab g ls n p v → prefix_row op at v ≡ Err f → Broken g ls n (prefixed op at p) f
