@@ -9,6 +9,7 @@
 ghost use Rattle.std.specs.Prelude.{◌≡◌, IfOk, length};
 
 use hera_causes::{MemOutput, MemSource};
+use hera_host::HostTable;
 use hera_top::{files_of, hera};
 use std::alloc::{AllocError, Global};
 use std::fs::{self, Files};
@@ -80,7 +81,13 @@ fn run<R: Files + Print + AllocGlobal>(rt: &R, mut case: Case) -> io::Result<()>
     let (first, last) = files_of(&words);
     let mut sources = sources_of(alloc, &case.script, last - first)?;
     let mut outside = MemOutput::new(alloc, Vec::new(alloc));
-    let status = hera(alloc, &words, &mut sources, &mut outside);
+    let status = hera(
+        alloc,
+        &words,
+        &mut sources,
+        &mut outside,
+        &HostTable::new(alloc),
+    );
     println!(rt; "== {}", case.heading)?;
     rt.write_all(outside.bytes())?;
     println!(rt; "-- {status}")

@@ -1,5 +1,5 @@
 -- The cause and the offset of a script that is refused.
-use Rattle.std.proofs.Common.{◌≡◌, ℕ, ◌≤◌, ◌⊎◌, inl, inr, ⊎_elim, List, [], length, Ok, Err, Some, None, refl, sym, ap, ◌∙◌, subst}
+use Rattle.std.proofs.Common.{◌≡◌, ℕ, ◌≤◌, ◌⊎◌, ⊎_elim, List, length, Ok, Err, refl, sym, ap, ◌∙◌, subst}
 use Rattle.std.specs.Prelude.{slice_get, Result}
 use Rattle.hera_syntax.specs.declared.token.Token.{Token}
 use Rattle.hera_syntax.specs.declared.tree.Tree.{Tree}
@@ -47,13 +47,13 @@ same_err a b is = ap fault_in is
 -- ---- each stage
 
 -- a fault of the tokens
-pub lexing_refused : (script : List ℕ) (fault : LexFault) (cause : Cause) (at : ℕ) → length script ≤ script_limit → lexer.Answers script (Err fault)
-    → of_lexing fault ≡ Refused cause at → IsRefused [] script cause at
-lexing_refused script (lexing.BadUtf8 place) cause at short (bad, here) is =
-    same_refusal (IsRefused [] script) BadUtf8 cause place at is (subst (λ (n : ℕ). IsRefused [] script BadUtf8 n) (sym here) (bad_utf8 short bad))
-lexing_refused script (lexing.BadToken place) cause at short fails is = same_refusal (IsRefused [] script) _ cause place at is (bad_token short fails)
-lexing_refused script (lexing.TooDeep place) cause at short (tokens, lexed, deep) is = same_refusal (IsRefused [] script) _ cause place at is (too_deep short lexed deep)
-lexing_refused script lexing.Memory cause at short any is = absurd (cc (is))
+pub lexing_refused : (hosts : List Host) (script : List ℕ) (fault : LexFault) (cause : Cause) (at : ℕ) → length script ≤ script_limit → lexer.Answers script (Err fault)
+    → of_lexing fault ≡ Refused cause at → IsRefused hosts script cause at
+lexing_refused hosts script (lexing.BadUtf8 place) cause at short (bad, here) is =
+    same_refusal (IsRefused hosts script) BadUtf8 cause place at is (subst (λ (n : ℕ). IsRefused hosts script BadUtf8 n) (sym here) (bad_utf8 short bad))
+lexing_refused hosts script (lexing.BadToken place) cause at short fails is = same_refusal (IsRefused hosts script) _ cause place at is (bad_token short fails)
+lexing_refused hosts script (lexing.TooDeep place) cause at short (tokens, lexed, deep) is = same_refusal (IsRefused hosts script) _ cause place at is (too_deep short lexed deep)
+lexing_refused hosts script lexing.Memory cause at short any is = absurd (cc (is))
 
 -- tokens that are no program
 pub unreadable_at : (tokens : List Token × ℕ) (place offset : ℕ) (cause : Cause) (at : ℕ) → IsFaultAt tokens.0 place → offset ≡ offset_or (slice_get tokens.0 place) tokens.1
@@ -61,10 +61,10 @@ pub unreadable_at : (tokens : List Token × ℕ) (place offset : ℕ) (cause : C
 unreadable_at tokens place offset cause at fault here is =
     same_refusal (IsUnreadable tokens) Syntax cause offset at is (subst (λ (n : ℕ). IsUnreadable tokens Syntax n) (sym here) (unreadable fault))
 
-pub syntax_refused : (script : List ℕ) (tokens : List Token) (end : ℕ) (cause : Cause) (at : ℕ) → HasTokens script tokens → end ≡ length script
-    → IsUnreadable (tokens, end) cause at → IsRefused [] script cause at
-syntax_refused script tokens end _ _ has is (unreadable {place} fault) =
-    subst (λ (n : ℕ). IsRefused [] script Syntax (offset_or (slice_get tokens place) n)) (sym is) (syntax has fault)
+pub syntax_refused : (hosts : List Host) (script : List ℕ) (tokens : List Token) (end : ℕ) (cause : Cause) (at : ℕ) → HasTokens script tokens → end ≡ length script
+    → IsUnreadable (tokens, end) cause at → IsRefused hosts script cause at
+syntax_refused hosts script tokens end _ _ has is (unreadable {place} fault) =
+    subst (λ (n : ℕ). IsRefused hosts script Syntax (offset_or (slice_get tokens place) n)) (sym is) (syntax has fault)
 
 type_fault : (fault : TypeFault) (cause : Cause) (at : ℕ) → of_typing fault ≡ Refused cause at → IsTypeFault fault cause at
 type_fault (typing.Unknown place) cause at is = same_refusal (IsTypeFault (typing.Unknown place)) _ cause place at is unknown
@@ -79,8 +79,8 @@ memory_is_no_refusal : (fault : TypeFault) (cause : Cause) (at : ℕ) → fault 
 memory_is_no_refusal _ cause at refl is = cc (is)
 
 -- a fault of types
-pub typing_refused : (script : List ℕ) (hosts : List Host) (tokens : List Token) (tree : Tree) (fault : TypeFault) (cause : Cause) (at : ℕ) → HasTokens script tokens → IsTextOf tree tokens → hosts ≡ []
-    → (fault ≡ typing.Memory) ⊎ FirstFault hosts (script_of tree) fault → of_typing fault ≡ Refused cause at → IsRefused [] script cause at
-typing_refused script hosts tokens tree fault cause at has text none first is =
+pub typing_refused : (hosts : List Host) (script : List ℕ) (tokens : List Token) (tree : Tree) (fault : TypeFault) (cause : Cause) (at : ℕ) → HasTokens script tokens → IsTextOf tree tokens
+    → (fault ≡ typing.Memory) ⊎ FirstFault hosts (script_of tree) fault → of_typing fault ≡ Refused cause at → IsRefused hosts script cause at
+typing_refused hosts script tokens tree fault cause at has text first is =
     ⊎_elim (λ (memory : fault ≡ typing.Memory). absurd (memory_is_no_refusal fault cause at memory is))
-    (λ (f : FirstFault hosts (script_of tree) fault). types has text (subst (λ (hs : List Host). FirstFault hs (script_of tree) fault) none f) (type_fault fault cause at is)) first
+    (λ (f : FirstFault hosts (script_of tree) fault). types has text f (type_fault fault cause at is)) first

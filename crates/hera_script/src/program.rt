@@ -1,6 +1,7 @@
-ghost use Rattle.std.specs.Prelude.{◌≡◌, ◌≤◌, ℕ, [], length, Err, Some, None, IfOk, slice_get};
+ghost use Rattle.std.specs.Prelude.{◌≡◌, ◌≤◌, ℕ, length, Err, Some, None, IfOk, slice_get};
 ghost use Rattle.hera_meaning.specs.Plain.{program_of};
 ghost use Rattle.hera_meaning.specs.Sound.{Sound};
+ghost use Rattle.hera_host.specs.Tables.{specs_of};
 ghost use Rattle.hera_syntax.specs.Trees.{IsTextOf};
 ghost use Rattle.hera_script.specs.Faults.{IsUnreadable};
 ghost use Rattle.hera_script.specs.declared.cause.Cause.{Cause};
@@ -98,14 +99,15 @@ fn tree_of(alloc: Global, tokens: &Tokens) -> Result<Tree, ScriptFault>
     }
 }
 
-/// The program of a script, which is sound, or why it is refused: the first cause in the order of `Cause`.
-pub fn read_program(alloc: Global, script: &[u8]) -> Result<Program, ScriptFault>
+/// The program of a script that may call these hosts, which is sound, or why it is refused: the first cause in the
+/// order of `Cause`.
+pub fn read_program(alloc: Global, script: &[u8], hosts: &HostTable) -> Result<Program, ScriptFault>
     requires { length script.now ≤ 1048576 }
-    ensures accepted { IfOk result (λ program. Accepted script.now [] (program_of program)) }
-    ensures sound { IfOk result (λ program. Sound (program_of program) []) }
-    ensures refused { (cause : Cause) (at : ℕ) → result ≡ Err (ScriptFault.Refused cause at) → IsRefused [] script.now cause at }
+    ensures accepted { IfOk result (λ program. Accepted script.now hosts.now (program_of program)) }
+    ensures sound { IfOk result (λ program. Sound (program_of program) (specs_of hosts.now)) }
+    ensures refused { (cause : Cause) (at : ℕ) → result ≡ Err (ScriptFault.Refused cause at) → IsRefused hosts.now script.now cause at }
 {
     let tokens = lex(alloc, script)?;
     let tree = tree_of(alloc, &tokens)?;
-    Ok(elaborate(alloc, &tree, &HostTable::new(alloc))?)
+    Ok(elaborate(alloc, &tree, hosts)?)
 }

@@ -10,6 +10,7 @@ mod file_source;
 mod standard_output;
 
 use file_source::FileSource;
+use hera_host::HostTable;
 use hera_top::{files_of, hera};
 use standard_output::StandardOutput;
 use std::alloc::{AllocError, Global};
@@ -61,6 +62,7 @@ fn status<R: Env + Files + Print + AllocGlobal + Drop>(rt: &R) -> Result<u8, All
         &words,
         &mut sources,
         &mut StandardOutput::new(rt),
+        &HostTable::new(rt.alloc()),
     ))
 }
 

@@ -4,3 +4,4 @@ mod Running
 mod Distinct
 mod Lines
 mod One
+mod Evaluated

@@ -1,5 +1,5 @@
 -- The run of a program's code is the program's.
-use Rattle.std.proofs.Common.{◌≡◌, ℕ, zero, suc, ◌+◌, ◌<◌, ◌≤◌, ◌⊎◌, inl, inr, ⊎_elim, List, [], ◌∷◌, ◌++◌, take, length, map, Option, Some, None, refl, sym, ap, ◌∙◌, subst, arith, append-nil}
+use Rattle.std.proofs.Common.{◌≡◌, ℕ, ◌+◌, ◌<◌, ◌≤◌, ⊎_elim, List, [], ◌++◌, take, length, Option, Some, None, sym, ap, ◌∙◌, subst, arith, append-nil}
 use Rattle.std.proofs.lemmas.Bool.{cases_lt}
 use Rattle.std.proofs.lemmas.List.{take_all, take-append-le}
 use Rattle.std.proofs.Math.Seq.{take-append_seam, take-append-add}
@@ -9,16 +9,16 @@ use Rattle.hera_meaning.specs.declared.schemas.RelDecl.{RelDecl}
 use Rattle.hera_meaning.specs.Deltas.{Delta, State}
 use Rattle.hera_meaning.specs.Trees.{Program_tree}
 use Rattle.hera_meaning.specs.Worlds.{Event}
-use Rattle.hera_meaning.specs.Run.{Report, Finish, printed, run_of, finished, stopped, out_of_turns}
+use Rattle.hera_meaning.specs.Run.{Report, Finish, printed, run_of}
 use Rattle.hera_code.specs.declared.instrs.Code.{Code}
-use Rattle.hera_host.specs.Tables.{Host, specs_of}
+use Rattle.hera_meaning.specs.Hosts.{Hosts}
 use Rattle.hera_code.specs.Machine.{Stop, ended, stuck, code_step}
-use Rattle.hera_code.specs.Reached.{Reached, still, over, code_at}
+use Rattle.hera_code.specs.Reached.{over, code_at}
 use Rattle.hera_code.specs.Scheme.{code_of}
 use Rattle.hera_code.specs.Forward.{Forward}
 use Rattle.hera_codegen.specs.Correct.{events_in, IsPrefix}
 use Rattle.hera_machine.specs.declared.events.End.{End}
-use Rattle.hera_machine.specs.declared.events.End.TheVariants.{Done, Trap, Spent, Stuck}
+use Rattle.hera_machine.specs.declared.events.End.TheVariants.{Stuck}
 use Rattle.hera_machine.specs.declared.events.Event as machine_event
 use Rattle.hera_machine.specs.Standing.{Standing, stop_of, machine_over, event_over, IsNearer}
 use Rattle.hera_machine.specs.Over.{state_over}
@@ -43,31 +43,29 @@ front_printed front events n p =
 
 -- ---- the code's run, told
 
-module _ (code : Code) (rels : List RelDecl) (s : State) (turns : ℕ) where
+module _ (code : Code) (rels : List RelDecl) (hosts : Hosts) (s : State) (turns : ℕ) where
   -- some bytes were said, and then a front of the line that follows them
-  pub part_said : (before mid now : Option (List ℕ)) (steps : ℕ) (bytes line : List ℕ) (n : ℕ) → printed (events_in (code_at code rels s [] turns steps)) ≡ bytes ++ line
-      → Appends before mid bytes → Appends mid now (take n line) → PartSaid code rels s turns before now
+  pub part_said : (before mid now : Option (List ℕ)) (steps : ℕ) (bytes line : List ℕ) (n : ℕ) → printed (events_in (code_at code rels s hosts turns steps)) ≡ bytes ++ line
+      → Appends before mid bytes → Appends mid now (take n line) → PartSaid code rels hosts s turns before now
   part_said before mid now steps bytes line n is first then =
-      let front : take (length bytes + n) (printed (events_in (code_at code rels s [] turns steps))) ≡ bytes ++ take n line =
+      let front : take (length bytes + n) (printed (events_in (code_at code rels s hosts turns steps))) ≡ bytes ++ take n line =
       ap (λ (l : List ℕ). take (length bytes + n) l) is ∙ take-append-add bytes line n in
       record { steps = steps; front = length bytes + n; said = subst (λ (l : List ℕ). Appends before now l) (sym front) (Appends-trans _ _ _ _ _ first then) }
 
   -- a machine on its way has printed this much
-  pub along_printed : (bytes : List ℕ) (ds : List Delta) (m : Standing) (a : IsAlong code rels [] s turns bytes ds m) → printed (events_in (code_at code rels s [] turns a.steps)) ≡ bytes
+  pub along_printed : (bytes : List ℕ) (ds : List Delta) (m : Standing) (a : IsAlong code rels hosts s turns bytes ds m) → printed (events_in (code_at code rels s hosts turns a.steps)) ≡ bytes
   along_printed bytes ds m a =
       let here : a.steps ≡ a.steps + 0 = omega arith in
-      ap (λ (k : ℕ). printed (events_in (code_at code rels s [] turns k))) here ∙ ap printed (ap events_in (a.goes_on 0)) ∙ a.printed_is
+      ap (λ (k : ℕ). printed (events_in (code_at code rels s hosts turns k))) here ∙ ap printed (ap events_in (a.goes_on 0)) ∙ a.printed_is
 
-  -- what a step tells, of the commits so far and without hosts
-  pub stepped : (m new : Standing) (ds given : List Delta) (hosts : List Host) (e told : machine_event.Event) → given ≡ ds → hosts ≡ [] → e ≡ told
-      → event_over (state_over s given) e new ≡ code_step m.code m.relations (specs_of hosts) (state_over s given) (machine_over (state_over s given) m)
-      → event_over (state_over s ds) told new ≡ code_step m.code m.relations [] (state_over s ds) (machine_over (state_over s ds) m)
-  stepped m new ds given hosts e told same none event is =
-      let first : event_over (state_over s given) told new ≡ code_step m.code m.relations (specs_of hosts) (state_over s given) (machine_over (state_over s given) m) =
-      subst (λ (x : machine_event.Event). event_over (state_over s given) x new ≡ code_step m.code m.relations (specs_of hosts) (state_over s given) (machine_over (state_over s given) m)) event is in
-      let second : event_over (state_over s given) told new ≡ code_step m.code m.relations [] (state_over s given) (machine_over (state_over s given) m) =
-      subst (λ (hs : List Host). event_over (state_over s given) told new ≡ code_step m.code m.relations (specs_of hs) (state_over s given) (machine_over (state_over s given) m)) none first in
-      subst (λ (l : List Delta). event_over (state_over s l) told new ≡ code_step m.code m.relations [] (state_over s l) (machine_over (state_over s l) m)) same second
+  -- what a step tells, of the commits so far
+  pub stepped : (m new : Standing) (ds given : List Delta) (e told : machine_event.Event) → given ≡ ds → e ≡ told
+      → event_over (state_over s given) e new ≡ code_step m.code m.relations hosts (state_over s given) (machine_over (state_over s given) m)
+      → event_over (state_over s ds) told new ≡ code_step m.code m.relations hosts (state_over s ds) (machine_over (state_over s ds) m)
+  stepped m new ds given e told same event is =
+      let first : event_over (state_over s given) told new ≡ code_step m.code m.relations hosts (state_over s given) (machine_over (state_over s given) m) =
+      subst (λ (x : machine_event.Event). event_over (state_over s given) x new ≡ code_step m.code m.relations hosts (state_over s given) (machine_over (state_over s given) m)) event is in
+      subst (λ (l : List Delta). event_over (state_over s l) told new ≡ code_step m.code m.relations hosts (state_over s l) (machine_over (state_over s l) m)) same first
 
   -- what a step lowers, of this code
   pub comes_nearer : (m n : Standing) (e told : machine_event.Event) → m.code ≡ code → Forward code → (Forward m.code → IsNearer (length m.code.instrs) m.state n.state e) → e ≡ told
@@ -77,18 +75,18 @@ module _ (code : Code) (rels : List RelDecl) (s : State) (turns : ℕ) where
       (subst (λ (x : machine_event.Event). IsNearer (length m.code.instrs) m.state n.state x) event (nearer (subst Forward (sym same) forward)))
 
   -- the next line was cut
-  pub along_cut : (before mid now : Option (List ℕ)) (bytes line : List ℕ) (ds : List Delta) (m : Standing) → IsAlong code rels [] s turns (bytes ++ line) ds m
-      → Appends before mid bytes → ((n : ℕ) × Appends mid now (take n line)) → PartSaid code rels s turns before now
+  pub along_cut : (before mid now : Option (List ℕ)) (bytes line : List ℕ) (ds : List Delta) (m : Standing) → IsAlong code rels hosts s turns (bytes ++ line) ds m
+      → Appends before mid bytes → ((n : ℕ) × Appends mid now (take n line)) → PartSaid code rels hosts s turns before now
   along_cut before mid now bytes line ds m a first (n, then) = part_said before mid now a.steps bytes line n (along_printed (bytes ++ line) ds m a) first then
 
   -- the last line was cut
-  pub ends_cut : (before mid now : Option (List ℕ)) (bytes : List ℕ) (ds : List Delta) (end : End) → EndsAs code rels [] s turns (bytes ++ last_text end) ds end
-      → Appends before mid bytes → ((n : ℕ) × Appends mid now (take n (last_text end))) → PartSaid code rels s turns before now
+  pub ends_cut : (before mid now : Option (List ℕ)) (bytes : List ℕ) (ds : List Delta) (end : End) → EndsAs code rels hosts s turns (bytes ++ last_text end) ds end
+      → Appends before mid bytes → ((n : ℕ) × Appends mid now (take n (last_text end))) → PartSaid code rels hosts s turns before now
   ends_cut before mid now bytes ds end e first (n, then) =
       part_said before mid now e.steps bytes (last_text end) n (ap printed (ap events_in e.ends) ∙ e.printed_is) first then
 
-  pub ends_said : (before mid now : Option (List ℕ)) (bytes : List ℕ) (ds : List Delta) (end : End) → EndsAs code rels [] s turns (bytes ++ last_text end) ds end
-      → Appends before mid bytes → Appends mid now (last_text end) → EndsSaid code rels s turns before now end
+  pub ends_said : (before mid now : Option (List ℕ)) (bytes : List ℕ) (ds : List Delta) (end : End) → EndsAs code rels hosts s turns (bytes ++ last_text end) ds end
+      → Appends before mid bytes → Appends mid now (last_text end) → EndsSaid code rels hosts s turns before now end
   ends_said before mid now bytes ds end e first then = record {
     steps = e.steps;
     events = e.events;
@@ -100,25 +98,25 @@ module _ (code : Code) (rels : List RelDecl) (s : State) (turns : ℕ) where
   Appends-nothing None = tt
   Appends-nothing (Some bytes) = sym (append-nil bytes)
 
-  pub along_part : (before now : Option (List ℕ)) (bytes : List ℕ) (ds : List Delta) (m : Standing) → IsAlong code rels [] s turns bytes ds m → Appends before now bytes → PartSaid code rels s turns before now
+  pub along_part : (before now : Option (List ℕ)) (bytes : List ℕ) (ds : List Delta) (m : Standing) → IsAlong code rels hosts s turns bytes ds m → Appends before now bytes → PartSaid code rels hosts s turns before now
   along_part before now bytes ds m a said =
       part_said before now now a.steps bytes [] 0 (along_printed bytes ds m a ∙ sym (append-nil bytes)) said (Appends-nothing now)
 
 -- ---- a program's run
 
-module _ (p : Program_tree) (turns : ℕ) where
+module _ (p : Program_tree) (hosts : Hosts) (turns : ℕ) where
   abbrev pub report : Report
-  report = run_of p (empty_state p.relations) [] turns
+  report = run_of p (empty_state p.relations) hosts turns
 
   abbrev pub Only : Type 0
-  Only = (k : ℕ) (events : List Event) (stop : Stop) → code_at (code_of p) p.relations (empty_state p.relations) [] turns k ≡ over events stop → (events ≡ report.events) × (stop ≡ ended report.finish)
+  Only = (k : ℕ) (events : List Event) (stop : Stop) → code_at (code_of p) p.relations (empty_state p.relations) hosts turns k ≡ over events stop → (events ≡ report.events) × (stop ≡ ended report.finish)
 
   abbrev finish_in : Finish → Stop → Finish
   finish_in f (ended g) = g
   finish_in f stuck = f
 
   pub run_whole : (before now : Option (List ℕ)) (end : End) (finish : Finish) (status : ℕ) → Only → stop_of end ≡ ended finish → status_of_finish finish ≡ status
-      → EndsSaid (code_of p) p.relations (empty_state p.relations) turns before now end → IsWhole (ran report) status before now
+      → EndsSaid (code_of p) p.relations hosts (empty_state p.relations) turns before now end → IsWhole (ran report) status before now
   run_whole before now end finish status only is own said =
       let (events, stop) = only said.steps said.events (stop_of end) said.ends in
       let same : finish ≡ report.finish = ap (finish_in finish) (sym is ∙ stop) in
@@ -128,28 +126,28 @@ module _ (p : Program_tree) (turns : ℕ) where
       }
 
   stuck_is_no_end : (finish : Finish) → stuck ≡ ended finish → ⊥
-  stuck_is_no_end finish is = cc (is)
+  stuck_is_no_end _ is = cc (is)
 
-  pub never_stuck : (before now : Option (List ℕ)) → Only → EndsSaid (code_of p) p.relations (empty_state p.relations) turns before now Stuck → ⊥
+  pub never_stuck : (before now : Option (List ℕ)) → Only → EndsSaid (code_of p) p.relations hosts (empty_state p.relations) turns before now Stuck → ⊥
   never_stuck before now only said = stuck_is_no_end report.finish (only said.steps said.events stuck said.ends).1
 
-  pub run_part : (before now : Option (List ℕ)) → ((k : ℕ) → IsPrefix (events_in (code_at (code_of p) p.relations (empty_state p.relations) [] turns k)) report.events)
-      → PartSaid (code_of p) p.relations (empty_state p.relations) turns before now → SaysPart (ran report) before now
+  pub run_part : (before now : Option (List ℕ)) → ((k : ℕ) → IsPrefix (events_in (code_at (code_of p) p.relations (empty_state p.relations) hosts turns k)) report.events)
+      → PartSaid (code_of p) p.relations hosts (empty_state p.relations) turns before now → SaysPart (ran report) before now
   run_part before now prefixes said =
       let (m, is) = front_printed _ report.events said.front (prefixes said.steps) in
       (m, subst (λ (l : List ℕ). Appends before now l) is said.said)
 
   -- the code that runs is the program's, over its relations without rows
   pub own_end : (code : Code) (rels : List RelDecl) (s : State) (before now : Option (List ℕ)) (end : End) → code ≡ code_of p → rels ≡ p.relations → s ≡ empty_state p.relations
-      → EndsSaid code rels s turns before now end → EndsSaid (code_of p) p.relations (empty_state p.relations) turns before now end
+      → EndsSaid code rels hosts s turns before now end → EndsSaid (code_of p) p.relations hosts (empty_state p.relations) turns before now end
   own_end code rels s before now end own its empty said =
-      subst (λ (c : Code). EndsSaid c p.relations (empty_state p.relations) turns before now end) own
-      (subst (λ (rs : List RelDecl). EndsSaid code rs (empty_state p.relations) turns before now end) its
-      (subst (λ (t : State). EndsSaid code rels t turns before now end) empty said))
+      subst (λ (c : Code). EndsSaid c p.relations hosts (empty_state p.relations) turns before now end) own
+      (subst (λ (rs : List RelDecl). EndsSaid code rs hosts (empty_state p.relations) turns before now end) its
+      (subst (λ (t : State). EndsSaid code rels hosts t turns before now end) empty said))
 
   pub own_part : (code : Code) (rels : List RelDecl) (s : State) (before now : Option (List ℕ)) → code ≡ code_of p → rels ≡ p.relations → s ≡ empty_state p.relations
-      → PartSaid code rels s turns before now → PartSaid (code_of p) p.relations (empty_state p.relations) turns before now
+      → PartSaid code rels hosts s turns before now → PartSaid (code_of p) p.relations hosts (empty_state p.relations) turns before now
   own_part code rels s before now own its empty said =
-      subst (λ (c : Code). PartSaid c p.relations (empty_state p.relations) turns before now) own
-      (subst (λ (rs : List RelDecl). PartSaid code rs (empty_state p.relations) turns before now) its
-      (subst (λ (t : State). PartSaid code rels t turns before now) empty said))
+      subst (λ (c : Code). PartSaid c p.relations hosts (empty_state p.relations) turns before now) own
+      (subst (λ (rs : List RelDecl). PartSaid code rs hosts (empty_state p.relations) turns before now) its
+      (subst (λ (t : State). PartSaid code rels hosts t turns before now) empty said))

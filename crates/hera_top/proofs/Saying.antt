@@ -1,6 +1,7 @@
 -- What is said of an outcome.
-use Rattle.std.proofs.Common.{◌≡◌, ℕ, ◌+◌, ◌<◌, inl, inr, ⊎_elim, ◌⊎◌, List, [], ◌∷◌, length, get_or, take, Option, Some, None, refl, sym, ap, subst, append-nil, arith, slice_set}
+use Rattle.std.proofs.Common.{◌≡◌, ℕ, ◌+◌, ◌<◌, inl, inr, ⊎_elim, List, [], ◌∷◌, length, get_or, take, Option, Some, None, refl, sym, ap, subst, append-nil, arith, slice_set}
 use Rattle.std.specs.Io.KnownBytes.{Appends}
+use Rattle.hera_host.specs.Tables.{Host}
 use Rattle.hera_top.specs.declared.words.Command.{Command}
 use Rattle.hera_top.specs.declared.words.Command.TheVariants.{Check, List as list_command, Eval}
 use Rattle.hera_top.specs.Outcome.{Outcome, text_of_outcome, IsSaid, IsRead, Answers, says, no_memory}
@@ -18,9 +19,9 @@ Appends-nothing None = tt
 Appends-nothing (Some bytes) = sym (append-nil bytes)
 
 -- a script that was read whole, and what was said of it
-pub read_said : (command : Command) (before now : Seen) (script : List ℕ) (status : ℕ) (said_before said_now : Option (List ℕ)) → IsRead before.left now.left script
-    → SaysOutcome command script status said_before said_now → Answers command before now status said_before said_now
-read_said command before now script status said_before said_now read said =
+pub read_said : (hosts : List Host) (command : Command) (before now : Seen) (script : List ℕ) (status : ℕ) (said_before said_now : Option (List ℕ)) → IsRead before.left now.left script
+    → SaysOutcome hosts command script status said_before said_now → Answers hosts command before now status said_before said_now
+read_said hosts command before now script status said_before said_now read said =
     ⊎_elim (λ (outcome, comes, done). says script outcome read comes done) (λ (nine, kept). no_memory nine kept) said
 
 -- ---- the first source
@@ -44,10 +45,10 @@ one_file (Eval turns) n is = omega arith
 pub one_source : (command : Command) (words : Option Command) (n : ℕ) → words ≡ Some command → n + (files_in words).0 ≡ (files_in words).1 → 0 < n
 one_source command words n is count = one_file command n (subst (λ (o : Option Command). n + (files_in o).0 ≡ (files_in o).1) is count)
 
-pub same_answers : (read command : Command) (b c n m : Seen) (status : ℕ) (said_before said_now : Option (List ℕ)) → Some read ≡ Some command → b ≡ c → n ≡ m
-    → Answers read b n status said_before said_now → Answers command c m status said_before said_now
-same_answers read command b c n m status said_before said_now is before now answers =
+pub same_answers : (hosts : List Host) (read command : Command) (b c n m : Seen) (status : ℕ) (said_before said_now : Option (List ℕ)) → Some read ≡ Some command → b ≡ c → n ≡ m
+    → Answers hosts read b n status said_before said_now → Answers hosts command c m status said_before said_now
+same_answers hosts read command b c n m status said_before said_now is before now answers =
     let same : read ≡ command = cc (is) in
-    subst (λ (x : Command). Answers x c m status said_before said_now) same
-    (subst (λ (x : Seen). Answers read x m status said_before said_now) before
-    (subst (λ (x : Seen). Answers read b x status said_before said_now) now answers))
+    subst (λ (x : Command). Answers hosts x c m status said_before said_now) same
+    (subst (λ (x : Seen). Answers hosts read x m status said_before said_now) before
+    (subst (λ (x : Seen). Answers hosts read b x status said_before said_now) now answers))

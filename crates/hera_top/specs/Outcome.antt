@@ -1,5 +1,5 @@
 -- What a call of the program comes to, and what it says of that.
-use Rattle.std.specs.Prelude.{◌≡◌, ℕ, ◌<◌, ◌≤◌, ◌⊎◌, List, [], take, length, codes, Option}
+use Rattle.std.specs.Prelude.{◌≡◌, ℕ, ◌<◌, ◌≤◌, ◌⊎◌, List, take, length, codes, Option}
 use Rattle.std.specs.Io.KnownBytes.{Appends, Keeps, Consumes, IsAtEnd}
 use Rattle.hera_causes.specs.Causes.{Rose}
 use Rattle.hera_meaning.specs.Printed.{end_text}
@@ -7,6 +7,7 @@ use Rattle.hera_meaning.specs.Trees.{Program_tree}
 use Rattle.hera_meaning.specs.Run.{Report, Finish, finished, stopped, out_of_turns, output_of, run_of}
 use Rattle.hera_code.specs.Scheme.{code_of}
 use Rattle.hera_code.specs.Listing.{listing_of}
+use Rattle.hera_host.specs.Tables.{Host, specs_of}
 use Rattle.rel_pages.specs.Stored.{empty_state}
 use Rattle.hera_rules.specs.Accepted.{Accepted}
 use Rattle.hera_script.specs.declared.cause.Cause.{Cause}
@@ -74,16 +75,16 @@ IsSaid outcome status before now = IsWhole outcome status before now ⊎ IsCut o
 -- ---- what a command comes to
 
 -- what a command does with an accepted script's program: `check` says that it is accepted, `list` lists
--- its code, and `eval` runs it, on empty relations and without hosts
-abbrev pub outcome_of : Command → Program_tree → Outcome
-outcome_of Check p = prints (codes "accepted\n")
-outcome_of list_command p = prints (listing_of (code_of p))
-outcome_of (Eval turns) p = ran (run_of p (empty_state p.relations) [] turns)
+-- its code, and `eval` runs it with these hosts, on empty relations
+abbrev pub outcome_of : List Host → Command → Program_tree → Outcome
+outcome_of hosts Check p = prints (codes "accepted\n")
+outcome_of hosts list_command p = prints (listing_of (code_of p))
+outcome_of hosts (Eval turns) p = ran (run_of p (empty_state p.relations) (specs_of hosts) turns)
 
--- the outcome of a command for a script
-pub data ComesTo (command : Command) (script : List ℕ) : Outcome → Type 0 where
-  refuses : {cause : Cause} {at : ℕ} → IsRefused [] script cause at → ComesTo command script (refused (Script cause at))
-  performs : {p : Program_tree} → length script ≤ script_limit → Accepted script [] p → ComesTo command script (outcome_of command p)
+-- the outcome of a command for a script that may call these hosts
+pub data ComesTo (hosts : List Host) (command : Command) (script : List ℕ) : Outcome → Type 0 where
+  refuses : {cause : Cause} {at : ℕ} → IsRefused hosts script cause at → ComesTo hosts command script (refused (Script cause at))
+  performs : {p : Program_tree} → length script ≤ script_limit → Accepted script hosts p → ComesTo hosts command script (outcome_of hosts command p)
 
 -- these bytes came from the source: all that was left, or more than the limit
 pub record IsRead (left_before left_now : Option (List ℕ)) (script : List ℕ) : Type 0 where
@@ -91,12 +92,12 @@ pub record IsRead (left_before left_now : Option (List ℕ)) (script : List ℕ)
   pub ended : IsAtEnd left_now ⊎ (script_limit < length script)
 
 -- how a command that reads one script answers
-pub data Answers (command : Command) (before now : Seen) (status : ℕ) (said_before said_now : Option (List ℕ)) : Type 0 where
+pub data Answers (hosts : List Host) (command : Command) (before now : Seen) (status : ℕ) (said_before said_now : Option (List ℕ)) : Type 0 where
   -- the script was read, and its outcome said
-  says : (script : List ℕ) (outcome : Outcome) → IsRead before.left now.left script → ComesTo command script outcome → IsSaid outcome status said_before said_now
-      → Answers command before now status said_before said_now
+  says : (script : List ℕ) (outcome : Outcome) → IsRead before.left now.left script → ComesTo hosts command script outcome → IsSaid outcome status said_before said_now
+      → Answers hosts command before now status said_before said_now
   -- the source failed before more than the limit came
   unread : (script : List ℕ) → Consumes before.left now.left script → length script ≤ script_limit → Rose before.faults now.faults
-      → IsSaid (refused Unread) status said_before said_now → Answers command before now status said_before said_now
+      → IsSaid (refused Unread) status said_before said_now → Answers hosts command before now status said_before said_now
   -- no memory for the script or its program, and nothing was emitted
-  no_memory : status ≡ 9 → Keeps said_before said_now → Answers command before now status said_before said_now
+  no_memory : status ≡ 9 → Keeps said_before said_now → Answers hosts command before now status said_before said_now

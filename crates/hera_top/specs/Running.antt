@@ -1,8 +1,9 @@
 -- How far the run of some code was told.
-use Rattle.std.specs.Prelude.{◌≡◌, ℕ, List, [], ◌∷◌, take, Option}
+use Rattle.std.specs.Prelude.{◌≡◌, ℕ, List, [], take, Option}
 use Rattle.std.specs.Io.KnownBytes.{Appends}
 use Rattle.hera_meaning.specs.declared.schemas.RelDecl.{RelDecl}
 use Rattle.hera_meaning.specs.Deltas.{State}
+use Rattle.hera_meaning.specs.Hosts.{Hosts}
 use Rattle.hera_meaning.specs.Worlds.{Event}
 use Rattle.hera_meaning.specs.Run.{printed}
 use Rattle.hera_code.specs.declared.instrs.Code.{Code}
@@ -16,14 +17,14 @@ abbrev pub last_text : End → List ℕ
 last_text end = printed (with_line [] (stop_of end))
 
 -- the code ends so, and all that its events print was said
-pub record EndsSaid (code : Code) (rels : List RelDecl) (s : State) (turns : ℕ) (before now : Option (List ℕ)) (end : End) : Type 0 where
+pub record EndsSaid (code : Code) (rels : List RelDecl) (hosts : Hosts) (s : State) (turns : ℕ) (before now : Option (List ℕ)) (end : End) : Type 0 where
   pub steps : ℕ
   pub events : List Event
-  pub ends : code_at code rels s [] turns steps ≡ over events (stop_of end)
+  pub ends : code_at code rels s hosts turns steps ≡ over events (stop_of end)
   pub said : Appends before now (printed events)
 
 -- a front was said of what the events of the code's first steps print
-pub record PartSaid (code : Code) (rels : List RelDecl) (s : State) (turns : ℕ) (before now : Option (List ℕ)) : Type 0 where
+pub record PartSaid (code : Code) (rels : List RelDecl) (hosts : Hosts) (s : State) (turns : ℕ) (before now : Option (List ℕ)) : Type 0 where
   pub steps : ℕ
   pub front : ℕ
-  pub said : Appends before now (take front (printed (events_in (code_at code rels s [] turns steps))))
+  pub said : Appends before now (take front (printed (events_in (code_at code rels s hosts turns steps))))

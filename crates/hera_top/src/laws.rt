@@ -1,25 +1,44 @@
 //! Laws of the definitions that the contract of `hera` cites. The functions do nothing: their clauses are the laws.
 
-ghost use Rattle.std.specs.Prelude.{◌≡◌, ◌≤◌, ◌↔◌, ℕ, List, [], Option, Some, length, codes};
+ghost use Rattle.std.specs.Prelude.{◌≡◌, ◌≤◌, ◌↔◌, ◌⊎◌, ℕ, List, Option, Some, length, codes};
+ghost use Rattle.hera_meaning.specs.Run.{Report};
 ghost use Rattle.hera_meaning.specs.Trees.{Program_tree};
+ghost use Rattle.hera_host.specs.Tables.{Host, AreHosts};
 ghost use Rattle.hera_rules.specs.Accepted.{Accepted};
-ghost use Rattle.hera_script.specs.Refusing.{script_limit};
 ghost use Rattle.hera_top.specs.declared.words.Command.{Command};
-ghost use Rattle.hera_top.specs.Outcome.{Outcome, prints, ComesTo, IsRead};
+ghost use Rattle.hera_script.specs.Refusing.{IsRefused, script_limit};
+ghost use Rattle.hera_script.specs.declared.cause.Cause.{Cause};
+ghost use Rattle.hera_bind.specs.Meaning.{Means};
+ghost use Rattle.rel_pages.specs.Stored.{empty_state};
+ghost use Rattle.hera_top.specs.declared.refusal.Refusal.{Refusal};
+ghost use Rattle.hera_top.specs.Outcome.{Outcome, prints, ran, refused, ComesTo, IsRead};
 
+use hera_accepted::accepted_programs_are_sound;
+use hera_bind::laws::a_program_is_bound_to_its_own_relations;
 use hera_script::a_script_has_one_answer;
 
 /// A command comes to one outcome for a script: so each refusal stands for its cause alone, and what runs is the one
 /// program of the script. What `check` prints is `accepted` exactly for the scripts that are accepted.
 pub fn one_outcome()
-    ensures one { (command : Command) (script : List ℕ) (a b : Outcome) → ComesTo command script a → ComesTo command script b → a ≡ b }
-    ensures accepted { (script : List ℕ) (outcome : Outcome) → ComesTo Command.Check script outcome
-        → (outcome ≡ prints (codes "accepted\n")) ↔ ((length script ≤ script_limit) × ((p : Program_tree) × Accepted script [] p)) }
+    ensures one { (hosts : List Host) (command : Command) (script : List ℕ) (a b : Outcome) → ComesTo hosts command script a → ComesTo hosts command script b → a ≡ b }
+    ensures accepted { (hosts : List Host) (script : List ℕ) (outcome : Outcome) → ComesTo hosts Command.Check script outcome
+        → (outcome ≡ prints (codes "accepted\n")) ↔ ((length script ≤ script_limit) × ((p : Program_tree) × Accepted script hosts p)) }
 {
     a_script_has_one_answer();
 }
 
 /// Where a source tells what it has left, the outcome of what came from it is the outcome of all of that.
 pub fn told_outcome()
-    ensures { (command : Command) (script bytes : List ℕ) (left : Option (List ℕ)) (outcome : Outcome) → IsRead (Some script) left bytes → ComesTo command bytes outcome → ComesTo command script outcome }
+    ensures { (hosts : List Host) (command : Command) (script bytes : List ℕ) (left : Option (List ℕ)) (outcome : Outcome) → IsRead (Some script) left bytes → ComesTo hosts command bytes outcome → ComesTo hosts command script outcome }
 {}
+
+/// What `eval` comes to for a script is its refusal, or what the script means with these hosts and so many turns, on its
+/// own relations without rows.
+pub fn an_evaluation_is_the_meaning()
+    ensures { (hosts : List Host) (turns : ℕ) (script : List ℕ) (outcome : Outcome) → AreHosts hosts → ComesTo hosts (Command.Eval turns) script outcome
+        → ((cause : Cause) × (at : ℕ) × IsRefused hosts script cause at × (outcome ≡ refused (Refusal.Script cause at)))
+        ⊎ ((p : Program_tree) × (report : Report) × Accepted script hosts p × Means script p.relations (empty_state p.relations) hosts turns report × (outcome ≡ ran report)) }
+{
+    accepted_programs_are_sound();
+    a_program_is_bound_to_its_own_relations();
+}

@@ -7,6 +7,7 @@ pub mod laws;
 mod refusal;
 mod run;
 mod say;
+mod status;
 #[cfg(test)]
 mod tests;
 mod top;

@@ -1,6 +1,7 @@
 ghost use Rattle.std.specs.Prelude.{◌≡◌};
 ghost use Rattle.hera_top.specs.Outcome.{status_of_refusal};
 
+use crate::status::{REFUSED, UNREAD, USAGE};
 use hera_script::Cause;
 
 /// A refusal that ends a call with a line and a status of its own.
@@ -20,9 +21,9 @@ impl Refusal {
         ensures { result ≡ status_of_refusal self }
     {
         match self {
-            Refusal::Usage => 2,
-            Refusal::Script { .. } => 3,
-            Refusal::Unread => 7,
+            Refusal::Usage => USAGE,
+            Refusal::Script { .. } => REFUSED,
+            Refusal::Unread => UNREAD,
         }
     }
 }

@@ -1,4 +1,4 @@
-ghost use Rattle.std.specs.Prelude.{◌≡◌, ℕ, ◌≤◌, ◌⊎◌, [], take, length, Err, IfOk, OnOk, OnErr, string_bytes, codes, ◌++◌};
+ghost use Rattle.std.specs.Prelude.{◌≡◌, ℕ, ◌≤◌, ◌⊎◌, [], take, Err, IfOk, OnOk, OnErr, string_bytes, codes, ◌++◌};
 ghost use Rattle.std.specs.Io.KnownBytes.{Appends};
 ghost use Rattle.hera_causes.specs.Causes.{Rose};
 ghost use Rattle.hera_meaning.specs.Plain.{program_of};
@@ -6,12 +6,14 @@ ghost use Rattle.hera_meaning.specs.Printed.{trap_name, commit_text};
 ghost use Rattle.hera_meaning.specs.Sound.{Sound};
 ghost use Rattle.hera_code.specs.Forward.{Forward};
 ghost use Rattle.hera_code.specs.Scheme.{code_of};
+ghost use Rattle.hera_host.specs.Tables.{specs_of};
 ghost use Rattle.hera_top.specs.Outcome.{outcome_of, IsWhole, SaysPart};
 ghost use Rattle.hera_top.specs.Running.{last_text, EndsSaid, PartSaid};
 ghost use Rattle.hera_top.specs.declared.words.Command.{Command};
 
 use crate::catalogue::catalogue_of;
-use crate::say::{NO_MEMORY, OUTPUT_FAILED, say};
+use crate::say::say;
+use crate::status::{DONE, NO_MEMORY, OUTPUT_FAILED, SPENT, TRAPPED};
 use delta_atoms::Delta;
 use hera_causes::{Failed, Output};
 use hera_code::Code;
@@ -125,18 +127,19 @@ fn run_code<W: Output>(
     base: &Base,
     turns: u64,
     outside: &mut W,
+    hosts: &HostTable,
 ) -> Result<End, RunFault>
     requires forward { Forward code.now }
-    ensures whole { IfOk result (λ end. EndsSaid code.now relations.now base.now.state turns (W.emitted outside.old) (W.emitted outside.new) end) }
-    ensures cut { OnErr result (PartSaid code.now relations.now base.now.state turns (W.emitted outside.old) (W.emitted outside.new)) }
+    requires no_hosts { hosts.now ≡ [] }
+    ensures whole { IfOk result (λ end. EndsSaid code.now relations.now (specs_of hosts.now) base.now.state turns (W.emitted outside.old) (W.emitted outside.new) end) }
+    ensures cut { OnErr result (PartSaid code.now relations.now (specs_of hosts.now) base.now.state turns (W.emitted outside.old) (W.emitted outside.new)) }
     ensures later { W.output_faults outside.old ≤ W.output_faults outside.new }
     ensures output { result ≡ Err RunFault.Output → Rose (W.output_faults outside.old) (W.output_faults outside.new) }
 {
-    let hosts = HostTable::new(alloc);
     let mut machine = Machine::new(alloc, code, relations, turns)?;
     let mut commits: Vec<Delta> = Vec::new(alloc);
     'steps: loop {
-        match machine.step(base, &commits, &hosts)? {
+        match machine.step(base, &commits, hosts)? {
             Event::Quiet => {}
             Event::Out(line) => say(outside, line.bytes())?,
             Event::Commit => {
@@ -159,22 +162,32 @@ pub(crate) fn run<W: Output>(
     code: &Code,
     turns: u64,
     outside: &mut W,
+    hosts: &HostTable,
 ) -> Result<u8, RunFault>
-    requires sound { Sound (program_of program.now) [] }
+    requires sound { Sound (program_of program.now) (specs_of hosts.now) }
+    requires no_hosts { hosts.now ≡ [] }
     requires code { code.now ≡ code_of (program_of program.now) }
     requires forward { Forward code.now }
-    ensures whole { IfOk result (λ status. IsWhole (outcome_of (Command.Eval turns) (program_of program.now)) status (W.emitted outside.old) (W.emitted outside.new)) }
-    ensures cut { OnErr result (SaysPart (outcome_of (Command.Eval turns) (program_of program.now)) (W.emitted outside.old) (W.emitted outside.new)) }
+    ensures whole { IfOk result (λ status. IsWhole (outcome_of hosts.now (Command.Eval turns) (program_of program.now)) status (W.emitted outside.old) (W.emitted outside.new)) }
+    ensures cut { OnErr result (SaysPart (outcome_of hosts.now (Command.Eval turns) (program_of program.now)) (W.emitted outside.old) (W.emitted outside.new)) }
     ensures later { W.output_faults outside.old ≤ W.output_faults outside.new }
     ensures output { result ≡ Err RunFault.Output → Rose (W.output_faults outside.old) (W.output_faults outside.new) }
 {
     code_does_what_the_program_means();
     let base = Base::empty(alloc, catalogue_of(alloc, &program.relations)?)?;
     let _catalogue = base.catalogue();
-    match run_code(alloc, code, &program.relations, &base, turns, outside)? {
-        End::Done => Ok(0),
-        End::Trap(_, _) => Ok(1),
-        End::Spent => Ok(4),
+    match run_code(
+        alloc,
+        code,
+        &program.relations,
+        &base,
+        turns,
+        outside,
+        hosts,
+    )? {
+        End::Done => Ok(DONE),
+        End::Trap(_, _) => Ok(TRAPPED),
+        End::Spent => Ok(SPENT),
         End::Stuck => unreachable!(),
     }
 }

@@ -4,15 +4,10 @@ ghost use Rattle.hera_causes.specs.Causes.{HasCause, Rose};
 ghost use Rattle.hera_top.specs.Outcome.{Outcome, refused, text_of_outcome, status_of_outcome, IsSaid};
 
 use crate::refusal::Refusal;
+use crate::status::{NO_MEMORY, OUTPUT_FAILED};
 use hera_causes::{Failed, Output, emit_all};
 use hera_print::end_line;
 use std::alloc::Global;
-
-/// The status where the output failed.
-pub(crate) const OUTPUT_FAILED: u8 = 8;
-
-/// The status where there was no memory.
-pub(crate) const NO_MEMORY: u8 = 9;
 
 /// Emits the line, or a prefix of it up to the first failure.
 pub(crate) fn say<W: Output>(outside: &mut W, line: &[u8]) -> Result<(), Failed>
@@ -45,11 +40,12 @@ pub(crate) fn refuse<W: Output>(alloc: Global, outside: &mut W, refusal: Refusal
     ensures unread { result ≡ 7 → refusal ≡ Refusal.Unread }
     ensures usage { result ≡ 2 → refusal ≡ Refusal.Usage }
 {
+    let status = refusal.status();
     match refusal {
-        Refusal::Usage => say_all(outside, b"usage\n", 2),
-        Refusal::Unread => say_all(outside, b"script unread\n", 7),
+        Refusal::Usage => say_all(outside, b"usage\n", status),
+        Refusal::Unread => say_all(outside, b"script unread\n", status),
         Refusal::Script { cause, at } => match end_line(alloc, cause.label(), u64::from(at)) {
-            Ok(line) => say_all(outside, line.bytes(), 3),
+            Ok(line) => say_all(outside, line.bytes(), status),
             Err(_) => NO_MEMORY,
         },
     }

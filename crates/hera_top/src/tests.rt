@@ -1,5 +1,6 @@
 use crate::{files_of, hera};
 use hera_causes::{MemOutput, MemSource, Piece};
+use hera_host::HostTable;
 use std::alloc::{AllocError, Global};
 use std::process::Abort;
 use std::test::Fail;
@@ -33,7 +34,13 @@ fn check(
     assert!(rt; first < 3);
     assert!(rt; sources.len() + first == last);
     let mut outside = MemOutput::new(alloc, pieces.1.to_vec(alloc)?);
-    let answer = hera(alloc, &words, &mut sources, &mut outside);
+    let answer = hera(
+        alloc,
+        &words,
+        &mut sources,
+        &mut outside,
+        &HostTable::new(alloc),
+    );
     assert_eq!(rt; outside.bytes(), output);
     assert_eq!(rt; answer, status);
     Ok(())

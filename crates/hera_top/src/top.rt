@@ -1,4 +1,4 @@
-ghost use Rattle.std.specs.Prelude.{◌≡◌, ℕ, ◌≤◌, ◌+◌, length, Some, None, ◌≢◌};
+ghost use Rattle.std.specs.Prelude.{◌≡◌, ◌≤◌, ◌+◌, [], length, Some, None, ◌≢◌};
 ghost use Rattle.hera_causes.specs.Causes.{Rose};
 ghost use Rattle.hera_top.specs.Outcome.{refused, IsSaid, Answers};
 ghost use Rattle.hera_top.specs.Sources.{first_seen};
@@ -6,9 +6,11 @@ ghost use Rattle.hera_top.specs.Words.{words_of, command_of, files_in};
 
 use crate::commands::answer_script;
 use crate::refusal::Refusal;
-use crate::say::{NO_MEMORY, refuse};
+use crate::say::refuse;
+use crate::status::NO_MEMORY;
 use crate::words::{Command, read_words};
 use hera_causes::{Output, ReadFail, Source, read_all};
+use hera_host::HostTable;
 use hera_script::Cause;
 use std::alloc::Global;
 
@@ -21,8 +23,10 @@ fn answer<S: Source, W: Output>(
     command: Command,
     source: &mut S,
     outside: &mut W,
+    hosts: &HostTable,
 ) -> u8
-    ensures answers { Answers command (record { left = S.left source.old; faults = S.faults source.old }) (record { left = S.left source.new; faults = S.faults source.new }) result (W.emitted outside.old) (W.emitted outside.new) }
+    requires no_hosts { hosts.now ≡ [] }
+    ensures answers { Answers hosts.now command (record { left = S.left source.old; faults = S.faults source.old }) (record { left = S.left source.new; faults = S.faults source.new }) result (W.emitted outside.old) (W.emitted outside.new) }
     ensures sources { S.faults source.old ≤ S.faults source.new }
     ensures later { W.output_faults outside.old ≤ W.output_faults outside.new }
     ensures output { result ≡ 8 → Rose (W.output_faults outside.old) (W.output_faults outside.new) }
@@ -30,14 +34,14 @@ fn answer<S: Source, W: Output>(
     ensures formed { result ≢ 2 }
 {
     match read_all(alloc, source, SCRIPT_LIMIT) {
-        Ok(script) => answer_script(alloc, command, &script, outside),
+        Ok(script) => answer_script(alloc, command, &script, outside, hosts),
         Err(ReadFail::Fault) => refuse(alloc, outside, Refusal::Unread),
         Err(ReadFail::TooLong) => refuse(
             alloc,
             outside,
             Refusal::Script {
                 cause: Cause::TooLong,
-                at: 1_048_576,
+                at: SCRIPT_LIMIT as u32,
             },
         ),
         Err(ReadFail::Memory) => NO_MEMORY,
@@ -50,6 +54,8 @@ fn answer<S: Source, W: Output>(
 /// - `list FILE` prints the listing of its code.
 /// - `eval TURNS FILE` runs it on an empty database with at most TURNS turns.
 ///
+/// A script may call the hosts of the table. The table has to be empty, since the machine asks no host yet.
+///
 /// The statuses: 0 the command or the run is done, 1 the run ended in a trap, 2 the words are no listed form, 3 the
 /// script is refused, 4 the turns were spent, 7 the script's source failed, 8 the output failed, 9 there was no
 /// memory. With 8 and 9 a prefix of what would have been emitted was emitted, else all of it.
@@ -58,8 +64,10 @@ pub fn hera<S: Source, W: Output>(
     words: &Vec<String>,
     sources: &mut Vec<S>,
     outside: &mut W,
+    hosts: &HostTable,
 ) -> u8
-    requires { length sources.old.items + (files_in (command_of (words_of words.now.items))).0 ≡ (files_in (command_of (words_of words.now.items))).1 }
+    requires sources { length sources.old.items + (files_in (command_of (words_of words.now.items))).0 ≡ (files_in (command_of (words_of words.now.items))).1 }
+    requires no_hosts { hosts.now ≡ [] }
 
     // Words that are no listed form.
     ensures usage { command_of (words_of words.now.items) ≡ None → IsSaid (refused Refusal.Usage) result (W.emitted outside.old) (W.emitted outside.new) }
@@ -67,7 +75,7 @@ pub fn hera<S: Source, W: Output>(
 
     // `check`, `list` and `eval`.
     ensures command { (command : Command) → command_of (words_of words.now.items) ≡ Some command
-        → Answers command (first_seen S.left S.faults sources.old.items) (first_seen S.left S.faults sources.new.items) result (W.emitted outside.old) (W.emitted outside.new) }
+        → Answers hosts.now command (first_seen S.left S.faults sources.old.items) (first_seen S.left S.faults sources.new.items) result (W.emitted outside.old) (W.emitted outside.new) }
 
     // The causes of the statuses 7 and 8.
     ensures unread { result ≡ 7 → Rose (first_seen S.left S.faults sources.old.items).faults (first_seen S.left S.faults sources.new.items).faults }
@@ -76,7 +84,7 @@ pub fn hera<S: Source, W: Output>(
     ensures output_later { W.output_faults outside.old ≤ W.output_faults outside.new }
 {
     match read_words(words) {
-        Some(command) => answer(alloc, command, &mut sources[0], outside),
+        Some(command) => answer(alloc, command, &mut sources[0], outside, hosts),
         None => refuse(alloc, outside, Refusal::Usage),
     }
 }

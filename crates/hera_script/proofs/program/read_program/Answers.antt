@@ -1,28 +1,24 @@
-use Rattle.std.proofs.Common.{List, ap, subst, Err, refl}
+use Rattle.std.proofs.Common.{ap, Err, refl}
 use Rattle.std.proofs.lemmas.Result.{err_from_is_err_and}
-use Rattle.hera_meaning.specs.Plain.{program_of}
-use Rattle.hera_host.specs.Tables.{Host}
-use Rattle.hera_rules.specs.ReadActs.{script_of}
-use Rattle.hera_rules.specs.Programs.{ElabScript}
 use Rattle.hera_script.proofs.Refused.{lexing_refused, syntax_refused, typing_refused, same_fault}
 use Rattle.hera_script.proofs.program.read_program.Goals as goal
 
 pub returns-in_err-tokens-clause-refused : goal.returns-in_err-tokens-clause-refused
 returns-in_err-tokens-clause-refused c = λ cause at is.
-    lexing_refused c.args.script.now _ cause at c.requires c.in_err-tokens.ensures
+    lexing_refused c.args.hosts.now c.args.script.now _ cause at c.requires c.in_err-tokens.ensures
     (same_fault c.from_residual.result _ _ (err_from_is_err_and c.from_residual.result c.from_residual.ensures.1) is)
 
 pub returns-in_err-tree-clause-refused : goal.returns-in_err-tree-clause-refused
 returns-in_err-tree-clause-refused c = λ cause at is.
-    syntax_refused c.args.script.now c.in_ok-tokens.tokens.0 c.in_ok-tokens.tokens.1 cause at
+    syntax_refused c.args.hosts.now c.args.script.now c.in_ok-tokens.tokens.0 c.in_ok-tokens.tokens.1 cause at
     (record { short = c.requires; lexed = c.in_ok-tokens.ensures.0; shallow = c.in_ok-tokens.ensures.2 }) c.in_ok-tokens.ensures.1
     (c.in_err-tree.ensures.fault cause at
     (ap Err (same_fault c.from_residual-in_err-tree.result _ _ (err_from_is_err_and c.from_residual-in_err-tree.result c.from_residual-in_err-tree.ensures.1) is)))
 
 pub returns-in_err-elaborate-clause-refused : goal.returns-in_err-elaborate-clause-refused
 returns-in_err-elaborate-clause-refused c = λ cause at is.
-    typing_refused c.args.script.now c.new.result c.in_ok-tokens.tokens.0 c.in_ok-tree.tree _ cause at
-    (record { short = c.requires; lexed = c.in_ok-tokens.ensures.0; shallow = c.in_ok-tokens.ensures.2 }) c.in_ok-tree.ensures.tree c.new.ensures
+    typing_refused c.args.hosts.now c.args.script.now c.in_ok-tokens.tokens.0 c.in_ok-tree.tree _ cause at
+    (record { short = c.requires; lexed = c.in_ok-tokens.ensures.0; shallow = c.in_ok-tokens.ensures.2 }) c.in_ok-tree.ensures.tree
     (c.in_err-elaborate.ensures.fault _ refl)
     (same_fault c.from_residual-in_err-elaborate.result _ _ (err_from_is_err_and c.from_residual-in_err-elaborate.result c.from_residual-in_err-elaborate.ensures.1) is)
 
@@ -33,5 +29,5 @@ returns-clause-accepted c = record {
   lexed = c.in_ok-tokens.ensures.0;
   shallow = c.in_ok-tokens.ensures.2;
   text = c.in_ok-tree.ensures.tree;
-  typed = subst (λ (hs : List Host). ElabScript hs (script_of c.in_ok-tree.tree) (program_of c.in_ok-elaborate.field-0)) c.new.ensures c.in_ok-elaborate.ensures.typed;
+  typed = c.in_ok-elaborate.ensures.typed;
 }

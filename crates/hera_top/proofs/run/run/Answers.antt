@@ -1,8 +1,9 @@
-use Rattle.std.proofs.Common.{◌≡◌, ℕ, List, [], Option, refl, sym, ap, ◌∙◌, subst}
+use Rattle.std.proofs.Common.{refl, sym, ap, ◌∙◌, subst}
 use Rattle.std.proofs.lemmas.Result.{MatchResult-from_err}
 use Rattle.hera_meaning.specs.Catalogues.{IsCatalogue}
 use Rattle.hera_meaning.specs.Plain.{program_of}
 use Rattle.hera_meaning.specs.Run.{finished, stopped, out_of_turns}
+use Rattle.hera_host.specs.Tables.{specs_of}
 use Rattle.hera_machine.specs.declared.events.End.{End}
 use Rattle.hera_machine.specs.Standing.{stop_of}
 use Rattle.rel_pages.specs.Stored.{empty_state}
@@ -23,35 +24,35 @@ returns-in_err-run_code-clause-cut g c =
     let p = program_of c.args.program.now in
     let own = c.in_ok-base.ensures.state ∙ ap empty_state (c.in_ok-catalogue_of.ensures ∙ c.deref.ensures.value) in
     MatchResult-from_err c.from_residual-in_err-run_code.result _ _ c.from_residual-in_err-run_code.ensures.0
-    (λ _. run_part p c.args.turns _ _ (c.code_does_what_the_program_means.ensures.prefixes p [] (empty_state p.relations) c.args.turns c.requires.sound (empty_is_state p.relations))
-    (own_part p c.args.turns c.args.code.now c.deref-2.result.now c.in_ok-base.base.state _ _ c.requires.code c.deref-2.ensures.value own c.in_err-run_code.ensures.cut))
+    (λ _. run_part p (specs_of c.args.hosts.now) c.args.turns _ _ (c.code_does_what_the_program_means.ensures.prefixes p (specs_of c.args.hosts.now) (empty_state p.relations) c.args.turns c.requires.sound (empty_is_state p.relations))
+    (own_part p (specs_of c.args.hosts.now) c.args.turns c.args.code.now c.deref-2.result.now c.in_ok-base.base.state _ _ c.requires.code c.deref-2.ensures.value own c.in_err-run_code.ensures.cut))
 
 pub returns-in-Done-clause-whole : goal.returns-in-Done-clause-whole
 returns-in-Done-clause-whole g c =
     let p = program_of c.args.program.now in
     let own = c.in_ok-base.ensures.state ∙ ap empty_state (c.in_ok-catalogue_of.ensures ∙ c.deref.ensures.value) in
-    run_whole p c.args.turns _ _ c.in_ok-run_code.field-0 finished 0 (c.code_does_what_the_program_means.ensures.only p [] (empty_state p.relations) c.args.turns c.requires.sound (empty_is_state p.relations)) (ap stop_of c.in-Done.is) refl
-    (own_end p c.args.turns c.args.code.now c.deref-2.result.now c.in_ok-base.base.state _ _ _ c.requires.code c.deref-2.ensures.value own c.in_ok-run_code.ensures.whole)
+    run_whole p (specs_of c.args.hosts.now) c.args.turns _ _ c.in_ok-run_code.field-0 finished 0 (c.code_does_what_the_program_means.ensures.only p (specs_of c.args.hosts.now) (empty_state p.relations) c.args.turns c.requires.sound (empty_is_state p.relations)) (ap stop_of c.in-Done.is) refl
+    (own_end p (specs_of c.args.hosts.now) c.args.turns c.args.code.now c.deref-2.result.now c.in_ok-base.base.state _ _ _ c.requires.code c.deref-2.ensures.value own c.in_ok-run_code.ensures.whole)
 
 pub returns-in-Trap-clause-whole : goal.returns-in-Trap-clause-whole
 returns-in-Trap-clause-whole g c =
     let p = program_of c.args.program.now in
     let own = c.in_ok-base.ensures.state ∙ ap empty_state (c.in_ok-catalogue_of.ensures ∙ c.deref.ensures.value) in
-    run_whole p c.args.turns _ _ c.in_ok-run_code.field-0 (stopped c.in-Trap.field-0 c.in-Trap.field-1) 1 (c.code_does_what_the_program_means.ensures.only p [] (empty_state p.relations) c.args.turns c.requires.sound (empty_is_state p.relations)) (ap stop_of c.in-Trap.is) refl
-    (own_end p c.args.turns c.args.code.now c.deref-2.result.now c.in_ok-base.base.state _ _ _ c.requires.code c.deref-2.ensures.value own c.in_ok-run_code.ensures.whole)
+    run_whole p (specs_of c.args.hosts.now) c.args.turns _ _ c.in_ok-run_code.field-0 (stopped c.in-Trap.field-0 c.in-Trap.field-1) 1 (c.code_does_what_the_program_means.ensures.only p (specs_of c.args.hosts.now) (empty_state p.relations) c.args.turns c.requires.sound (empty_is_state p.relations)) (ap stop_of c.in-Trap.is) refl
+    (own_end p (specs_of c.args.hosts.now) c.args.turns c.args.code.now c.deref-2.result.now c.in_ok-base.base.state _ _ _ c.requires.code c.deref-2.ensures.value own c.in_ok-run_code.ensures.whole)
 
 pub returns-in-Spent-clause-whole : goal.returns-in-Spent-clause-whole
 returns-in-Spent-clause-whole g c =
     let p = program_of c.args.program.now in
     let own = c.in_ok-base.ensures.state ∙ ap empty_state (c.in_ok-catalogue_of.ensures ∙ c.deref.ensures.value) in
-    run_whole p c.args.turns _ _ c.in_ok-run_code.field-0 out_of_turns 4 (c.code_does_what_the_program_means.ensures.only p [] (empty_state p.relations) c.args.turns c.requires.sound (empty_is_state p.relations)) (ap stop_of c.in-Spent.is) refl
-    (own_end p c.args.turns c.args.code.now c.deref-2.result.now c.in_ok-base.base.state _ _ _ c.requires.code c.deref-2.ensures.value own c.in_ok-run_code.ensures.whole)
+    run_whole p (specs_of c.args.hosts.now) c.args.turns _ _ c.in_ok-run_code.field-0 out_of_turns 4 (c.code_does_what_the_program_means.ensures.only p (specs_of c.args.hosts.now) (empty_state p.relations) c.args.turns c.requires.sound (empty_is_state p.relations)) (ap stop_of c.in-Spent.is) refl
+    (own_end p (specs_of c.args.hosts.now) c.args.turns c.args.code.now c.deref-2.result.now c.in_ok-base.base.state _ _ _ c.requires.code c.deref-2.ensures.value own c.in_ok-run_code.ensures.whole)
 
 -- the code of a sound program is never stuck
 pub unreachable-requires : goal.unreachable-requires
 unreachable-requires g c =
     let p = program_of c.args.program.now in
     let own = c.in_ok-base.ensures.state ∙ ap empty_state (c.in_ok-catalogue_of.ensures ∙ c.deref.ensures.value) in
-    never_stuck p c.args.turns _ _ (c.code_does_what_the_program_means.ensures.only p [] (empty_state p.relations) c.args.turns c.requires.sound (empty_is_state p.relations))
-    (own_end p c.args.turns c.args.code.now c.deref-2.result.now c.in_ok-base.base.state _ _ _ c.requires.code c.deref-2.ensures.value own
-    (subst (λ (e : End). EndsSaid c.args.code.now c.deref-2.result.now c.in_ok-base.base.state c.args.turns (g.W.Output.emitted c.args.outside.now) (g.W.Output.emitted c.run_code.new.outside) e) c.in-Stuck.is c.in_ok-run_code.ensures.whole))
+    never_stuck p (specs_of c.args.hosts.now) c.args.turns _ _ (c.code_does_what_the_program_means.ensures.only p (specs_of c.args.hosts.now) (empty_state p.relations) c.args.turns c.requires.sound (empty_is_state p.relations))
+    (own_end p (specs_of c.args.hosts.now) c.args.turns c.args.code.now c.deref-2.result.now c.in_ok-base.base.state _ _ _ c.requires.code c.deref-2.ensures.value own
+    (subst (λ (e : End). EndsSaid c.args.code.now c.deref-2.result.now (specs_of c.args.hosts.now) c.in_ok-base.base.state c.args.turns (g.W.Output.emitted c.args.outside.now) (g.W.Output.emitted c.run_code.new.outside) e) c.in-Stuck.is c.in_ok-run_code.ensures.whole))

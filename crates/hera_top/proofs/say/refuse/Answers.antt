@@ -1,14 +1,14 @@
 use Rattle.std.proofs.Common.{ℕ, List, ap, sym, ◌∙◌}
 use Rattle.hera_meaning.specs.Printed.{end_text}
 use Rattle.hera_script.specs.Labels.{label_of}
-use Rattle.hera_top.specs.Outcome.{refused, line_of, status_of_refusal}
+use Rattle.hera_top.specs.Outcome.{refused, line_of}
 use Rattle.hera_top.proofs.say.refuse.Goals as goal
 
 pub returns-in-Usage-clause-said : goal.returns-in-Usage-clause-said
-returns-in-Usage-clause-said g c = c.say_all.ensures.said (refused c.args.refusal) (ap line_of c.in-Usage.is) (ap status_of_refusal c.in-Usage.is)
+returns-in-Usage-clause-said g c = c.say_all.ensures.said (refused c.args.refusal) (ap line_of c.in-Usage.is) (sym c.status-status.ensures)
 
 pub returns-in-Unread-clause-said : goal.returns-in-Unread-clause-said
-returns-in-Unread-clause-said g c = c.say_all-in-Unread.ensures.said (refused c.args.refusal) (ap line_of c.in-Unread.is) (ap status_of_refusal c.in-Unread.is)
+returns-in-Unread-clause-said g c = c.say_all-in-Unread.ensures.said (refused c.args.refusal) (ap line_of c.in-Unread.is) (sym c.status-status.ensures)
 
 pub returns-in-Ok-clause-said : goal.returns-in-Ok-clause-said
-returns-in-Ok-clause-said g c = c.say_all-in-Ok.ensures.said (refused c.args.refusal) (ap line_of c.in-Script.is ∙ sym (c.bytes.ensures ∙ c.in-Ok.ensures ∙ ap (λ (name : List ℕ). end_text name c.from.result) c.label.ensures ∙ ap (λ (n : ℕ). end_text (label_of c.in-Script.cause) n) c.from.ensures)) (ap status_of_refusal c.in-Script.is)
+returns-in-Ok-clause-said g c = c.say_all-in-Ok.ensures.said (refused c.args.refusal) (ap line_of c.in-Script.is ∙ sym (c.bytes.ensures ∙ c.in-Ok.ensures ∙ ap (λ (name : List ℕ). end_text name c.from.result) c.label.ensures ∙ ap (λ (n : ℕ). end_text (label_of c.in-Script.cause) n) c.from.ensures)) (sym c.status-status.ensures)
