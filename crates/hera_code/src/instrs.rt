@@ -64,12 +64,16 @@ pub enum Instr {
     Halt,
 }
 
-/// The address at which a body begins, the numbers of its parameters and slots, and whether it is a func.
+/// What a call needs to know of a body.
 #[derive(Clone, Copy, PartialEq, Eq, Debug)]
 pub struct BodyInfo {
+    /// The address at which it begins.
     pub at: u32,
+    /// How many parameters it has.
     pub params: u32,
+    /// How many slots it has, the parameters' included.
     pub slots: u32,
+    /// Whether it is a func.
     pub func: bool,
 }
 

@@ -17,7 +17,8 @@ pub fn put(code: &mut Vec<Instr>, instr: Instr) -> Result<(), AllocError>
     Ok(())
 }
 
-/// The address of the next instruction. More than 2^32 - 1 instructions are more than memory holds.
+/// The address of the next instruction. More than 2^32 - 1 instructions are answered as want of memory; a
+/// sound program has fewer.
 pub fn here(code: &Vec<Instr>) -> Result<u32, AllocError>
     ensures { IfOk result (λ a. a ≡ length code.now.items) }
 {

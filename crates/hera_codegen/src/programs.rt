@@ -16,8 +16,8 @@ use hera_code::{Bodies, BodyInfo, Code, Instrs};
 use hera_meaning::Program;
 use std::alloc::{AllocError, Global};
 
-/// The code of a program: main at address 0, then the funcs and procs in their order. It jumps forward but
-/// for the ways back of loops, has as many instructions as the program's phrases say, and of a sound
+/// The code of a program: main at address 0, then the funcs and procs in their order. Its jumps go forward
+/// but for the ways back of loops, and it has as many instructions as the program's phrases say, and of a sound
 /// program it can be listed.
 pub fn generate(alloc: Global, program: &Program) -> Result<Code, AllocError>
     ensures code { IfOk result (λ code. code ≡ code_of (program_of program.now)) }

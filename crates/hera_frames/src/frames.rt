@@ -9,10 +9,15 @@ use std::marker::Model;
 /// that time are its own.
 #[derive(Drop)]
 pub struct Frame {
+    /// The address at which it goes on.
     pub at: usize,
+    /// Its operands.
     pub operands: Operands,
+    /// Its slots.
     pub locals: Locals,
+    /// Its open walks.
     pub walks: Walks,
+    /// How many of the machine's layers it has pushed itself.
     pub own: usize,
 }
 

@@ -166,7 +166,7 @@ impl Running {
         }
     }
 
-    /// There are no host functions yet.
+    /// Asks a host function. The table has none, so the run is stuck.
     fn host(&mut self, hosts: &HostTable, h: u32) -> Result<Told, AllocError>
         requires { hosts.now ≡ [] }
         ensures { IfOk result (λ told. step_of told self.new ≡ on_top self.old.operands (λ v vs. asks_host (host_at (specs_of hosts.now) h) v vs self.old)) }

@@ -20,8 +20,8 @@ pub enum ParseFault {
 
 /// The tree whose text the tokens are.
 ///
-/// The recursion is no deeper than the brackets are nested: chains of operators, of `when` and of
-/// `else if` are flat.
+/// The recursion goes deeper only inside brackets: chains of operators, of `when` and of `else if` are
+/// flat.
 pub fn parse(alloc: Global, tokens: &Tokens) -> Result<Tree, ParseFault>
     ensures tree { IfOk result (λ tree. IsTextOf tree tokens.now.0) }
     ensures syntax { (place : ℕ) → IsErrOf result (ParseFault.Syntax place) → IsFaultAt tokens.now.0 place }

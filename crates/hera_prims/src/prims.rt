@@ -9,8 +9,7 @@ use delta_atoms::Value;
 use hera_meaning::Op;
 use std::alloc::Global;
 
-/// What the operation gives of operands that fit: its value, or its trap. `Memory` comes for want of
-/// memory alone.
+/// What the operation gives of operands that fit: its value, its trap, or `Memory` for want of memory.
 ///
 /// Arithmetic traps Overflow where the exact result is out of range, and division by 0 traps DivZero.
 /// A count, a sum and a group trap Overflow where there are more than 2^63-1 tuples or an exact sum is

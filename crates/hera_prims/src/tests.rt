@@ -1,4 +1,4 @@
-//! Each operation once, and the traps of some.
+//! Operations on ints, relations and deltas, and some of their traps.
 
 use super::*;
 use delta_atoms::{Delta, Value};
@@ -130,7 +130,12 @@ fn ints_are_computed_or_trap(rt: HostRuntime) -> Result<(), Fail> {
     assert!(rt; is_int(of_ints(alloc, Op::Div, -7, 2), -3));
     assert!(rt; is_int(of_ints(alloc, Op::Rem, -7, 2), -1));
     assert!(rt; is_trap(of_ints(alloc, Op::Div, i64::MIN, -1), TrapName::Overflow));
-    assert!(rt; !is_int(of_ints(alloc, Op::Neg, 1, 2), -1));
+    let two = both(
+        alloc,
+        Value::Scalar(Scalar::Int(1)),
+        Value::Scalar(Scalar::Int(2)),
+    )?;
+    assert!(rt; !fits(&Op::Neg, &two));
     Ok(())
 }
 

@@ -1,7 +1,8 @@
 //! Rows, and packed, strictly ascending sets of rows.
 //!
-//! A row is a byte string. Every relation, delta and page is a strictly ascending list of rows, and
-//! [`Sorted`] is what they have in common: the next row past a bound, and whether a row is there.
+//! A row is a byte string. Every relation is a strictly ascending list of rows, and [`Sorted`] is what
+//! such lists have in common, however they are kept: the next row past a bound, and whether a row is
+//! there.
 #![tactic(auto)]
 
 mod row_buf;

@@ -12,7 +12,7 @@ use std::alloc::{AllocError, Global};
 use std::cmp::Ordering;
 use std::marker::Model;
 
-/// How many bytes of rows that were taken out a set may keep beside as many as it has of rows.
+/// How many bytes of no row a set may keep beside half of its buffer.
 const SLACK: usize = 256;
 
 /// Where a row lies in the bytes.
@@ -26,7 +26,8 @@ struct Span {
 ///
 /// The bytes lie in the order in which the rows came, and the spans in the order of the rows. So an
 /// insertion moves spans alone, and a growth that is refused leaves the set as it was. The bytes of
-/// a row that was taken out stay, until they are half of all: the next row put in then packs anew.
+/// a row that was taken out stay, until they pass half of all and 256 more: the next row put in then
+/// packs anew.
 #[derive(Drop)]
 pub struct RowSet {
     bytes: Vec<u8>,
@@ -218,7 +219,7 @@ impl RowSet {
         Ok(())
     }
 
-    /// Packs the rows anew where more than half of the bytes are of rows that were taken out.
+    /// Packs the rows anew where the bytes of no row pass half of all and 256 more.
     fn tighten(&mut self) -> Result<(), AllocError>
         ensures { self.new ≡ self.old }
     {

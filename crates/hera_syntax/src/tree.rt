@@ -37,9 +37,13 @@ pub enum SchemaTree {
 /// `kind | 'delta' | 'rel' schema | 'tuple' schema`
 #[derive(Drop)]
 pub enum TypeTree {
+    /// `int`, `bool` or `text`.
     Kind(KindTree),
+    /// `delta`.
     Delta(Token),
+    /// `rel` and its schema.
     Rel { word: Token, schema: SchemaTree },
+    /// `tuple` and its schema.
     Tuple { word: Token, schema: SchemaTree },
 }
 

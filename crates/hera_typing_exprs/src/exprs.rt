@@ -45,7 +45,7 @@ use hera_typing_rows::{
 };
 use std::alloc::Global;
 
-/// A level of the grammar: its first operand, and then each operator with its operand.
+/// An expression: its first operand, and then each `when` with its delta.
 #[cycle(check)]
 #[tactic(auto, using(crate::proofs::Steps::steps))]
 pub fn expr(
@@ -67,7 +67,7 @@ pub fn expr(
     chain.finish(alloc)
 }
 
-/// A level of the grammar: its first operand, and then each operator with its operand.
+/// A chain of `||`: its first operand, and then each further one.
 #[cycle(check)]
 #[tactic(auto, using(crate::proofs::Steps::steps))]
 fn or(alloc: Global, globals: &Globals, scope: &mut Scope, e: &Or) -> Result<Typed, TypeFault>
@@ -84,7 +84,7 @@ fn or(alloc: Global, globals: &Globals, scope: &mut Scope, e: &Or) -> Result<Typ
     chain.finish(alloc)
 }
 
-/// A level of the grammar: its first operand, and then each operator with its operand.
+/// A chain of `&&`: its first operand, and then each further one.
 #[cycle(check)]
 #[tactic(auto, using(crate::proofs::Steps::steps))]
 fn and(alloc: Global, globals: &Globals, scope: &mut Scope, e: &And) -> Result<Typed, TypeFault>
@@ -101,7 +101,7 @@ fn and(alloc: Global, globals: &Globals, scope: &mut Scope, e: &And) -> Result<T
     chain.finish(alloc)
 }
 
-/// A level of the grammar: its first operand, and then each operator with its operand.
+/// A chain of `+` and `-`: its first operand, and then each operator with its operand.
 #[cycle(check)]
 #[tactic(auto, using(crate::proofs::Steps::steps))]
 fn sum(alloc: Global, globals: &Globals, scope: &mut Scope, e: &Sum) -> Result<Typed, TypeFault>
@@ -118,7 +118,7 @@ fn sum(alloc: Global, globals: &Globals, scope: &mut Scope, e: &Sum) -> Result<T
     chain.finish(alloc)
 }
 
-/// A level of the grammar: its first operand, and then each operator with its operand.
+/// A chain of `*`, `/` and `%`: its first operand, and then each operator with its operand.
 #[cycle(check)]
 #[tactic(auto, using(crate::proofs::Steps::steps))]
 fn term(alloc: Global, globals: &Globals, scope: &mut Scope, e: &Term) -> Result<Typed, TypeFault>
@@ -135,7 +135,7 @@ fn term(alloc: Global, globals: &Globals, scope: &mut Scope, e: &Term) -> Result
     chain.finish(alloc)
 }
 
-/// A level of the grammar: its first operand, and then each operator with its operand.
+/// A chain of `!`: its first operand, and then each operator with its operand.
 #[cycle(check)]
 #[tactic(auto, using(crate::proofs::Steps::steps))]
 fn smash(alloc: Global, globals: &Globals, scope: &mut Scope, e: &Smash) -> Result<Typed, TypeFault>
@@ -152,7 +152,7 @@ fn smash(alloc: Global, globals: &Globals, scope: &mut Scope, e: &Smash) -> Resu
     chain.finish(alloc)
 }
 
-/// A level of the grammar: its first operand, and then each operator with its operand.
+/// A chain of `&`: its first operand, and then each operator with its operand.
 #[cycle(check)]
 #[tactic(auto, using(crate::proofs::Steps::steps))]
 fn merge(alloc: Global, globals: &Globals, scope: &mut Scope, e: &Merge) -> Result<Typed, TypeFault>

@@ -1,7 +1,7 @@
 //! The set operations and projection, over any strictly ascending lists of rows.
 //!
-//! Each operation walks its operands by their next row past a bound, so that sets in memory, stored
-//! pages and views are read where they stand.
+//! Each operation walks its operands by their next row past a bound, so that any sorted set is read
+//! where it stands.
 #![tactic(auto)]
 
 mod fronts;

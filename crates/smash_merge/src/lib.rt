@@ -43,8 +43,7 @@ pub fn merge(alloc: Global, a: &Delta, b: &Delta) -> Result<Delta, AllocError>
     joint(alloc, a, b, true)
 }
 
-/// Makes the first delta the smash of both. What it costs follows the size of the second. Without
-/// memory the first delta is as before.
+/// Makes the first delta the smash of both. Without memory the first delta is as before.
 pub fn smash_into(a: &mut Delta, b: &Delta) -> Result<(), AllocError>
     ensures ok { OnOk result (a.new ≡ smash_of a.old b.now) }
     ensures err { OnErr result (a.new ≡ a.old) }
