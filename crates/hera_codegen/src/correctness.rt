@@ -30,8 +30,7 @@ pub fn code_does_what_the_program_means()
     ensures prefixes { (p : Program_tree) → (hosts : Hosts) → (s : State) → (n : ℕ) → Sound p hosts → IsState p.relations s → (k : ℕ) → IsPrefix (events_in (code_at (code_of p) p.relations s hosts n k)) (run_of p s hosts n).events }
 {}
 
-/// In the code of every program, jumps and the way out of a walk go forward, and the way back at a loop's
-/// end goes back.
+/// In the code of every program, jumps and the way out of a walk go forward.
 pub fn code_of_programs_is_forward()
     ensures { (p : Program_tree) → Forward (code_of p) }
 {}

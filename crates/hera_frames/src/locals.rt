@@ -1,5 +1,5 @@
 //! Slots.
-ghost use Rattle.std.specs.Prelude.{◌≡◌, slice_get, IfOk};
+ghost use Rattle.std.specs.Prelude.{◌≡◌, map, slice_get, IfOk, OnOk};
 ghost use Rattle.std.specs.Option.{option_map, is_some};
 ghost use Rattle.hera_meaning.specs.Worlds.{set_local, locals_from};
 ghost use Rattle.delta_atoms.specs.Plain.{value_of};
@@ -10,6 +10,16 @@ use hera_prims::Args;
 use std::alloc::{AllocError, Global};
 use std::marker::Model;
 use std::mem::replace;
+
+/// Puts the int 0 behind the values until there are so many slots.
+fn fill(items: &mut Vec<Value>, slots: usize) -> Result<(), AllocError>
+    ensures { OnOk result (map value_of items.new.items ≡ locals_from slots (map value_of items.old.items)) }
+{
+    'zeros: while items.len() < slots {
+        items.push(int_zero())?;
+    }
+    Ok(())
+}
 
 /// The slots of a body.
 #[derive(Drop)]
@@ -70,9 +80,7 @@ impl Locals {
         while let Some(v) = args.pop_front() {
             items.push(v)?;
         }
-        while items.len() < slots as usize {
-            items.push(int_zero())?;
-        }
+        fill(&mut items, slots as usize)?;
         Ok(Locals { items })
     }
 }

@@ -24,7 +24,7 @@ impl MadeWith<Global> for Operand {
     }
 }
 
-/// The operands of an operation, in order. Up to four take no memory.
+/// The operands of an operation, in order. Four have their place in the vector itself.
 ///
 /// They are put in from the last to the first, as they come off a stack.
 #[derive(Drop)]

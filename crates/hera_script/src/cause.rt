@@ -1,7 +1,8 @@
 ghost use Rattle.std.specs.Prelude.{◌≡◌};
 ghost use Rattle.hera_script.specs.Labels.{label_of};
 
-/// Why a script is refused, in the order in which the causes are looked for.
+/// Why a script is refused. The causes up to `Syntax` are looked for in this order; of the others, which are
+/// faults of types, the first in the order of checking counts.
 #[derive(Clone, Copy, PartialEq, Eq, Debug)]
 pub enum Cause {
     /// It has more than 1,048,576 bytes.

@@ -99,8 +99,8 @@ fn tree_of(alloc: Global, tokens: &Tokens) -> Result<Tree, ScriptFault>
     }
 }
 
-/// The program of a script that may call these hosts, which is sound, or why it is refused: the first cause in the
-/// order of `Cause`.
+/// The program of a script that may call these hosts, which is sound, or why it is refused: BadUtf8, BadToken,
+/// TooDeep and Syntax are looked for in this order, and then the first fault of types in the order of checking.
 pub fn read_program(alloc: Global, script: &[u8], hosts: &HostTable) -> Result<Program, ScriptFault>
     requires { length script.now ≤ 1048576 }
     ensures accepted { IfOk result (λ program. Accepted script.now hosts.now (program_of program)) }

@@ -12,9 +12,9 @@ ghost use Rattle.hera_syntax.specs.Trees.{IsTextOf};
 ghost use Rattle.hera_rules.specs.ReadActs.{script_of};
 ghost use Rattle.hera_rules.specs.Programs.{ElabScript};
 
-/// The program of a text that is typed, of at most 1,048,576 tokens, is sound: every operand has the form that its operation takes,
-/// every slot that is read is readable there, all numbers are in range, and there are fewer than 2^32
-/// instructions.
+/// The program of a text that is typed, of at most 1,048,576 tokens, is sound: every operand has the form
+/// that its operation takes, every slot that is read is readable there, all numbers are in range, and there
+/// are fewer than 2^32 instructions.
 pub fn typed_programs_are_sound()
     ensures { (tree : Tree) → (tokens : List Token) → (hosts : List Host) → (p : Program_tree) → IsTextOf tree tokens → length tokens ≤ 1048576 → HaveValues tokens → AreHosts hosts → ElabScript hosts (script_of tree) p → Sound p (specs_of hosts) }
 {}

@@ -1,10 +1,11 @@
 -- The run of a program's code is the program's.
-use Rattle.std.proofs.Common.{◌≡◌, ℕ, ◌+◌, ◌<◌, ◌≤◌, ⊎_elim, List, [], ◌++◌, take, length, Option, Some, None, sym, ap, ◌∙◌, subst, arith, append-nil}
+use Rattle.std.proofs.Common.{◌≡◌, ℕ, ◌+◌, ◌<◌, ◌≤◌, ⊎_elim, List, [], ◌++◌, take, length, Option, sym, ap, ◌∙◌, subst, arith, append-nil}
 use Rattle.std.proofs.lemmas.Bool.{cases_lt}
 use Rattle.std.proofs.lemmas.List.{take_all, take-append-le}
 use Rattle.std.proofs.Math.Seq.{take-append_seam, take-append-add}
 use Rattle.std.specs.Io.KnownBytes.{Appends}
 use Rattle.std.proofs.KnownBytes.{Appends-trans}
+use Rattle.hera_top.proofs.Saying.{Appends-nothing}
 use Rattle.hera_meaning.specs.declared.schemas.RelDecl.{RelDecl}
 use Rattle.hera_meaning.specs.Deltas.{Delta, State}
 use Rattle.hera_meaning.specs.Trees.{Program_tree}
@@ -93,10 +94,6 @@ module _ (code : Code) (rels : List RelDecl) (hosts : Hosts) (s : State) (turns 
     ends = e.ends;
     said = subst (λ (l : List ℕ). Appends before now l) (sym e.printed_is) (Appends-trans _ _ _ _ _ first then);
   }
-
-  pub Appends-nothing : (known : Option (List ℕ)) → Appends known known []
-  Appends-nothing None = tt
-  Appends-nothing (Some bytes) = sym (append-nil bytes)
 
   pub along_part : (before now : Option (List ℕ)) (bytes : List ℕ) (ds : List Delta) (m : Standing) → IsAlong code rels hosts s turns bytes ds m → Appends before now bytes → PartSaid code rels hosts s turns before now
   along_part before now bytes ds m a said =

@@ -1,8 +1,8 @@
 // The fourth pass over a script: the bodies of funcs, procs and main.
 
 ghost use Rattle.std.specs.Prelude.{◌≡◌, ◌+◌, [], Some, None, IfOk, is_some, map};
-ghost use Rattle.hera_meaning.specs.Plain.{block_in, body_of, command_of};
-ghost use Rattle.hera_meaning.specs.Sound.{arms_return, command_returns, returns};
+ghost use Rattle.hera_meaning.specs.Plain.{arms_in, block_in, body_of, command_of};
+ghost use Rattle.hera_meaning.specs.Sound.{arms_return as all_return, command_returns, returns};
 ghost use Rattle.hera_rules.specs.Agrees.{Gives};
 ghost use Rattle.hera_rules.specs.CheckedScripts.{check_funcs, check_procs};
 ghost use Rattle.hera_rules.specs.Environments.{env_of};
@@ -18,18 +18,6 @@ use std::alloc::{AllocError, Global};
 
 // ---- what returns
 
-/// Whether the last statement of the arm's block returns.
-#[cycle(returning)]
-fn arm_returns(arm: &Arm) -> bool
-    ensures { result ≡ returns (block_in arm.now.block.items) }
-{
-    let mut last = false;
-    for stmt in &arm.block {
-        last = statement_returns(stmt);
-    }
-    last
-}
-
 /// Whether a statement returns: a `return`, or an `if` whose blocks all return.
 #[cycle(returning)]
 #[tactic(auto, using(hera_meaning::proofs::PlainLaws::plain))]
@@ -38,18 +26,7 @@ fn statement_returns(stmt: &Stmt) -> bool
 {
     match stmt {
         Stmt::Return(value) => value.is_some(),
-        Stmt::If(arms, other) => {
-            for arm in arms {
-                if !arm_returns(arm) {
-                    return false;
-                }
-            }
-            let mut ends = false;
-            for stmt in other {
-                ends = statement_returns(stmt);
-            }
-            ends
-        }
+        Stmt::If(arms, other) => arms_return(arms) && block_returns(other),
         Stmt::Set(_, _) => false,
         Stmt::Call(_, _) => false,
         Stmt::While(_, _) => false,
@@ -62,15 +39,29 @@ fn statement_returns(stmt: &Stmt) -> bool
     }
 }
 
+/// Whether the block of each of these arms returns.
+#[cycle(returning)]
+fn arms_return(arms: &[Arm]) -> bool
+    ensures { result ≡ all_return (arms_in arms.now) }
+{
+    for arm in arms {
+        if !block_returns(&arm.block) {
+            return false;
+        }
+    }
+    true
+}
+
 /// Whether the last of these statements returns.
+#[cycle(returning)]
 fn block_returns(stmts: &[Stmt]) -> bool
     ensures { result ≡ returns (block_in stmts.now) }
 {
-    let mut last = false;
+    let mut ends = false;
     for stmt in stmts {
-        last = statement_returns(stmt);
+        ends = statement_returns(stmt);
     }
-    last
+    ends
 }
 
 // ---- bodies

@@ -4,24 +4,31 @@ ghost use Rattle.std.specs.Prelude.{◌≡◌, [], OnOk};
 ghost use Rattle.hera_rules.specs.Agrees.{Gives, Keeps, typing_of};
 ghost use Rattle.hera_rules.specs.Checked.{check, check_all};
 ghost use Rattle.hera_rules.specs.Environments.{env_of};
+ghost use Rattle.hera_rules.specs.Phrases as phrases;
 ghost use Rattle.hera_rules.specs.Read.{
   and_phrase,
+  args_in,
   args_phrases,
   atom_phrase,
   atoms_phrases,
   bindings_phrases,
+  bindings_words,
   cmp_phrase,
   expr_phrase,
   line_phrase,
   lines_phrases,
   merge_phrase,
   or_phrase,
+  pair_of,
   post_of,
   prefix_of_tree,
   prime_phrase,
   smash_phrase,
+  some_atoms,
+  some_lines,
   sum_phrase,
   term_phrase,
+  walk_of,
   word_of,
 };
 ghost use Rattle.hera_rules.specs.Typing.{slots_of, slots_of_all};
@@ -235,84 +242,28 @@ fn prime(alloc: Global, globals: &Globals, scope: &mut Scope, e: &Prime) -> Resu
         Prime::Fail(_) => Ok(fail_literal()),
         Prime::Name(token) => name_row_of(globals, &scope.locals, token),
         Prime::Paren { inner, .. } => expr(alloc, globals, scope, inner),
-        Prime::Call {
-            name,
-            args: list,
-            ..
-        } => match list {
-            Some(inner) => {
-                let values = args(alloc, globals, scope, inner)?;
-                call_row_of(alloc, globals, name, values)
-            }
-            None => call_row_of(alloc, globals, name, Vec::new(alloc)),
-        },
-        Prime::Row {
-            bracket,
-            bindings: list,
-        } => {
-            let values = bindings(alloc, globals, scope, list)?;
-            named_row_of(alloc, bracket.at, list, values)
-        }
-        Prime::Delta {
-            bracket,
-            atoms: list,
-        } => match list {
-            Some(inner) => {
-                let values = atoms(alloc, globals, scope, inner)?;
-                atoms_row_of(alloc, bracket.at, values)
-            }
-            None => atoms_row_of(alloc, bracket.at, Vec::new(alloc)),
-        },
+        Prime::Call { name, args, .. } => call(alloc, globals, scope, name, args),
+        Prime::Row { bracket, bindings } => row(alloc, globals, scope, bracket.at, bindings),
+        Prime::Delta { bracket, atoms } => delta(alloc, globals, scope, bracket.at, atoms),
         Prime::Rows {
             word,
             name,
-            lines: list,
+            lines,
             ..
-        } => match list {
-            Some(inner) => {
-                let values = lines(alloc, globals, scope, inner, name)?;
-                lines_row_of(alloc, globals, name, word.at, values)
-            }
-            None => lines_row_of(alloc, globals, name, word.at, Vec::new(alloc)),
-        },
+        } => rows(alloc, globals, scope, name, word.at, lines),
         Prime::Walk {
             word,
             name,
             over,
             body,
             ..
-        } => {
-            let depth = scope.locals.len();
-            let slot = take_slot(scope)?;
-            let of = expr(alloc, globals, scope, over)?;
-            let range = Waiting { typed: of };
-            let local = variable_row_of(
-                globals,
-                &scope.locals,
-                alloc,
-                name,
-                word.at,
-                slot,
-                &range.typed.shape,
-            )?;
-            push_local(scope, local)?;
-            let inner = expr(alloc, globals, scope, body)?;
-            leave(scope, depth);
-            let typed = range.into_typed();
-            walk_row_of(alloc, walk_word(word), word.at, slot, typed, inner)
-        }
+        } => walk(alloc, globals, scope, word, name, over, body),
         Prime::Pair {
             word,
             left,
             right,
             ..
-        } => {
-            let own = expr(alloc, globals, scope, left)?;
-            let first = Waiting { typed: own };
-            let other = expr(alloc, globals, scope, right)?;
-            let typed = first.into_typed();
-            pair_row_of(alloc, pair_word(word), word.at, typed, other)
-        }
+        } => pair(alloc, globals, scope, word, left, right),
         Prime::Project { over, .. }
         | Prime::Rename { over, .. }
         | Prime::Group { over, .. }
@@ -324,6 +275,146 @@ fn prime(alloc: Global, globals: &Globals, scope: &mut Scope, e: &Prime) -> Resu
             one_row_of(alloc, globals, e, value)
         }
     }
+}
+
+/// A call and its arguments, if any.
+#[cycle(check)]
+#[tactic(auto, using(crate::proofs::Steps::steps))]
+fn call(
+    alloc: Global,
+    globals: &Globals,
+    scope: &mut Scope,
+    name: &Token,
+    list: &Option<Box<Args>>,
+) -> Result<Typed, TypeFault>
+    ensures checks { Gives typing_of result (check (env_of globals.now) scope.old.locals.items scope.old.next (phrases.calling (word_of name.now) (args_in list.now))) }
+    ensures keeps { OnOk result (Keeps scope.old scope.new (slots_of (phrases.calling (word_of name.now) (args_in list.now)))) }
+{
+    match list {
+        Some(inner) => {
+            let values = args(alloc, globals, scope, inner)?;
+            call_row_of(alloc, globals, name, values)
+        }
+        None => call_row_of(alloc, globals, name, Vec::new(alloc)),
+    }
+}
+
+/// A row, `[a = e]`.
+#[cycle(check)]
+#[tactic(auto, using(crate::proofs::Steps::steps))]
+fn row(
+    alloc: Global,
+    globals: &Globals,
+    scope: &mut Scope,
+    at: u32,
+    list: &Bindings,
+) -> Result<Typed, TypeFault>
+    ensures checks { Gives typing_of result (check (env_of globals.now) scope.old.locals.items scope.old.next (phrases.row at (bindings_words list.now) (bindings_phrases list.now))) }
+    ensures keeps { OnOk result (Keeps scope.old scope.new (slots_of (phrases.row at (bindings_words list.now) (bindings_phrases list.now)))) }
+{
+    let values = bindings(alloc, globals, scope, list)?;
+    named_row_of(alloc, at, list, values)
+}
+
+/// A delta literal and its atoms, if any.
+#[cycle(check)]
+#[tactic(auto, using(crate::proofs::Steps::steps))]
+fn delta(
+    alloc: Global,
+    globals: &Globals,
+    scope: &mut Scope,
+    at: u32,
+    list: &Option<Box<Atoms>>,
+) -> Result<Typed, TypeFault>
+    ensures checks { Gives typing_of result (check (env_of globals.now) scope.old.locals.items scope.old.next (phrases.atoms at (some_atoms list.now))) }
+    ensures keeps { OnOk result (Keeps scope.old scope.new (slots_of (phrases.atoms at (some_atoms list.now)))) }
+{
+    match list {
+        Some(inner) => {
+            let values = atoms(alloc, globals, scope, inner)?;
+            atoms_row_of(alloc, at, values)
+        }
+        None => atoms_row_of(alloc, at, Vec::new(alloc)),
+    }
+}
+
+/// `rows` and its lines, if any.
+#[cycle(check)]
+#[tactic(auto, using(crate::proofs::Steps::steps))]
+fn rows(
+    alloc: Global,
+    globals: &Globals,
+    scope: &mut Scope,
+    name: &Token,
+    at: u32,
+    list: &Option<Box<Lines>>,
+) -> Result<Typed, TypeFault>
+    ensures checks { Gives typing_of result (check (env_of globals.now) scope.old.locals.items scope.old.next (phrases.lines (word_of name.now) at (some_lines (word_of name.now) list.now))) }
+    ensures keeps { OnOk result (Keeps scope.old scope.new (slots_of (phrases.lines (word_of name.now) at (some_lines (word_of name.now) list.now)))) }
+{
+    match list {
+        Some(inner) => {
+            let values = lines(alloc, globals, scope, inner, name)?;
+            lines_row_of(alloc, globals, name, at, values)
+        }
+        None => lines_row_of(alloc, globals, name, at, Vec::new(alloc)),
+    }
+}
+
+/// A `select` or a `map`. Its variable is visible in its body alone.
+#[cycle(check)]
+#[tactic(auto, using(crate::proofs::Steps::steps))]
+fn walk(
+    alloc: Global,
+    globals: &Globals,
+    scope: &mut Scope,
+    word: &Token,
+    name: &Token,
+    over: &Expr,
+    body: &Expr,
+) -> Result<Typed, TypeFault>
+    ensures checks { Gives typing_of result (check (env_of globals.now) scope.old.locals.items scope.old.next (phrases.walking (walk_of word.now.kind) word.now.at (word_of name.now) (expr_phrase over.now) (expr_phrase body.now))) }
+    ensures keeps { OnOk result (Keeps scope.old scope.new (slots_of (phrases.walking (walk_of word.now.kind) word.now.at (word_of name.now) (expr_phrase over.now) (expr_phrase body.now)))) }
+{
+    let depth = scope.locals.len();
+    let slot = take_slot(scope)?;
+    let of = expr(alloc, globals, scope, over)?;
+    let range = Waiting { typed: of };
+    let local = variable_row_of(
+        globals,
+        &scope.locals,
+        alloc,
+        name,
+        word.at,
+        slot,
+        &range.typed.shape,
+    )?;
+    push_local(scope, local)?;
+    let inner = expr(alloc, globals, scope, body)?;
+    leave(scope, depth);
+    let typed = range.into_typed();
+    walk_row_of(alloc, walk_word(word), word.at, slot, typed, inner)
+}
+
+/// A `union`, a `minus`, an `inter` or a `join`: its left part, then its right.
+#[cycle(check)]
+#[tactic(auto, using(crate::proofs::Steps::steps))]
+fn pair(
+    alloc: Global,
+    globals: &Globals,
+    scope: &mut Scope,
+    word: &Token,
+    left: &Expr,
+    right: &Expr,
+) -> Result<Typed, TypeFault>
+    ensures checks { Gives typing_of result (check (env_of globals.now) scope.old.locals.items scope.old.next (phrases.pairing (pair_of word.now.kind) word.now.at (expr_phrase left.now) (expr_phrase right.now))) }
+    ensures keeps { OnOk result (Keeps scope.old scope.new (slots_of (phrases.pairing (pair_of word.now.kind) word.now.at (expr_phrase left.now) (expr_phrase right.now)))) }
+{
+    let own = expr(alloc, globals, scope, left)?;
+    let first = Waiting { typed: own };
+    let other = expr(alloc, globals, scope, right)?;
+    let typed = first.into_typed();
+    pair_row_of(alloc, pair_word(word), word.at, typed, other)
 }
 
 /// Arguments from the left.

@@ -9,14 +9,15 @@ use Rattle.hera_machine.specs.Descends.{left, IsLower}
 use Rattle.hera_machine.specs.Standing.{Standing, status_by, WaitsBy}
 use Rattle.hera_machine.proofs.Along.{IsAlong, along_start, along_quiet, along_out, along_commit, along_end}
 use Rattle.hera_top.proofs.Lines.{same_said, same_part}
-use Rattle.hera_top.proofs.Running.{Appends-nothing, comes_nearer, along_part, along_cut, ends_cut, ends_said, stepped}
+use Rattle.hera_top.proofs.Saying.{Appends-nothing}
+use Rattle.hera_top.proofs.Running.{comes_nearer, along_part, along_cut, ends_cut, ends_said, stepped}
 use Rattle.hera_top.proofs.run.run_code.Goals as goal
 
 pub steps-init : goal.steps-init
 steps-init g c = record {
   later = omega arith;
   bytes = [];
-  said = Appends-nothing c.args.code.now c.args.relations.now (specs_of c.args.hosts.now) c.args.base.now.state c.args.turns _;
+  said = Appends-nothing _;
   along = subst (λ (ds : List Delta). IsAlong c.args.code.now c.args.relations.now (specs_of c.args.hosts.now) c.args.base.now.state c.args.turns [] ds c.in_ok-machine.machine) (sym c.new-commits.ensures.items)
       (along_start c.args.code.now c.args.relations.now (specs_of c.args.hosts.now) c.args.base.now.state c.args.turns c.in_ok-machine.machine c.in_ok-machine.ensures.start c.in_ok-machine.ensures.works c.in_ok-machine.ensures.code c.in_ok-machine.ensures.relations);
   taken = c.in_ok-machine.ensures.nothing_waits;

@@ -1,7 +1,7 @@
-use Rattle.std.proofs.Common.{sym, ap, ◌∙◌, refl, arith, drop, List, [], ◌∷◌, ◌++◌}
+use Rattle.std.proofs.Common.{◌+◌, sym, ap, ◌∙◌, refl, arith, drop, List, [], ◌∷◌, ◌++◌}
 use Rattle.std.specs.Prelude.{Ok}
 use Rattle.hera_meaning.specs.Plain.{expr_of}
-use Rattle.hera_syntax.specs.declared.expr.Expr.{Expr, out-Expr}
+use Rattle.hera_syntax.specs.declared.expr.Expr.{out-Expr}
 use Rattle.hera_syntax.specs.declared.expr.Or.{out-Or}
 use Rattle.hera_syntax.specs.declared.expr.And.{out-And}
 use Rattle.hera_syntax.specs.declared.expr.Sum.{out-Sum}
@@ -23,11 +23,11 @@ use Rattle.hera_rules.specs.Agrees.{Keeps, typing_of, steps_of}
 use Rattle.hera_typing_exprs.specs.Parts.{list_of}
 use Rattle.hera_rules.specs.Environments.{env_of}
 use Rattle.hera_rules.specs.Phrases.{uses, no_use}
-use Rattle.hera_rules.specs.Read.{joint_of, prime_phrase, expr_phrase, or_phrase, and_phrase, cmp_phrase, sum_phrase, term_phrase, smash_phrase, merge_phrase, prefix_of_tree, expr_uses_in, or_uses_in, and_uses_in, sum_uses_in, term_uses_in, smash_uses_in, merge_uses_in, atom_phrase, line_phrase, word_of}
+use Rattle.hera_rules.specs.Read.{joint_of, expr_phrase, or_phrase, and_phrase, cmp_phrase, sum_phrase, term_phrase, smash_phrase, merge_phrase, prefix_of_tree, expr_uses_in, or_uses_in, and_uses_in, sum_uses_in, term_uses_in, smash_uses_in, merge_uses_in, atom_phrase, line_phrase, word_of}
 use Rattle.hera_rules.specs.Rules.{joint_row, typing, chain_core, Step}
 use Rattle.hera_rules.specs.Typing.{slots_of, slots_of_all, slots_of_uses}
 use Rattle.hera_rules.specs.Checked.{check_uses}
-use Rattle.hera_rules.proofs.ReadLaws.{prime_phrase-Walk, expr_phrase-read, or_phrase-read, and_phrase-read, sum_phrase-read, term_phrase-read, smash_phrase-read, merge_phrase-read}
+use Rattle.hera_rules.proofs.ReadLaws.{expr_phrase-read, or_phrase-read, and_phrase-read, sum_phrase-read, term_phrase-read, smash_phrase-read, merge_phrase-read}
 use Rattle.hera_typing_exprs.proofs.Levels.{level_first, level_done, level_breaks, uses_step, uses_operand, uses_break, slots_of-chain, left_behind, at_locals, all_first, all_rest, all_step, all_break, all_end, put_first, put_more, args_more, args_none, bindings_more, bindings_none, atoms_more, atoms_none, lines_more, lines_none, expr_more, expr_none, or_more, or_none, and_more, and_none, sum_more, sum_none, term_more, term_none, smash_more, smash_none, merge_more, merge_none}
 use Rattle.hera_typing_parts.proofs.Giving.{gives_err, gives_done, on_ok}
 use Rattle.hera_typing_exprs.proofs.Wholes.{expr_whole, or_whole, and_whole, sum_whole, term_whole, smash_whole, merge_whole, args_whole, bindings_whole, atoms_whole, lines_whole, cmp_whole}
@@ -784,17 +784,14 @@ cmp-returns-in_ok-chain-in-Some-clause-keeps t c =
     } in on_ok _ kept
 
 -- a walk leaves its variable
-pub prime-returns-in_ok-inner-in-Walk-clause-keeps : goal.prime-returns-in_ok-inner-in-Walk-clause-keeps
-prime-returns-in_ok-inner-in-Walk-clause-keeps t c =
-    let slot = c.in_ok-slot-in-Walk.ensures.keeps in
-    let of = c.in_ok-of-in-Walk.ensures.keeps in
-    let local = c.in_ok-local-in-Walk.local in
-    let pushed = c.in_ok-push_local-in-Walk.ensures in
-    let inner = c.in_ok-inner-in-Walk.ensures.keeps in
-    let whole = ap slots_of (ap prime_phrase c.in-Walk.is ∙ prime_phrase-Walk c.in-Walk.word c.in-Walk.bracket c.in-Walk.name c.in-Walk.over c.in-Walk.body) in
-    let over_slots = ap (λ (e : Expr). slots_of (expr_phrase e)) c.deref-in-Walk.ensures in
-    let body_slots = ap (λ (e : Expr). slots_of (expr_phrase e)) c.deref-in-Walk-3.ensures in
-    let kept : Keeps c.args.scope.now c.leave.new.scope (slots_of (prime_phrase c.args.e.now)) = record {
+pub walk-returns-clause-keeps : goal.walk-returns-clause-keeps
+walk-returns-clause-keeps t c =
+    let slot = c.in_ok-slot.ensures.keeps in
+    let of = c.in_ok-of.ensures.keeps in
+    let local = c.in_ok-local.local in
+    let pushed = c.in_ok-push_local.ensures in
+    let inner = c.in_ok-inner.ensures.keeps in
+    let kept : Keeps c.args.scope.now c.leave.new.scope (1 + slots_of (expr_phrase c.args.over.now) + slots_of (expr_phrase c.args.body.now)) = record {
       locals = c.leave.ensures.locals ∙ left_behind _ local _ (inner.locals ∙ pushed.locals ∙ ap (λ ls. ls ++ local ∷ []) (of.locals ∙ slot.locals)) (c.len-depth.ensures ∙ c.args.scope.now.locals.ok.0);
-      next = omega (arith, c.leave.ensures.next, inner.next, pushed.next, of.next, slot.next, whole, over_slots, body_slots);
+      next = omega (arith, c.leave.ensures.next, inner.next, pushed.next, of.next, slot.next);
     } in on_ok _ kept

@@ -1,10 +1,82 @@
-use Rattle.std.proofs.Common.{◌≡◌, ◌+◌, [], drop}
+use Rattle.std.proofs.Common.{◌≡◌, ◌+◌, ◌*◌, [], drop}
+use Rattle.std.specs.Prelude.{max}
+use Rattle.hera_syntax.proofs.expr.Expr.TheLaws.{the_size}
 use Rattle.hera_rules.specs.Environments.{env_of}
 use Rattle.hera_rules.specs.Read.{expr_uses_in, or_uses_in, and_uses_in, sum_uses_in, term_uses_in, smash_uses_in, merge_uses_in, phrases_in, bindings_in, atoms_in, lines_in, word_of}
 use Rattle.hera_rules.specs.Agrees.{steps_of, typings_of}
 use Rattle.hera_rules.specs.Typing.{slots_of_uses, slots_of_all}
 use Rattle.hera_rules.specs.Checked.{check_uses, check_all}
 use Rattle.hera_typing_exprs.proofs.exprs.+check.Given as goal
+
+-- each call goes down the tree, or hands it on as it is to a function that stands below
+abbrev pub decreases-expr : goal.decreases-expr
+decreases-expr l = 2 * goal.size-expr l
+
+abbrev pub decreases-or : goal.decreases-or
+decreases-or l = 2 * goal.size-or l
+
+abbrev pub decreases-and : goal.decreases-and
+decreases-and l = 2 * goal.size-and l
+
+abbrev pub decreases-cmp : goal.decreases-cmp
+decreases-cmp l = 2 * goal.size-cmp l
+
+abbrev pub decreases-sum : goal.decreases-sum
+decreases-sum l = 2 * goal.size-sum l
+
+abbrev pub decreases-term : goal.decreases-term
+decreases-term l = 2 * goal.size-term l
+
+abbrev pub decreases-smash : goal.decreases-smash
+decreases-smash l = 2 * goal.size-smash l
+
+abbrev pub decreases-merge : goal.decreases-merge
+decreases-merge l = 2 * goal.size-merge l
+
+abbrev pub decreases-prefix : goal.decreases-prefix
+decreases-prefix l = 2 * goal.size-prefix l
+
+abbrev pub decreases-post : goal.decreases-post
+decreases-post l = 2 * goal.size-post l
+
+abbrev pub decreases-args : goal.decreases-args
+decreases-args l = 2 * goal.size-args l
+
+abbrev pub decreases-bindings : goal.decreases-bindings
+decreases-bindings l = 2 * goal.size-bindings l
+
+abbrev pub decreases-atoms : goal.decreases-atoms
+decreases-atoms l = 2 * goal.size-atoms l
+
+abbrev pub decreases-atom : goal.decreases-atom
+decreases-atom l = 2 * goal.size-atom l
+
+abbrev pub decreases-lines : goal.decreases-lines
+decreases-lines l = 2 * goal.size-lines l
+
+abbrev pub decreases-line : goal.decreases-line
+decreases-line l = 2 * goal.size-line l
+
+abbrev pub decreases-prime : goal.decreases-prime
+decreases-prime l = 2 * goal.size-prime l + 1
+
+abbrev pub decreases-call : goal.decreases-call
+decreases-call l = 2 * goal.size-call l + 1
+
+abbrev pub decreases-row : goal.decreases-row
+decreases-row l = 2 * goal.size-row l + 1
+
+abbrev pub decreases-delta : goal.decreases-delta
+decreases-delta l = 2 * goal.size-delta l + 1
+
+abbrev pub decreases-rows : goal.decreases-rows
+decreases-rows l = 2 * goal.size-rows l + 1
+
+abbrev pub decreases-walk : goal.decreases-walk
+decreases-walk l = 2 * max (the_size l.over.now) (the_size l.body.now) + 1
+
+abbrev pub decreases-pair : goal.decreases-pair
+decreases-pair l = 2 * max (the_size l.left.now) (the_size l.right.now) + 1
 
 abbrev pub invariant-expr-loop-tail : goal.invariant-expr-loop-tail
 invariant-expr-loop-tail l = record {
