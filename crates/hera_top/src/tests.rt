@@ -90,6 +90,16 @@ fn bytes_are_refused_before_tokens(rt: HostRuntime) -> Result<(), Fail> {
 fn faults_end_the_call(rt: HostRuntime) -> Result<(), Fail> {
     let alloc = rt.alloc();
     let line: &[&str] = &["eval", "100", "f"];
+    let row: &[u8] = b"main { print 2 + 3 * 4; }";
+    check(
+        &rt,
+        alloc,
+        line,
+        row,
+        (&[], &[Piece::Take(1), Piece::Fail]),
+        b"1",
+        8,
+    )?;
     let script: &[u8] = b"main { print 14; print 15; }";
     let cut = &[Piece::Take(3), Piece::Take(1), Piece::Fail];
     check(&rt, alloc, line, script, (&[], cut), b"14\n1", 8)?;
