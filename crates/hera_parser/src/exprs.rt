@@ -196,7 +196,8 @@ impl<'a> Parser<'a> {
         let operand = self.prime(alloc)?;
         let both = self.field_behind(operand)?;
         let (operand, field) = both;
-        Ok(Post::new(operand, field))
+        let boxed = Box::new(alloc, operand)?;
+        Ok(Post::new(boxed, field))
     }
 
     /// `'(' expr ')'`

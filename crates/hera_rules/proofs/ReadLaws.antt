@@ -72,7 +72,7 @@ smash_rows n (more_of-SmashTail t rest) = ap (λ us. smash_use t us) (smash_rows
 merge_rows : (n : _) (k : Row_of-MergeTail n) → merge_uses k ≡ merge_uses_in (items-the_row-MergeTail n k)
 unfolding expr_phrase
 merge_rows n end_of-MergeTail = refl
-merge_rows n (more_of-MergeTail sign op operand field rest) =
+merge_rows n (more_of-MergeTail sign op p operand field rest) =
     ap (λ us. uses (joint_of sign.kind) sign.at (prefix_phrase op (post_phrase (prime_phrase operand) field)) us) (merge_rows _ rest)
 
 arg_rows : (n : _) (k : Row_of-Expr n) → args_rest k ≡ phrases_in (items-the_row-Expr n k)
@@ -150,7 +150,7 @@ smash_use-read (SmashTail' op operand) rest = refl
 
 pub merge_phrase-read : (e : Merge) → merge_phrase e ≡ chain_phrase (prefix_of_tree (out-Merge e).first) (merge_uses_in (out-Merge e).rest.items)
 unfolding expr_phrase
-merge_phrase-read (Merge' op operand field shape rest) = search (rules, the_lemmas, merge_rows)
+merge_phrase-read (Merge' op p operand field shape rest) = search (rules, the_lemmas, merge_rows)
 
 pub cmp_phrase-read : (e : Cmp) → cmp_phrase e ≡ chain_phrase (sum_phrase (out-Cmp e).first) (cmp_uses_in (out-Cmp e).rest)
 unfolding expr_phrase

@@ -232,11 +232,11 @@ unfoldable mutual
   smash_use (SmashTail' op operand) rest = uses (joint_of op.kind) op.at (merge_phrase operand) rest
 
   pub merge_phrase : Merge → Phrase
-  merge_phrase (Merge' op operand field shape rest) = chain_phrase (prefix_phrase op (post_phrase (prime_phrase operand) field)) (merge_uses rest)
+  merge_phrase (Merge' op p operand field shape rest) = chain_phrase (prefix_phrase op (post_phrase (prime_phrase operand) field)) (merge_uses rest)
 
   pub merge_uses : {m : _} → Row_of-MergeTail m → Uses
   merge_uses end_of-MergeTail = no_use
-  merge_uses (more_of-MergeTail sign op operand field rest) =
+  merge_uses (more_of-MergeTail sign op p operand field rest) =
       uses (joint_of sign.kind) sign.at (prefix_phrase op (post_phrase (prime_phrase operand) field)) (merge_uses rest)
 
   pub cmp_phrase : Cmp → Phrase
@@ -333,7 +333,7 @@ unfoldable mutual
 
 -- an operand with its attribute, and with its prefix
 abbrev pub post_of : Post → Phrase
-post_of p = post_phrase (prime_phrase p.operand) p.field
+post_of p = post_phrase (prime_phrase p.operand.value) p.field
 
 abbrev pub prefix_of_tree : Prefix → Phrase
 prefix_of_tree p = prefix_phrase p.op (post_of p.operand)

@@ -258,7 +258,7 @@ mutual
       record { same = ap (λ (x : Token). uses (joint_of x.kind) x.at (merge_phrase p) (smash_uses k)) o.same ∙ ap (λ e. uses (joint_of v.kind) v.at e (smash_uses k)) a.same ∙ ap (λ us. uses (joint_of v.kind) v.at (merge_phrase q) us) b.same; rest = b.rest }
 
   merge_fixed : (a b : Merge) (r s : List Mark) → merge_out a r ≡ merge_out b s → Same (merge_phrase a) (merge_phrase b) r s
-  merge_fixed (Merge' op f field shape k) (Merge' op' g field' shape' j) r s h =
+  merge_fixed (Merge' op held f field shape k) (Merge' op' held' g field' shape' j) r s h =
       let o = prefix_fixed op op' (at_node phrases.post 0 ∷ prime_out f (field_outline field ++ merges_out k (at_node (phrases.more phrases.merges) 1 ∷ r))) (at_node phrases.post 0 ∷ prime_out g (field_outline field' ++ merges_out j (at_node (phrases.more phrases.merges) 1 ∷ s))) (tail_same h) in
       let a = prime_fixed f g (field_outline field ++ merges_out k (at_node (phrases.more phrases.merges) 1 ∷ r)) (field_outline field' ++ merges_out j (at_node (phrases.more phrases.merges) 1 ∷ s)) (tail_same o.rest) in
       let i = field_fixed field field' (merges_out k (at_node (phrases.more phrases.merges) 1 ∷ r)) (merges_out j (at_node (phrases.more phrases.merges) 1 ∷ s)) a.rest in
@@ -271,9 +271,9 @@ mutual
 
   merges_fixed : {m : _} {m' : _} (k : Row_of-MergeTail m) (j : Row_of-MergeTail m') (r s : List Mark) → merges_out k (at_node (phrases.more phrases.merges) 1 ∷ r) ≡ merges_out j (at_node (phrases.more phrases.merges) 1 ∷ s) → Same (merge_uses k) (merge_uses j) r s
   merges_fixed end_of-MergeTail end_of-MergeTail r s h = record { same = refl; rest = tail_same h }
-  merges_fixed end_of-MergeTail (more_of-MergeTail v op' g field' j) r s h = absurd cc
-  merges_fixed (more_of-MergeTail w op f field k) end_of-MergeTail r s h = absurd cc
-  merges_fixed (more_of-MergeTail w op f field k) (more_of-MergeTail v op' g field' j) r s h =
+  merges_fixed end_of-MergeTail (more_of-MergeTail v op' held' g field' j) r s h = absurd cc
+  merges_fixed (more_of-MergeTail w op held f field k) end_of-MergeTail r s h = absurd cc
+  merges_fixed (more_of-MergeTail w op held f field k) (more_of-MergeTail v op' held' g field' j) r s h =
       let z = kept_same (tail_same h) in
       let o = prefix_fixed op op' (at_node phrases.post 0 ∷ prime_out f (field_outline field ++ merges_out k (at_node (phrases.more phrases.merges) 1 ∷ r))) (at_node phrases.post 0 ∷ prime_out g (field_outline field' ++ merges_out j (at_node (phrases.more phrases.merges) 1 ∷ s))) z.rest in
       let a = prime_fixed f g (field_outline field ++ merges_out k (at_node (phrases.more phrases.merges) 1 ∷ r)) (field_outline field' ++ merges_out j (at_node (phrases.more phrases.merges) 1 ∷ s)) (tail_same o.rest) in

@@ -88,12 +88,12 @@ abbrev mutual
   smashes_one (SmashTail' op operand) r = kept op ∷ merge_out operand r
 
   pub merge_out : Merge → List Mark → List Mark
-  merge_out (Merge' op operand field shape rest) r =
+  merge_out (Merge' op p operand field shape rest) r =
       at_node (phrases.level phrases.merges) 0 ∷ (prefix_start op ++ (at_node phrases.post 0 ∷ prime_out operand (field_outline field ++ merges_out rest (at_node (phrases.more phrases.merges) 1 ∷ r))))
 
   pub merges_out : {m : _} → Row_of-MergeTail m → List Mark → List Mark
   merges_out end_of-MergeTail r = r
-  merges_out (more_of-MergeTail sign op operand field rest) r =
+  merges_out (more_of-MergeTail sign op p operand field rest) r =
       at_node (phrases.more phrases.merges) 0 ∷ kept sign ∷ (prefix_start op ++ (at_node phrases.post 0 ∷ prime_out operand (field_outline field ++ merges_out rest r)))
 
   pub cmp_out : Cmp → List Mark → List Mark
@@ -245,12 +245,12 @@ mutual
   smashes_one_law (SmashTail' op operand) r = ap (λ ms. kept op ∷ ms) (merge_law operand r)
 
   merge_law : (e : Merge) (r : List Mark) → merge_outline e ++ r ≡ merge_out e r
-  merge_law (Merge' op operand field shape rest) r =
+  merge_law (Merge' op p operand field shape rest) r =
       simp append_assoc (rw (merges_law rest (at_node (phrases.more phrases.merges) 1 ∷ r), prime_law operand (field_outline field ++ merges_out rest (at_node (phrases.more phrases.merges) 1 ∷ r))) refl)
 
   merges_law : {m : _} (k : Row_of-MergeTail m) (r : List Mark) → merge_rest k ++ r ≡ merges_out k r
   merges_law end_of-MergeTail r = refl
-  merges_law (more_of-MergeTail sign op operand field rest) r = simp append_assoc (rw (merges_law rest r, prime_law operand (field_outline field ++ merges_out rest r)) refl)
+  merges_law (more_of-MergeTail sign op p operand field rest) r = simp append_assoc (rw (merges_law rest r, prime_law operand (field_outline field ++ merges_out rest r)) refl)
 
   cmp_law : (e : Cmp) (r : List Mark) → cmp_outline e ++ r ≡ cmp_out e r
   cmp_law (Cmp' first rest) r = simp append_assoc (rw (cmp_more_law rest r, sum_law first (cmp_more rest r)) refl)

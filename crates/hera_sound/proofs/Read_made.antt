@@ -331,7 +331,7 @@ mutual
       record { made = ((operator w.kind).0, a.made, b.made); level = ((operator w.kind).1, b.level); rest = b.rest; few = omega (arith, x, y) }
 
   merge_read : (e : Merge) (r : List Mark) → GoodMarks (merge_out e r) → ReadPhrase (merge_phrase e) r (merge_out e r)
-  merge_read (Merge' op f field shape k) r g =
+  merge_read (Merge' op held f field shape k) r g =
       let last : List Mark = merges_out k (at_node (phrases.more phrases.merges) 1 ∷ r) in
       let a = prime_read f (field_outline field ++ last) (marks_back (prefix_start op) (at_node phrases.post 0 ∷ prime_out f (field_outline field ++ last)) g) in
       let b = merges_read k (at_node (phrases.more phrases.merges) 1 ∷ r) (marks_back (field_outline field) last a.rest) in
@@ -345,7 +345,7 @@ mutual
 
   merges_read : {m : _} (k : Row_of-MergeTail m) (r : List Mark) → GoodMarks (merges_out k r) → ReadUses chains (merge_uses k) r (merges_out k r)
   merges_read end_of-MergeTail r g = record { made = tt; level = tt; rest = g; few = omega arith }
-  merges_read (more_of-MergeTail w op f field k) r g =
+  merges_read (more_of-MergeTail w op held f field k) r g =
       let last : List Mark = merges_out k r in
       let a = prime_read f (field_outline field ++ last) (marks_back (prefix_start op) (at_node phrases.post 0 ∷ prime_out f (field_outline field ++ last)) g.1) in
       let b = merges_read k r (marks_back (field_outline field) last a.rest) in

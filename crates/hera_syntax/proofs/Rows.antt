@@ -47,7 +47,7 @@ smash_rows n (more_of-SmashTail e rest) = ap (λ r. (node (phrases.more phrases.
 
 pub merge_rows : (n : _) (k : Row_of-MergeTail n) → merge_rest k ≡ flat_map merge_row (items-the_row-MergeTail n k)
 merge_rows n end_of-MergeTail = refl
-merge_rows n (more_of-MergeTail sign op operand field rest) =
+merge_rows n (more_of-MergeTail sign op p operand field rest) =
     ap (λ r. (node (phrases.more phrases.merges) 0 ++ (hold sign ++ (prefix_start op ++ (node phrases.post 0 ++ prime_outline operand ++ field_outline field)))) ++ r) (merge_rows _ rest)
 
 pub args_rows : (n : _) (k : Row_of-Expr n) → args_rest k ≡ flat_map args_row (items-the_row-Expr n k)

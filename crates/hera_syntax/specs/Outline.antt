@@ -159,13 +159,13 @@ abbrev mutual
   smash_tail_outline (SmashTail' op operand) = hold op ++ merge_outline operand
 
   pub merge_outline : Merge → List Mark
-  merge_outline (Merge' op operand field shape rest) =
+  merge_outline (Merge' op p operand field shape rest) =
       node (phrases.level phrases.merges) 0 ++ (prefix_start op ++ (node phrases.post 0 ++ prime_outline operand ++ field_outline field)) ++ merge_rest rest
       ++ node (phrases.more phrases.merges) 1
 
   pub merge_rest : {m : _} → Row_of-MergeTail m → List Mark
   merge_rest end_of-MergeTail = []
-  merge_rest (more_of-MergeTail sign op operand field rest) =
+  merge_rest (more_of-MergeTail sign op p operand field rest) =
       (node (phrases.more phrases.merges) 0 ++ (hold sign ++ (prefix_start op ++ (node phrases.post 0 ++ prime_outline operand ++ field_outline field))))
       ++ merge_rest rest
 
@@ -258,7 +258,7 @@ abbrev mutual
   prime_outline (Part' w b n p over) = node phrases.prime 18 ++ hold w ++ hold b ++ hold n ++ skip phrases.comma ++ expr_outline over ++ skip phrases.close_paren
 
 abbrev pub post_outline : Post → List Mark
-post_outline p = node phrases.post 0 ++ prime_outline p.operand ++ field_outline p.field
+post_outline p = node phrases.post 0 ++ prime_outline p.operand.value ++ field_outline p.field
 
 abbrev pub prefix_outline : Prefix → List Mark
 prefix_outline p = prefix_start p.op ++ post_outline p.operand

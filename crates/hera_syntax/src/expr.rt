@@ -147,7 +147,7 @@ pub struct Prefix {
 #[derive(Drop)]
 #[cycle(expr)]
 pub struct Post {
-    pub operand: Prime,
+    pub operand: Box<Prime>,
     pub field: Option<Token>,
 }
 

@@ -173,8 +173,8 @@ impl Prefix {
 
 impl Post {
     /// An operand, and the attribute that is taken of it.
-    pub fn new(operand: Prime, field: Option<Token>) -> Post
-        ensures { post_outline result ≡ node phrases.post 0 ++ prime_outline operand ++ field_outline field }
+    pub fn new(operand: Box<Prime>, field: Option<Token>) -> Post
+        ensures { post_outline result ≡ node phrases.post 0 ++ prime_outline operand.value ++ field_outline field }
     {
         Post { operand, field }
     }

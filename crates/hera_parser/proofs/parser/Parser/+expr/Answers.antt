@@ -196,7 +196,7 @@ pub post-returns-in_err-both-clause-sticks : goal.post-returns-in_err-both-claus
 post-returns-in_err-both-clause-sticks t c h = stops (next (choose phrases.post 0 (record { number = refl })) c.in_ok-operand.ensures.reads) (c.in_err-both.ensures.sticks (search rules))
 
 pub post-returns-clause-reads : goal.post-returns-clause-reads
-post-returns-clause-reads t c = as_marks c.new.ensures (next (next (choose phrases.post 0 (record { number = refl })) (as_marks (ap prime_outline c.in_ok-both.ensures.same) c.in_ok-operand.ensures.reads)) c.in_ok-both.ensures.reads)
+post-returns-clause-reads t c = as_marks c.new-2.ensures (next (next (choose phrases.post 0 (record { number = refl })) (as_marks (ap prime_outline (c.in_ok-boxed.ensures.ok ∙ c.in_ok-both.ensures.same)) c.in_ok-operand.ensures.reads)) c.in_ok-both.ensures.reads)
 
 pub paren-returns-in_err-bracket-clause-sticks : goal.paren-returns-in_err-bracket-clause-sticks
 paren-returns-in_err-bracket-clause-sticks t c h = stops (choose phrases.prime 6 c.requires) (c.in_err-bracket.ensures.sticks (search rules))
