@@ -15,7 +15,8 @@ pub trait Source {
 
     /// Reads some bytes to the front of `buf` and gives their number. They are the first that were left, and are then
     /// gone. For a nonempty buffer the number is 0 exactly at the end. It is `Failed` only where the count of faults
-    /// rose in this call (or stands at the last value of a `u64`), and then nothing that was left is gone.
+    /// rose in this call (or stands at the last value of a `u64`), and then nothing that was left is gone. After an `Ok`
+    /// the count is as it was.
     fn read(&mut self, buf: &mut [u8]) -> Result<usize, Failed>
         ensures bound { ReadsAtMost result buf.new }
         ensures bytes { ReadConsumes (left self.old) (left self.new) result buf.new }
@@ -36,7 +37,7 @@ pub trait Output {
 
     /// Appends the first bytes of the piece and gives their number: at least one, where the piece has any. It is
     /// `Failed` only where the count of faults rose in this call (or stands at the last value of a `u64`), and then
-    /// nothing was appended.
+    /// nothing was appended. After an `Ok` the count is as it was.
     fn emit(&mut self, bytes: &[u8]) -> Result<usize, Failed>
         ensures bound { TakesSome result bytes.now }
         ensures bytes { WriteAppends (emitted self.old) (emitted self.new) result bytes.now }
