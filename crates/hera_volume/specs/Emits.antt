@@ -1,0 +1,41 @@
+-- One emission follows another.
+use Rattle.std.specs.Prelude.{ℕ, ◌+◌, List, drop, Option, Some}
+use Rattle.std.specs.Io.KnownBytes.{Appends}
+use Rattle.std.proofs.Common.{inl, inr, ⊎_elim, refl, sym, ◌∙◌, subst, arith}
+use Rattle.std.proofs.Math.Seq.{take-add}
+use Rattle.std.proofs.KnownBytes.{Appends-nil, Appends-trans}
+use Rattle.hera_volume.specs.Disk.{Disk, IsImage}
+use Rattle.hera_volume.specs.Time.{Image, EmitsOnly}
+use Rattle.hera_volume.specs.declared.file_id.FileId.{FileId}
+
+module _ {D : Type 0} (told : Type 0) (disk : D → FileId → Disk) (emitted : D → Option (List ℕ)) (moment : D → ℕ) (left_since : D → ℕ → Image → Type 0)
+    (device_faults output_faults : D → ℕ) where
+  abbrev Emits : D → D → List ℕ → ℕ → Type 0
+  Emits a b piece n = EmitsOnly told disk emitted moment left_since device_faults output_faults a b piece n
+
+  pub EmitsOnly-none : (a : D) (piece : List ℕ) → EmitsOnly told disk emitted moment left_since device_faults output_faults a a piece 0
+  EmitsOnly-none a piece = record {
+    bytes = Appends-nil (emitted a);
+    files = λ t f. refl;
+    any_moment = λ t. record { later = omega arith; only = λ u c le left. inl left; keeps = λ u c le left. left };
+    device = refl;
+    output = omega arith;
+  }
+
+  pub EmitsOnly-on : (a b c : D) (piece : List ℕ) (n m : ℕ) → EmitsOnly told disk emitted moment left_since device_faults output_faults a b piece n
+      → EmitsOnly told disk emitted moment left_since device_faults output_faults b c (drop n piece) m
+      → EmitsOnly told disk emitted moment left_since device_faults output_faults a c piece (n + m)
+  EmitsOnly-on a b c piece n m first second = record {
+    bytes = subst (Appends (emitted a) (emitted c)) (sym (take-add n m piece)) (Appends-trans _ _ _ _ _ first.bytes second.bytes);
+    files = λ t f. second.files t f ∙ first.files t f;
+    any_moment = λ t. record {
+      later = omega (arith, (first.any_moment t).later, (second.any_moment t).later);
+      only = λ u i le left. ⊎_elim (λ before. (first.any_moment t).only u i le before) (λ amid. inr (record {
+        files = λ f. subst (λ (d : Disk). IsImage d (i.files f)) (first.files t f) (amid.files f);
+        emitted = (n + amid.emitted.0, subst (Appends (emitted a) (Some i.emitted)) (sym (take-add n amid.emitted.0 piece)) (Appends-trans _ _ _ _ _ first.bytes amid.emitted.1));
+      })) ((second.any_moment t).only u i (omega (arith, le, (first.any_moment t).later)) left);
+      keeps = λ u i le left. (second.any_moment t).keeps u i (omega (arith, le, (first.any_moment t).later)) ((first.any_moment t).keeps u i le left);
+    };
+    device = second.device ∙ first.device;
+    output = omega (arith, first.output, second.output);
+  }

@@ -1,0 +1,9 @@
+pub mod Disk
+pub mod Emits
+pub mod Files
+pub mod MemChange
+pub mod MemOutside
+pub mod Past
+pub mod Plan
+pub mod Silent
+pub mod Time
