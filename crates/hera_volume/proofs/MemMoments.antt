@@ -200,6 +200,6 @@ emitted-amid a b piece n change t c le amid =
       emitted = (
         amid.emitted.0,
         subst (λ (p : List ℕ). Appends (Some (take (length a.bytes.items) b.bytes.items)) (Some c.emitted) (take amid.emitted.0 p)) (sym change.1.1)
-        (subst (λ (l : List ℕ). Appends (Some l) (Some c.emitted) (take amid.emitted.0 piece)) (sym old) amid.emitted.1),
+            (subst (λ (l : List ℕ). Appends (Some l) (Some c.emitted) (take amid.emitted.0 piece)) (sym old) amid.emitted.1),
       );
     })))

@@ -238,7 +238,7 @@ impl Output for MemOutside {
         ensures stopped { HasStopped (mem_calls self.old) (mem_stop self.old) → IsErr result }
         ensures follows { ¬ HasStopped (mem_calls self.old) (mem_stop self.old)
             → MatchOption (allowed_of (next_piece (mem_pieces self.old)) (length bytes.now))
-                (IsErr result) (λ n. (result ≡ Ok n) ⊎ (IsErr result × Rose (mem_starved self.old) (mem_starved self.new))) }
+            (IsErr result) (λ n. (result ≡ Ok n) ⊎ (IsErr result × Rose (mem_starved self.old) (mem_starved self.new))) }
         ensures amid { OnOk result ((t : ℕ) (c : Image) → t ≤ mem_moment self.old → IsImageAmid (mem_disk self.old) (mem_emitted self.old) bytes.now c → mem_left_since self.new t c) }
         ensures pieces { mem_pieces self.new ≡ later_pieces (mem_pieces self.old) }
         ensures starved { mem_starved self.old ≤ mem_starved self.new }
