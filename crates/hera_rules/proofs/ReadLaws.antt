@@ -15,11 +15,10 @@ use Rattle.hera_syntax.specs.declared.expr.Lines.{Lines, Lines', out-Lines, Row_
 use Rattle.hera_syntax.specs.declared.expr.Line.{Line, Line', out-Line}
 use Rattle.hera_syntax.specs.declared.expr.Level.{Level}
 use Rattle.hera_syntax.specs.declared.expr.Expr.{Expr, Expr', out-Expr, Row_of-Tail, end_of-Tail, more_of-Tail, items-the_row-Tail}
-use Rattle.hera_syntax.specs.declared.expr.Operand.TheViews as operand_view
 use Rattle.hera_syntax.specs.declared.expr.Prefix.{Prefix}
-use Rattle.hera_syntax.specs.declared.expr.Prime.TheViews as view
+use Rattle.hera_syntax.specs.declared.expr.Operand.TheViews as view
 use Rattle.hera_syntax.specs.declared.expr.Prime.TheVariants as variant
-use Rattle.hera_syntax.specs.declared.expr.Prime.TheViews.{the_lemmas}
+use Rattle.hera_syntax.specs.declared.expr.Operand.TheViews.{the_lemmas}
 use Rattle.hera_meaning.specs.declared.scalars.Scalar.TheVariants.{Int as int_scalar, Bool as bool_scalar, Text as text_scalar}
 use Rattle.hera_meaning.specs.declared.trees.Const.TheVariants.{Scalar as scalar, FailDelta as fail_delta}
 use Rattle.std.specs.Prelude.{true, false}
@@ -61,11 +60,11 @@ pub expr_phrase-read : (e : Expr) → expr_phrase e ≡ chain_phrase (operand_ph
 unfolding expr_phrase
 expr_phrase-read (Expr' level first shape rest) = search (rules, the_lemmas, expr_rows)
 
-pub operand_phrase-Inner : (e : Box Expr Global) → operand_phrase (operand_view.Inner e) ≡ expr_phrase e.value
+pub operand_phrase-Inner : (e : Box Expr Global) → operand_phrase (view.Inner e) ≡ expr_phrase e.value
 unfolding expr_phrase
 operand_phrase-Inner e = refl
 
-pub operand_phrase-Prefix : (p : Prefix) → operand_phrase (operand_view.Prefix p) ≡ prefix_of_tree p
+pub operand_phrase-Prefix : (p : Prefix) → operand_phrase (view.Prefix p) ≡ prefix_of_tree p
 unfolding expr_phrase
 operand_phrase-Prefix p = refl
 
