@@ -107,16 +107,20 @@ more_of levels.Terms = phrases.more phrases.terms
 more_of levels.Smashes = phrases.more phrases.smashes
 more_of levels.Merges = phrases.more phrases.merges
 
--- the operators with their operands, each behind its node, and the end
-abbrev pub behind : Production → List (List Mark) → List Mark
-behind s tails = flat_map (λ tail. node s 0 ++ tail) tails ++ node s 1
+-- Which alternative a chain is, by the outlines of its tails. A comparison has at most one tail: one with more
+-- is by none that there is.
+abbrev pub alternative_of : Level → List (List Mark) → ℕ
+alternative_of levels.Comparisons (tail ∷ other ∷ tails) = 1
+alternative_of _ tails = 0
 
--- A chain of the outlines of its first operand and of its tails. A comparison has at most one tail, and no
--- end behind it; of one with more no production has the alternative.
+-- what stands behind the tails; behind the one of a comparison stands nothing
+abbrev pub chain_end : Level → List (List Mark) → List Mark
+chain_end levels.Comparisons (tail ∷ []) = []
+chain_end level tails = node (more_of level) 1
+
+-- a chain, by the outlines of its first operand and of its tails
 abbrev pub chain : Level → List Mark → List (List Mark) → List Mark
-chain levels.Comparisons first (tail ∷ []) = node phrases.cmp 0 ++ first ++ node phrases.more_cmp 0 ++ tail
-chain levels.Comparisons first (tail ∷ other ∷ tails) = node phrases.cmp 1 ++ first ++ behind phrases.more_cmp (tail ∷ other ∷ tails)
-chain level first tails = node (production_of level) 0 ++ first ++ behind (more_of level) tails
+chain level first tails = node (production_of level) (alternative_of level tails) ++ first ++ flat_map (λ tail. node (more_of level) 0 ++ tail) tails ++ chain_end level tails
 
 abbrev mutual
   pub expr_outline : Expr → List Mark
