@@ -32,7 +32,7 @@ use Rattle.hera_rules.specs.Commands.{type_row, declare_local, done, Armed, bloc
 use Rattle.hera_rules.specs.Statements.{slots_of_act, slots_of_acts, slots_of_branches}
 use Rattle.hera_rules.specs.CheckedActs.{stays, check_act, check_acts, check_branches}
 use Rattle.hera_rules.specs.Agrees.{Gives}
-use Rattle.hera_typing_parts.proofs.Giving.{next_at, none_at}
+use Rattle.hera_types_parts.proofs.Giving.{next_at, none_at}
 use Rattle.hera_types.specs.Scopes.{ActGives, Extends, commands_in, armed_of, armed_in, arm_row}
 
 -- ---- locals

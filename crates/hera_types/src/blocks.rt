@@ -16,9 +16,9 @@ use crate::statements::{apply, assign, claim, declare, give_back, perform, print
 use hera_meaning::{Arm, Shape, Stmt};
 use hera_rules::{Globals, Scope, TypeFault};
 use hera_syntax::{Block, Expr, StmtTree};
-use hera_typing_exprs::{Waiting, expr, leave, push_local, take_slot};
-use hera_typing_parts::{into_core, put};
-use hera_typing_rows::{cond_row_of, effect_row_of, variable_row_of};
+use hera_types_exprs::{Waiting, expr, leave, push_local, take_slot};
+use hera_types_parts::{into_core, put};
+use hera_types_rows::{cond_row_of, effect_row_of, variable_row_of};
 use std::alloc::Global;
 
 /// The statements of a block. The locals behind it are those before it.

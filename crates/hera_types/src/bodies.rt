@@ -13,7 +13,7 @@ use crate::blocks::block;
 use hera_meaning::{Arm, Body, Shape, Stmt};
 use hera_rules::{FuncSig, Globals, Local, ProcSig, Scope, TypeFault};
 use hera_syntax::{Block, Func, Main, Proc};
-use hera_typing_parts::{number_of, put};
+use hera_types_parts::{number_of, put};
 use std::alloc::{AllocError, Global};
 
 // ---- what returns

@@ -6,7 +6,7 @@ ghost use Rattle.hera_rules.specs.Phrases.{applying, asserting, assigning, decla
 ghost use Rattle.hera_rules.specs.Read.{expr_phrase, word_of};
 ghost use Rattle.hera_rules.specs.ReadActs.{return_act, some_args, type_phrase};
 ghost use Rattle.hera_rules.specs.Statements.{slots_of_act};
-ghost use Rattle.hera_typing_exprs.specs.Parts.{list_of};
+ghost use Rattle.hera_types_exprs.specs.Parts.{list_of};
 ghost use Rattle.hera_rules.specs.Agrees.{Gives, Keeps};
 ghost use Rattle.hera_rules.specs.Checked.{check_all};
 ghost use Rattle.hera_rules.specs.Typing.{slots_of_all};
@@ -15,9 +15,9 @@ ghost use Rattle.hera_types.specs.Scopes.{ActGives, Extends};
 use hera_meaning::{Shape, Stmt};
 use hera_rules::{Globals, Scope, TypeFault, Typed};
 use hera_syntax::{Args, Expr, Token, TypeTree};
-use hera_typing_exprs::{Waiting, args, expr, push_local, take_slot};
-use hera_typing_parts::into_core;
-use hera_typing_rows::{
+use hera_types_exprs::{Waiting, args, expr, push_local, take_slot};
+use hera_types_parts::into_core;
+use hera_types_rows::{
     apply_row_of, assert_row_of, assign_row_of, declare_row_of, perform_row_of, print_row_of,
     return_row_of, return_value_row_of, type_row_of,
 };

@@ -18,7 +18,7 @@ use Rattle.hera_rules.specs.Checked.{check}
 use Rattle.hera_rules.specs.Commands.{done, block_from, effect_row}
 use Rattle.hera_rules.specs.Statements.{slots_of_act, slots_of_acts, slots_of_branches}
 use Rattle.hera_rules.specs.CheckedActs.{stays, check_act, check_acts, check_branches}
-use Rattle.hera_typing_parts.proofs.Giving.{gives_err}
+use Rattle.hera_types_parts.proofs.Giving.{gives_err}
 use Rattle.hera_types.specs.Scopes.{commands_of, commands_in, armed_in}
 use Rattle.hera_types.proofs.Block_lemmas.{act_row, act_err, arm_at, arms_begin, if_done, while_done, choose_act, loop_act, visit_act, extends_none, extends_one, extends_on, cut_back, block_of_commands, acts_more, acts_none, branches_more, branches_none, commands_more, armed_more, acts_turn, acts_stop, acts_end, branches_turn, branches_stop, branches_end, choose_arm_breaks, choose_last_breaks, loop_breaks, visit_operand, visit_variable, visit_body, visit_done}
 use Rattle.hera_types.proofs.blocks.+acts.Goals as goal
