@@ -1,11 +1,12 @@
 -- The run of a program's code is the program's.
-use Rattle.std.proofs.Common.{◌≡◌, ℕ, ◌+◌, ◌<◌, ◌≤◌, ⊎_elim, List, [], ◌++◌, take, length, Option, sym, ap, ◌∙◌, subst, arith, append-nil}
+use Rattle.std.proofs.Common.{◌≡◌, ℕ, ◌+◌, ◌<◌, ◌≤◌, ⊎_elim, List, [], ◌++◌, take, length, Option, Some, sym, ap, ◌∙◌, subst, arith, append-nil}
 use Rattle.std.proofs.lemmas.Bool.{cases_lt}
 use Rattle.std.proofs.lemmas.List.{take_all, take-append-le}
 use Rattle.std.proofs.Math.Seq.{take-append_seam, take-append-add}
 use Rattle.std.specs.Io.KnownBytes.{Appends}
 use Rattle.std.proofs.KnownBytes.{Appends-trans}
 use Rattle.hera_top.proofs.Saying.{Appends-nothing}
+use Rattle.hera_top.proofs.Lines.{same_part}
 use Rattle.hera_meaning.specs.declared.schemas.RelDecl.{RelDecl}
 use Rattle.hera_meaning.specs.Deltas.{Delta, State}
 use Rattle.hera_meaning.specs.Trees.{Program_tree}
@@ -25,8 +26,12 @@ use Rattle.hera_machine.specs.Standing.{Standing, stop_of, machine_over, event_o
 use Rattle.hera_machine.specs.Over.{state_over}
 use Rattle.hera_machine.proofs.Along.{IsAlong, EndsAs, printed-append}
 use Rattle.rel_pages.specs.Stored.{empty_state}
+use Rattle.hera_volume.specs.Disk.{Disk, IsImage}
+use Rattle.hera_volume.specs.Time.{Image, IsImageAmid}
+use Rattle.hera_volume.specs.declared.file_id.FileId.{FileId}
 use Rattle.hera_top.specs.Outcome.{ran, status_of_finish, IsWhole, SaysPart}
-use Rattle.hera_top.specs.Running.{last_text, EndsSaid, PartSaid}
+use Rattle.hera_top.specs.Passages.{Passage}
+use Rattle.hera_top.specs.Running.{last_text, EndsSaid, PartSaid, IsRunImage}
 
 -- a prefix of the first of two lists is one of both
 front_of_both : (n : ℕ) (xs ys : List ℕ) → (m : ℕ) × (take n xs ≡ take m (xs ++ ys))
@@ -99,6 +104,22 @@ module _ (code : Code) (rels : List RelDecl) (hosts : Hosts) (s : State) (turns 
   along_part before now bytes ds m a said =
       part_said before now now a.steps bytes [] 0 (along_printed bytes ds m a ∙ sym (append-nil bytes)) said (Appends-nothing now)
 
+  -- what a stop leaves amid the next line
+  pub image_amid : (disks mid_disks : FileId → Disk) (start mid : Option (List ℕ)) (bytes line text : List ℕ) (ds : List Delta) (m : Standing) → IsAlong code rels hosts s turns (bytes ++ line) ds m
+      → Appends start mid bytes → ((f : FileId) → mid_disks f ≡ disks f) → text ≡ line → (c : Image) → IsImageAmid mid_disks mid text c → IsRunImage code rels hosts s turns disks start c
+  image_amid disks mid_disks start mid bytes line text ds m a first same is c image = record {
+    files = λ f. subst (λ (d : Disk). IsImage d (c.files f)) (same f) (image.files f);
+    part = along_cut start mid (Some c.emitted) bytes line ds m a first (same_part mid (Some c.emitted) text line is image.emitted);
+  }
+
+  -- what a stop leaves amid the last line
+  pub image_end : (disks mid_disks : FileId → Disk) (start mid : Option (List ℕ)) (bytes text : List ℕ) (ds : List Delta) (end : End) → EndsAs code rels hosts s turns (bytes ++ last_text end) ds end
+      → Appends start mid bytes → ((f : FileId) → mid_disks f ≡ disks f) → text ≡ last_text end → (c : Image) → IsImageAmid mid_disks mid text c → IsRunImage code rels hosts s turns disks start c
+  image_end disks mid_disks start mid bytes text ds end e first same is c image = record {
+    files = λ f. subst (λ (d : Disk). IsImage d (c.files f)) (same f) (image.files f);
+    part = ends_cut start mid (Some c.emitted) bytes ds end e first (same_part mid (Some c.emitted) text (last_text end) is image.emitted);
+  }
+
 -- ---- a program's run
 
 module _ (p : Program_tree) (hosts : Hosts) (turns : ℕ) where
@@ -112,14 +133,15 @@ module _ (p : Program_tree) (hosts : Hosts) (turns : ℕ) where
   finish_in f (ended g) = g
   finish_in f stuck = f
 
-  pub run_whole : (before now : Option (List ℕ)) (end : End) (finish : Finish) (status : ℕ) → Only → stop_of end ≡ ended finish → status_of_finish finish ≡ status
-      → EndsSaid (code_of p) p.relations hosts (empty_state p.relations) turns before now end → IsWhole (ran report) status before now
-  run_whole before now end finish status only is own said =
+  pub run_whole : (v : Passage) (end : End) (finish : Finish) (status : ℕ) → Only → stop_of end ≡ ended finish → status_of_finish finish ≡ status → v.output_now ≡ v.output_before
+      → EndsSaid (code_of p) p.relations hosts (empty_state p.relations) turns v.emitted_before v.emitted_now end → IsWhole (ran report) status v
+  run_whole v end finish status only is own fine said =
       let (events, stop) = only said.steps said.events (stop_of end) said.ends in
       let same : finish ≡ report.finish = ap (finish_in finish) (sym is ∙ stop) in
       record {
         own_status = sym own ∙ ap status_of_finish same;
-        whole_text = subst (λ (l : List ℕ). Appends before now l) (ap printed events) said.said;
+        whole_text = subst (λ (l : List ℕ). Appends v.emitted_before v.emitted_now l) (ap printed events) said.said;
+        no_fault = fine;
       }
 
   stuck_is_no_end : (finish : Finish) → stuck ≡ ended finish → ⊥
@@ -148,3 +170,12 @@ module _ (p : Program_tree) (hosts : Hosts) (turns : ℕ) where
       subst (λ (c : Code). PartSaid c p.relations hosts (empty_state p.relations) turns before now) own
       (subst (λ (rs : List RelDecl). PartSaid code rs hosts (empty_state p.relations) turns before now) its
       (subst (λ (t : State). PartSaid code rels hosts t turns before now) empty said))
+
+  -- what a stop leaves of the code's run it leaves of the program's
+  pub run_image : (code : Code) (rels : List RelDecl) (s : State) (disks : FileId → Disk) (start : Option (List ℕ)) → code ≡ code_of p → rels ≡ p.relations → s ≡ empty_state p.relations
+      → ((k : ℕ) → IsPrefix (events_in (code_at (code_of p) p.relations (empty_state p.relations) hosts turns k)) report.events)
+      → (c : Image) → IsRunImage code rels hosts s turns disks start c → IsImageAmid disks start (printed report.events) c
+  run_image code rels s disks start own its empty prefixes c image = record {
+    files = image.files;
+    emitted = run_part start (Some c.emitted) prefixes (own_part code rels s start (Some c.emitted) own its empty image.part);
+  }

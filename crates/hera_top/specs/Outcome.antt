@@ -1,7 +1,8 @@
 -- What a call of the program comes to, and what it says of that.
 use Rattle.std.specs.Prelude.{◌≡◌, ℕ, ◌<◌, ◌≤◌, ◌⊎◌, List, take, length, codes, Option}
-use Rattle.std.specs.Io.KnownBytes.{Appends, Keeps, Consumes, IsAtEnd}
+use Rattle.std.specs.Io.KnownBytes.{Appends, Consumes, IsAtEnd}
 use Rattle.hera_causes.specs.Causes.{Rose}
+use Rattle.hera_volume.specs.Time.{IsImageAmid}
 use Rattle.hera_meaning.specs.Printed.{end_text}
 use Rattle.hera_meaning.specs.Trees.{Program_tree}
 use Rattle.hera_meaning.specs.Run.{Report, Finish, finished, stopped, out_of_turns, output_of, run_of}
@@ -18,6 +19,7 @@ use Rattle.hera_top.specs.declared.refusal.Refusal.TheVariants.{Usage, Unread, S
 use Rattle.hera_top.specs.declared.words.Command.{Command}
 use Rattle.hera_top.specs.declared.words.Command.TheVariants.{Check, List as list_command, Eval}
 use Rattle.hera_top.specs.Sources.{Seen}
+use Rattle.hera_top.specs.Passages.{Passage, KeepsFiles, IsStill}
 
 -- ---- outcomes
 
@@ -55,22 +57,27 @@ status_of_outcome (ran report) = status_of_finish report.finish
 
 -- ---- what was said
 
--- the whole text, and its status
-pub record IsWhole (outcome : Outcome) (status : ℕ) (before now : Option (List ℕ)) : Type 0 where
+-- the whole text, and its status; the output did not fail
+pub record IsWhole (outcome : Outcome) (status : ℕ) (v : Passage) : Type 0 where
   pub own_status : status ≡ status_of_outcome outcome
-  pub whole_text : Appends before now (text_of_outcome outcome)
+  pub whole_text : Appends v.emitted_before v.emitted_now (text_of_outcome outcome)
+  pub no_fault : v.output_now ≡ v.output_before
 
 -- a prefix of the text
 abbrev pub SaysPart : Outcome → Option (List ℕ) → Option (List ℕ) → Type 0
 SaysPart outcome before now = (n : ℕ) × Appends before now (take n (text_of_outcome outcome))
 
--- a prefix of the text, since the output failed (status 8) or there was no memory (status 9)
-pub record IsCut (outcome : Outcome) (status : ℕ) (before now : Option (List ℕ)) : Type 0 where
-  pub cause : (status ≡ 8) ⊎ (status ≡ 9)
-  pub front : SaysPart outcome before now
+-- a prefix of the text, since the output failed (status 8) or there was no memory (status 9, and the output did not fail)
+pub record IsCut (outcome : Outcome) (status : ℕ) (v : Passage) : Type 0 where
+  pub cause : (status ≡ 8) ⊎ ((status ≡ 9) × (v.output_now ≡ v.output_before))
+  pub front : SaysPart outcome v.emitted_before v.emitted_now
 
-abbrev pub IsSaid : Outcome → ℕ → Option (List ℕ) → Option (List ℕ) → Type 0
-IsSaid outcome status before now = IsWhole outcome status before now ⊎ IsCut outcome status before now
+-- The outcome was said whole or cut, and the files were left alone. A stop at any moment leaves what it would have left
+-- of the files before, and some first bytes of the text.
+pub record IsSaid (outcome : Outcome) (status : ℕ) (v : Passage) : Type 0 where
+  pub ending : IsWhole outcome status v ⊎ IsCut outcome status v
+  pub keeps : KeepsFiles v
+  pub moments : v.told → v.leaves_only (IsImageAmid v.disks_before v.emitted_before (text_of_outcome outcome))
 
 -- ---- what a command comes to
 
@@ -91,13 +98,13 @@ pub record IsRead (left_before left_now : Option (List ℕ)) (script : List ℕ)
   pub consumed : Consumes left_before left_now script
   pub ended : IsAtEnd left_now ⊎ (script_limit < length script)
 
--- how a command that reads one script answers
-pub data Answers (hosts : List Host) (command : Command) (before now : Seen) (status : ℕ) (said_before said_now : Option (List ℕ)) : Type 0 where
+-- How a command that reads one script answers. No fault was counted but for the one that the status tells.
+pub data Answers (hosts : List Host) (command : Command) (before now : Seen) (status : ℕ) (v : Passage) : Type 0 where
   -- the script was read, and its outcome said
-  says : (script : List ℕ) (outcome : Outcome) → IsRead before.left now.left script → ComesTo hosts command script outcome → IsSaid outcome status said_before said_now
-      → Answers hosts command before now status said_before said_now
+  says : (script : List ℕ) (outcome : Outcome) → IsRead before.left now.left script → now.faults ≡ before.faults → ComesTo hosts command script outcome → IsSaid outcome status v
+      → Answers hosts command before now status v
   -- the source failed before more than the limit came
   unread : (script : List ℕ) → Consumes before.left now.left script → length script ≤ script_limit → Rose before.faults now.faults
-      → IsSaid (refused Unread) status said_before said_now → Answers hosts command before now status said_before said_now
-  -- no memory for the script or its program, and nothing was emitted
-  no_memory : status ≡ 9 → Keeps said_before said_now → Answers hosts command before now status said_before said_now
+      → IsSaid (refused Unread) status v → Answers hosts command before now status v
+  -- no memory for the script or its program, and nothing was done that shows
+  no_memory : status ≡ 9 → now.faults ≡ before.faults → IsStill v → Answers hosts command before now status v

@@ -4,106 +4,116 @@ ghost use Rattle.hera_meaning.specs.Plain.{program_of};
 ghost use Rattle.hera_meaning.specs.Sound.{Sound};
 ghost use Rattle.hera_host.specs.Tables.{specs_of};
 ghost use Rattle.hera_top.specs.Outcome.{outcome_of, IsSaid};
+ghost use Rattle.hera_top.specs.Passages.{passage};
 ghost use Rattle.hera_top.specs.Said.{SaysOutcome};
+ghost use Rattle.hera_top.specs.Statuses.{number_of};
 
 use crate::refusal::Refusal;
 use crate::run::run;
 use crate::say::{refuse, say_all};
-use crate::status::{DONE, NO_MEMORY};
+use crate::status::ExitStatus;
 use crate::words::Command;
-use hera_causes::Output;
 use hera_code::listing;
 use hera_codegen::generate;
 use hera_host::HostTable;
 use hera_meaning::Program;
 use hera_script::{ScriptFault, read_program};
+use hera_volume::Outside;
 use std::alloc::Global;
 
 /// Prints the listing of a program's code, and gives the status.
-fn list<W: Output>(alloc: Global, program: &Program, outside: &mut W, hosts: &HostTable) -> u8
+fn list<W: Outside>(alloc: Global, program: &Program, outside: &mut W, hosts: &HostTable) -> ExitStatus
     requires { Sound (program_of program.now) (specs_of hosts.now) }
-    ensures said { IsSaid (outcome_of hosts.now Command.List (program_of program.now)) result (W.emitted outside.old) (W.emitted outside.new) }
+    ensures said { IsSaid (outcome_of hosts.now Command.List (program_of program.now)) (number_of result) (passage W.told W.disk W.emitted W.output_faults W.device_faults W.moment W.left_since outside.old outside.new) }
     ensures later { W.output_faults outside.old ≤ W.output_faults outside.new }
-    ensures output { result ≡ 8 → Rose (W.output_faults outside.old) (W.output_faults outside.new) }
-    ensures status { (result ≡ 0) ⊎ (result ≡ 8) ⊎ (result ≡ 9) }
+    ensures output { result ≡ ExitStatus.OutputFailed → Rose (W.output_faults outside.old) (W.output_faults outside.new) }
+    ensures status { (result ≡ ExitStatus.Done) ⊎ (result ≡ ExitStatus.OutputFailed) ⊎ (result ≡ ExitStatus.NoMemory) }
 {
     let Ok(code) = generate(alloc, program) else {
-        return NO_MEMORY;
+        return ExitStatus::NoMemory;
     };
-    match listing(alloc, &code) {
-        Ok(text) => say_all(outside, text.bytes(), DONE),
-        Err(_) => NO_MEMORY,
+    let text = listing(alloc, &code);
+    drop(code);
+    match text {
+        Ok(text) => say_all(outside, text.bytes(), ExitStatus::Done),
+        Err(_) => ExitStatus::NoMemory,
     }
 }
 
 /// Carries out a command on an accepted script's program, and gives the status.
-fn perform<W: Output>(
+fn perform<W: Outside>(
     alloc: Global,
     command: Command,
     program: &Program,
     outside: &mut W,
     hosts: &HostTable,
-) -> u8
+) -> ExitStatus
     requires sound { Sound (program_of program.now) (specs_of hosts.now) }
     requires no_hosts { hosts.now ≡ [] }
-    ensures said { IsSaid (outcome_of hosts.now command (program_of program.now)) result (W.emitted outside.old) (W.emitted outside.new) }
+    ensures said { IsSaid (outcome_of hosts.now command (program_of program.now)) (number_of result) (passage W.told W.disk W.emitted W.output_faults W.device_faults W.moment W.left_since outside.old outside.new) }
     ensures later { W.output_faults outside.old ≤ W.output_faults outside.new }
-    ensures output { result ≡ 8 → Rose (W.output_faults outside.old) (W.output_faults outside.new) }
-    ensures read { result ≢ 7 }
-    ensures formed { result ≢ 2 }
+    ensures output { result ≡ ExitStatus.OutputFailed → Rose (W.output_faults outside.old) (W.output_faults outside.new) }
+    ensures read { result ≢ ExitStatus.Unread }
+    ensures formed { result ≢ ExitStatus.Usage }
 {
     match command {
-        Command::Check => say_all(outside, b"accepted\n", DONE),
+        Command::Check => say_all(outside, b"accepted\n", ExitStatus::Done),
         Command::List => list(alloc, program, outside, hosts),
         Command::Eval(turns) => eval(alloc, program, turns, outside, hosts),
     }
 }
 
 /// Carries out a command on a script, and gives the status.
-pub(crate) fn answer_script<W: Output>(
+pub(crate) fn answer_script<W: Outside>(
     alloc: Global,
     command: Command,
     script: &[u8],
     outside: &mut W,
     hosts: &HostTable,
-) -> u8
+) -> ExitStatus
     requires short { length script.now ≤ 1048576 }
     requires no_hosts { hosts.now ≡ [] }
-    ensures said { SaysOutcome hosts.now command script.now result (W.emitted outside.old) (W.emitted outside.new) }
+    ensures said { SaysOutcome hosts.now command script.now (number_of result) (passage W.told W.disk W.emitted W.output_faults W.device_faults W.moment W.left_since outside.old outside.new) }
     ensures later { W.output_faults outside.old ≤ W.output_faults outside.new }
-    ensures output { result ≡ 8 → Rose (W.output_faults outside.old) (W.output_faults outside.new) }
-    ensures read { result ≢ 7 }
-    ensures formed { result ≢ 2 }
+    ensures output { result ≡ ExitStatus.OutputFailed → Rose (W.output_faults outside.old) (W.output_faults outside.new) }
+    ensures read { result ≢ ExitStatus.Unread }
+    ensures formed { result ≢ ExitStatus.Usage }
 {
     match read_program(alloc, script, hosts) {
-        Ok(program) => perform(alloc, command, &program, outside, hosts),
+        Ok(program) => {
+            let status = perform(alloc, command, &program, outside, hosts);
+            drop(program);
+            status
+        }
         Err(ScriptFault::Refused { cause, at }) => {
             refuse(alloc, outside, Refusal::Script { cause, at })
         }
-        Err(ScriptFault::Memory) => NO_MEMORY,
+        Err(ScriptFault::Memory) => ExitStatus::NoMemory,
     }
 }
 
 /// Runs a program on empty relations with at most so many turns, and gives the status.
-fn eval<W: Output>(
+fn eval<W: Outside>(
     alloc: Global,
     program: &Program,
     turns: u64,
     outside: &mut W,
     hosts: &HostTable,
-) -> u8
+) -> ExitStatus
     requires sound { Sound (program_of program.now) (specs_of hosts.now) }
     requires no_hosts { hosts.now ≡ [] }
-    ensures said { IsSaid (outcome_of hosts.now (Command.Eval turns) (program_of program.now)) result (W.emitted outside.old) (W.emitted outside.new) }
+    ensures said { IsSaid (outcome_of hosts.now (Command.Eval turns) (program_of program.now)) (number_of result) (passage W.told W.disk W.emitted W.output_faults W.device_faults W.moment W.left_since outside.old outside.new) }
     ensures later { W.output_faults outside.old ≤ W.output_faults outside.new }
-    ensures output { result ≡ 8 → Rose (W.output_faults outside.old) (W.output_faults outside.new) }
-    ensures read { result ≢ 7 }
-    ensures formed { result ≢ 2 }
+    ensures output { result ≡ ExitStatus.OutputFailed → Rose (W.output_faults outside.old) (W.output_faults outside.new) }
+    ensures read { result ≢ ExitStatus.Unread }
+    ensures formed { result ≢ ExitStatus.Usage }
 {
     let Ok(code) = generate(alloc, program) else {
-        return NO_MEMORY;
+        return ExitStatus::NoMemory;
     };
-    match run(alloc, program, &code, turns, outside, hosts) {
+    let outcome = run(alloc, program, &code, turns, outside, hosts);
+    drop(code);
+    match outcome {
         Ok(status) => status,
         Err(fault) => fault.status(),
     }

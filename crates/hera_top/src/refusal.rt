@@ -1,7 +1,8 @@
-ghost use Rattle.std.specs.Prelude.{◌≡◌};
+ghost use Rattle.std.specs.Prelude.{◌≡◌, ◌≢◌};
 ghost use Rattle.hera_top.specs.Outcome.{status_of_refusal};
+ghost use Rattle.hera_top.specs.Statuses.{number_of};
 
-use crate::status::{REFUSED, UNREAD, USAGE};
+use crate::status::ExitStatus;
 use hera_script::Cause;
 
 /// A refusal that ends a call with a line and a status of its own.
@@ -17,13 +18,16 @@ pub enum Refusal {
 
 impl Refusal {
     /// The exit status.
-    pub(crate) fn status(self) -> u8
-        ensures { result ≡ status_of_refusal self }
+    pub(crate) fn status(self) -> ExitStatus
+        ensures number { number_of result ≡ status_of_refusal self }
+        ensures failed { result ≢ ExitStatus.OutputFailed }
+        ensures usage { result ≡ ExitStatus.Usage → self ≡ Refusal.Usage }
+        ensures unread { result ≡ ExitStatus.Unread → self ≡ Refusal.Unread }
     {
         match self {
-            Refusal::Usage => USAGE,
-            Refusal::Script { .. } => REFUSED,
-            Refusal::Unread => UNREAD,
+            Refusal::Usage => ExitStatus::Usage,
+            Refusal::Script { .. } => ExitStatus::Refused,
+            Refusal::Unread => ExitStatus::Unread,
         }
     }
 }

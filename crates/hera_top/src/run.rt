@@ -1,27 +1,35 @@
-ghost use Rattle.std.specs.Prelude.{◌≡◌, ℕ, ◌≤◌, ◌⊎◌, [], take, Err, IfOk, OnOk, OnErr, string_bytes, codes, ◌++◌};
-ghost use Rattle.std.specs.Io.KnownBytes.{Appends};
+ghost use Rattle.std.specs.Prelude.{◌≡◌, ◌≢◌, ℕ, ◌≤◌, ◌⊎◌, [], take, None, IfOk, OnOk, OnErr, string_bytes, codes, ◌++◌};
 ghost use Rattle.hera_causes.specs.Causes.{Rose};
+ghost use Rattle.hera_volume.specs.Time.{IsImageAmid, LeavesOnly};
+ghost use Rattle.hera_meaning.specs.Deltas.{State};
 ghost use Rattle.hera_meaning.specs.Plain.{program_of};
 ghost use Rattle.hera_meaning.specs.Printed.{trap_name, commit_text};
 ghost use Rattle.hera_meaning.specs.Sound.{Sound};
 ghost use Rattle.hera_code.specs.Forward.{Forward};
+ghost use Rattle.hera_code.specs.Reached.{start_of};
 ghost use Rattle.hera_code.specs.Scheme.{code_of};
 ghost use Rattle.hera_host.specs.Tables.{specs_of};
-ghost use Rattle.hera_top.specs.Outcome.{outcome_of, IsWhole, SaysPart};
-ghost use Rattle.hera_top.specs.Running.{last_text, EndsSaid, PartSaid};
+ghost use Rattle.hera_machine.specs.Standing.{machine_over};
+ghost use Rattle.hera_machine.specs.declared.events.Status.{Status};
+ghost use Rattle.hera_machine.specs.declared.events.Status.TheVariants.{Working};
+ghost use Rattle.hera_top.specs.Outcome.{outcome_of, text_of_outcome, IsWhole, SaysPart};
+ghost use Rattle.hera_top.specs.Passages.{passage, KeepsFiles};
+ghost use Rattle.hera_top.specs.Running.{last_text, EndsSaid, PartSaid, IsRunImage};
+ghost use Rattle.hera_top.specs.Statuses.{number_of};
 ghost use Rattle.hera_top.specs.declared.words.Command.{Command};
 
 use crate::catalogue::catalogue_of;
 use crate::say::say;
-use crate::status::{DONE, NO_MEMORY, OUTPUT_FAILED, SPENT, TRAPPED};
+use crate::status::ExitStatus;
 use delta_atoms::Delta;
-use hera_causes::{Failed, Output};
+use hera_causes::Failed;
 use hera_code::Code;
 use hera_codegen::code_does_what_the_program_means;
 use hera_host::HostTable;
 use hera_machine::{End, Event, Machine};
-use hera_meaning::{Program, RelDecl, TrapName};
+use hera_meaning::{Line, Program, RelDecl, TrapName};
 use hera_print::end_line;
+use hera_volume::Outside;
 use rel_pages::Base;
 use std::alloc::{AllocError, AllocFailed, Global};
 use thiserror::Error;
@@ -39,13 +47,12 @@ pub(crate) enum RunFault {
 
 impl RunFault {
     /// The exit status.
-    pub(crate) fn status(&self) -> u8
-        ensures either { (result ≡ 8) ⊎ (result ≡ 9) }
-        ensures output { result ≡ 8 → self.now ≡ RunFault.Output }
+    pub(crate) fn status(&self) -> ExitStatus
+        ensures either { (result ≡ ExitStatus.OutputFailed) × (self.now ≡ RunFault.Output) ⊎ (result ≡ ExitStatus.NoMemory) × (self.now ≡ RunFault.Memory) }
     {
         match self {
-            RunFault::Output => OUTPUT_FAILED,
-            RunFault::Memory => NO_MEMORY,
+            RunFault::Output => ExitStatus::OutputFailed,
+            RunFault::Memory => ExitStatus::NoMemory,
         }
     }
 }
@@ -102,25 +109,64 @@ fn commit_line(alloc: Global, number: usize) -> Result<String, AllocError>
     format!(in alloc; "commit {number}\n")
 }
 
-/// Emits the last line of a run that ends so, or a prefix of it. A run that is done has none.
-fn say_end<W: Output>(alloc: Global, outside: &mut W, end: End) -> Result<(), RunFault>
-    ensures whole { OnOk result (Appends (W.emitted outside.old) (W.emitted outside.new) (last_text end)) }
-    ensures part { OnErr result ((n : ℕ) × Appends (W.emitted outside.old) (W.emitted outside.new) (take n (last_text end))) }
-    ensures later { W.output_faults outside.old ≤ W.output_faults outside.new }
-    ensures output { result ≡ Err RunFault.Output → Rose (W.output_faults outside.old) (W.output_faults outside.new) }
+/// The last line of a run that ends so. That of a run that is done is empty.
+fn last_line(alloc: Global, end: End) -> Result<Line, AllocError>
+    ensures { IfOk result (λ line. line ≡ last_text end) }
 {
     match end {
-        End::Done | End::Stuck => Ok(()),
-        End::Trap(name, at) => {
-            let line = end_line(alloc, trap_label(name), u64::from(at))?;
-            Ok(say(outside, line.bytes())?)
+        End::Done | End::Stuck => Ok(Line::new(Vec::new(alloc))),
+        End::Trap(name, at) => end_line(alloc, trap_label(name), u64::from(at)),
+        End::Spent => Ok(Line::new(b"turns spent\n".to_vec(alloc)?)),
+    }
+}
+
+/// Moves a machine that is at its start, over the state of a base, until it ends; emits what it prints, and gives its end.
+/// The code, its relations and the turns are the machine's: the contract speaks of them.
+fn steps<W: Outside>(
+    alloc: Global,
+    machine: &mut Machine,
+    commits: &mut Vec<Delta>,
+    code: &Code,
+    relations: &[RelDecl],
+    base: &Base,
+    turns: u64,
+    outside: &mut W,
+    hosts: &HostTable,
+) -> Result<End, RunFault>
+    requires forward { Forward code.now }
+    requires no_hosts { hosts.now ≡ [] }
+    requires code { machine.old.code ≡ code.now }
+    requires relations { machine.old.relations ≡ relations.now }
+    requires start { (s : State) → machine_over s machine.old ≡ start_of code.now turns }
+    requires works { machine.old.status ≡ Working }
+    requires nothing_waits { machine.old.waits ≡ None }
+    requires no_commits { commits.old.items ≡ [] }
+    ensures whole { IfOk result (λ end. EndsSaid code.now relations.now (specs_of hosts.now) base.now.state turns (W.emitted outside.old) (W.emitted outside.new) end) }
+    ensures cut { OnErr result (PartSaid code.now relations.now (specs_of hosts.now) base.now.state turns (W.emitted outside.old) (W.emitted outside.new)) }
+    ensures keeps { KeepsFiles (passage W.told W.disk W.emitted W.output_faults W.device_faults W.moment W.left_since outside.old outside.new) }
+    ensures any_moment { W.told → LeavesOnly W.moment W.left_since outside.old outside.new (IsRunImage code.now relations.now (specs_of hosts.now) base.now.state turns (W.disk outside.old) (W.emitted outside.old)) }
+    ensures later { W.output_faults outside.old ≤ W.output_faults outside.new }
+    ensures still { result ≢ Err RunFault.Output → W.output_faults outside.new ≡ W.output_faults outside.old }
+    ensures output { result ≡ Err RunFault.Output → Rose (W.output_faults outside.old) (W.output_faults outside.new) }
+{
+    'steps: loop {
+        match machine.step(base, commits, hosts)? {
+            Event::Quiet => {}
+            Event::Out(line) => say(outside, line.bytes())?,
+            Event::Commit => {
+                commits.push(machine.take_pending())?;
+                say(outside, commit_line(alloc, commits.len())?.as_bytes())?;
+            }
+            Event::Ended(end) => {
+                say(outside, last_line(alloc, end)?.bytes())?;
+                return Ok(end);
+            }
         }
-        End::Spent => Ok(say(outside, b"turns spent\n")?),
     }
 }
 
 /// Runs code from the state of a base, emits what it prints, and gives its end.
-fn run_code<W: Output>(
+fn run_code<W: Outside>(
     alloc: Global,
     code: &Code,
     relations: &[RelDecl],
@@ -133,50 +179,56 @@ fn run_code<W: Output>(
     requires no_hosts { hosts.now ≡ [] }
     ensures whole { IfOk result (λ end. EndsSaid code.now relations.now (specs_of hosts.now) base.now.state turns (W.emitted outside.old) (W.emitted outside.new) end) }
     ensures cut { OnErr result (PartSaid code.now relations.now (specs_of hosts.now) base.now.state turns (W.emitted outside.old) (W.emitted outside.new)) }
+    ensures keeps { KeepsFiles (passage W.told W.disk W.emitted W.output_faults W.device_faults W.moment W.left_since outside.old outside.new) }
+    ensures any_moment { W.told → LeavesOnly W.moment W.left_since outside.old outside.new (IsRunImage code.now relations.now (specs_of hosts.now) base.now.state turns (W.disk outside.old) (W.emitted outside.old)) }
     ensures later { W.output_faults outside.old ≤ W.output_faults outside.new }
+    ensures still { result ≢ Err RunFault.Output → W.output_faults outside.new ≡ W.output_faults outside.old }
     ensures output { result ≡ Err RunFault.Output → Rose (W.output_faults outside.old) (W.output_faults outside.new) }
 {
     let mut machine = Machine::new(alloc, code, relations, turns)?;
     let mut commits: Vec<Delta> = Vec::new(alloc);
-    'steps: loop {
-        match machine.step(base, &commits, hosts)? {
-            Event::Quiet => {}
-            Event::Out(line) => say(outside, line.bytes())?,
-            Event::Commit => {
-                commits.push(machine.take_pending())?;
-                say(outside, commit_line(alloc, commits.len())?.as_bytes())?;
-            }
-            Event::Ended(end) => {
-                say_end(alloc, outside, end)?;
-                return Ok(end);
-            }
-        }
-    }
+    let outcome = steps(
+        alloc,
+        &mut machine,
+        &mut commits,
+        code,
+        relations,
+        base,
+        turns,
+        outside,
+        hosts,
+    );
+    drop(commits);
+    drop(machine);
+    outcome
 }
 
 /// Runs a program's code on empty relations with at most so many turns, emits what it prints, and gives the status of its
 /// end.
-pub(crate) fn run<W: Output>(
+pub(crate) fn run<W: Outside>(
     alloc: Global,
     program: &Program,
     code: &Code,
     turns: u64,
     outside: &mut W,
     hosts: &HostTable,
-) -> Result<u8, RunFault>
+) -> Result<ExitStatus, RunFault>
     requires sound { Sound (program_of program.now) (specs_of hosts.now) }
     requires no_hosts { hosts.now ≡ [] }
     requires code { code.now ≡ code_of (program_of program.now) }
     requires forward { Forward code.now }
-    ensures whole { IfOk result (λ status. IsWhole (outcome_of hosts.now (Command.Eval turns) (program_of program.now)) status (W.emitted outside.old) (W.emitted outside.new)) }
+    ensures whole { IfOk result (λ status. IsWhole (outcome_of hosts.now (Command.Eval turns) (program_of program.now)) (number_of status) (passage W.told W.disk W.emitted W.output_faults W.device_faults W.moment W.left_since outside.old outside.new)) }
     ensures cut { OnErr result (SaysPart (outcome_of hosts.now (Command.Eval turns) (program_of program.now)) (W.emitted outside.old) (W.emitted outside.new)) }
+    ensures keeps { KeepsFiles (passage W.told W.disk W.emitted W.output_faults W.device_faults W.moment W.left_since outside.old outside.new) }
+    ensures any_moment { W.told → LeavesOnly W.moment W.left_since outside.old outside.new (IsImageAmid (W.disk outside.old) (W.emitted outside.old) (text_of_outcome (outcome_of hosts.now (Command.Eval turns) (program_of program.now)))) }
     ensures later { W.output_faults outside.old ≤ W.output_faults outside.new }
+    ensures still { result ≢ Err RunFault.Output → W.output_faults outside.new ≡ W.output_faults outside.old }
     ensures output { result ≡ Err RunFault.Output → Rose (W.output_faults outside.old) (W.output_faults outside.new) }
 {
     code_does_what_the_program_means();
     let base = Base::empty(alloc, catalogue_of(alloc, &program.relations)?)?;
     let _catalogue = base.catalogue();
-    match run_code(
+    let outcome = run_code(
         alloc,
         code,
         &program.relations,
@@ -184,10 +236,12 @@ pub(crate) fn run<W: Output>(
         turns,
         outside,
         hosts,
-    )? {
-        End::Done => Ok(DONE),
-        End::Trap(_, _) => Ok(TRAPPED),
-        End::Spent => Ok(SPENT),
+    );
+    drop(base);
+    match outcome? {
+        End::Done => Ok(ExitStatus::Done),
+        End::Trap(_, _) => Ok(ExitStatus::Trapped),
+        End::Spent => Ok(ExitStatus::Spent),
         End::Stuck => unreachable!(),
     }
 }

@@ -1,25 +1,41 @@
-//! The exit statuses.
+ghost use Rattle.std.specs.Prelude.{◌≡◌};
+ghost use Rattle.hera_top.specs.Statuses.{number_of};
 
-/// The command or the run is done.
-pub(crate) const DONE: u8 = 0;
+/// How a call ends.
+#[derive(Clone, Copy, PartialEq, Eq, Debug)]
+pub enum ExitStatus {
+    /// The command or the run is done.
+    Done,
+    /// The run ended in a trap.
+    Trapped,
+    /// The words are no listed form.
+    Usage,
+    /// The script is refused.
+    Refused,
+    /// A turn was due, and none was left.
+    Spent,
+    /// The source of the script failed.
+    Unread,
+    /// The output failed.
+    OutputFailed,
+    /// There was no memory.
+    NoMemory,
+}
 
-/// The run ended in a trap.
-pub(crate) const TRAPPED: u8 = 1;
-
-/// The words are no listed form.
-pub(crate) const USAGE: u8 = 2;
-
-/// The script is refused.
-pub(crate) const REFUSED: u8 = 3;
-
-/// A turn was due, and none was left.
-pub(crate) const SPENT: u8 = 4;
-
-/// The source of the script failed.
-pub(crate) const UNREAD: u8 = 7;
-
-/// The output failed.
-pub(crate) const OUTPUT_FAILED: u8 = 8;
-
-/// There was no memory.
-pub(crate) const NO_MEMORY: u8 = 9;
+impl ExitStatus {
+    /// The exit status as the program gives it: 0 to 4, and 7 to 9.
+    pub(crate) fn number(self) -> u8
+        ensures { result ≡ number_of self }
+    {
+        match self {
+            ExitStatus::Done => 0,
+            ExitStatus::Trapped => 1,
+            ExitStatus::Usage => 2,
+            ExitStatus::Refused => 3,
+            ExitStatus::Spent => 4,
+            ExitStatus::Unread => 7,
+            ExitStatus::OutputFailed => 8,
+            ExitStatus::NoMemory => 9,
+        }
+    }
+}

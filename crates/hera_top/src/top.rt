@@ -1,37 +1,40 @@
 ghost use Rattle.std.specs.Prelude.{◌≡◌, ◌≤◌, ◌+◌, [], length, Some, None, ◌≢◌};
 ghost use Rattle.hera_causes.specs.Causes.{Rose};
 ghost use Rattle.hera_top.specs.Outcome.{refused, IsSaid, Answers};
+ghost use Rattle.hera_top.specs.Passages.{passage};
 ghost use Rattle.hera_top.specs.Sources.{first_seen};
+ghost use Rattle.hera_top.specs.Statuses.{number_of};
 ghost use Rattle.hera_top.specs.Words.{words_of, command_of, files_in};
 
 use crate::commands::answer_script;
 use crate::refusal::Refusal;
 use crate::say::refuse;
-use crate::status::NO_MEMORY;
+use crate::status::ExitStatus;
 use crate::words::{Command, read_words};
-use hera_causes::{Output, ReadFail, Source, read_all};
+use hera_causes::{ReadFail, Source, read_all};
 use hera_host::HostTable;
 use hera_script::Cause;
+use hera_volume::Outside;
 use std::alloc::Global;
 
 /// The most bytes of a script.
 const SCRIPT_LIMIT: usize = 1_048_576;
 
 /// Reads a script and carries out a command on it, and gives the status.
-fn answer<S: Source, W: Output>(
+fn answer<S: Source, W: Outside>(
     alloc: Global,
     command: Command,
     source: &mut S,
     outside: &mut W,
     hosts: &HostTable,
-) -> u8
+) -> ExitStatus
     requires no_hosts { hosts.now ≡ [] }
-    ensures answers { Answers hosts.now command (record { left = S.left source.old; faults = S.faults source.old }) (record { left = S.left source.new; faults = S.faults source.new }) result (W.emitted outside.old) (W.emitted outside.new) }
+    ensures answers { Answers hosts.now command (record { left = S.left source.old; faults = S.faults source.old }) (record { left = S.left source.new; faults = S.faults source.new }) (number_of result) (passage W.told W.disk W.emitted W.output_faults W.device_faults W.moment W.left_since outside.old outside.new) }
     ensures sources { S.faults source.old ≤ S.faults source.new }
     ensures later { W.output_faults outside.old ≤ W.output_faults outside.new }
-    ensures output { result ≡ 8 → Rose (W.output_faults outside.old) (W.output_faults outside.new) }
-    ensures unread { result ≡ 7 → Rose (S.faults source.old) (S.faults source.new) }
-    ensures formed { result ≢ 2 }
+    ensures output { result ≡ ExitStatus.OutputFailed → Rose (W.output_faults outside.old) (W.output_faults outside.new) }
+    ensures unread { result ≡ ExitStatus.Unread → Rose (S.faults source.old) (S.faults source.new) }
+    ensures formed { result ≢ ExitStatus.Usage }
 {
     match read_all(alloc, source, SCRIPT_LIMIT) {
         Ok(script) => answer_script(alloc, command, &script, outside, hosts),
@@ -44,7 +47,7 @@ fn answer<S: Source, W: Output>(
                 at: SCRIPT_LIMIT as u32,
             },
         ),
-        Err(ReadFail::Memory) => NO_MEMORY,
+        Err(ReadFail::Memory) => ExitStatus::NoMemory,
     }
 }
 
@@ -59,7 +62,7 @@ fn answer<S: Source, W: Output>(
 /// The statuses: 0 the command or the run is done, 1 the run ended in a trap, 2 the words are no listed form, 3 the
 /// script is refused, 4 the turns were spent, 7 the script's source failed, 8 the output failed, 9 there was no
 /// memory. With 8 and 9 a prefix of what would have been emitted was emitted, else all of it.
-pub fn hera<S: Source, W: Output>(
+pub fn hera<S: Source, W: Outside>(
     alloc: Global,
     words: &Vec<String>,
     sources: &mut Vec<S>,
@@ -70,12 +73,13 @@ pub fn hera<S: Source, W: Output>(
     requires no_hosts { hosts.now ≡ [] }
 
     // Words that are no listed form.
-    ensures usage { command_of (words_of words.now.items) ≡ None → IsSaid (refused Refusal.Usage) result (W.emitted outside.old) (W.emitted outside.new) }
+    ensures usage { command_of (words_of words.now.items) ≡ None → IsSaid (refused Refusal.Usage) result (passage W.told W.disk W.emitted W.output_faults W.device_faults W.moment W.left_since outside.old outside.new) }
+    ensures usage_unread { command_of (words_of words.now.items) ≡ None → sources.new ≡ sources.old }
     ensures usage_only { result ≡ 2 → command_of (words_of words.now.items) ≡ None }
 
     // `check`, `list` and `eval`.
     ensures command { (command : Command) → command_of (words_of words.now.items) ≡ Some command
-        → Answers hosts.now command (first_seen S.left S.faults sources.old.items) (first_seen S.left S.faults sources.new.items) result (W.emitted outside.old) (W.emitted outside.new) }
+        → Answers hosts.now command (first_seen S.left S.faults sources.old.items) (first_seen S.left S.faults sources.new.items) result (passage W.told W.disk W.emitted W.output_faults W.device_faults W.moment W.left_since outside.old outside.new) }
 
     // The causes of the statuses 7 and 8.
     ensures unread { result ≡ 7 → Rose (first_seen S.left S.faults sources.old.items).faults (first_seen S.left S.faults sources.new.items).faults }
@@ -84,7 +88,7 @@ pub fn hera<S: Source, W: Output>(
     ensures output_later { W.output_faults outside.old ≤ W.output_faults outside.new }
 {
     match read_words(words) {
-        Some(command) => answer(alloc, command, &mut sources[0], outside, hosts),
-        None => refuse(alloc, outside, Refusal::Usage),
+        Some(command) => answer(alloc, command, &mut sources[0], outside, hosts).number(),
+        None => refuse(alloc, outside, Refusal::Usage).number(),
     }
 }

@@ -10,7 +10,8 @@ use Rattle.rel_pages.specs.Stored.{empty_state}
 use Rattle.rel_pages.proofs.States.{empty_is_state}
 use Rattle.hera_top.specs.Running.{EndsSaid}
 use Rattle.hera_top.proofs.Saying.{Appends-nothing}
-use Rattle.hera_top.proofs.Running.{run_whole, run_part, never_stuck, own_end, own_part}
+use Rattle.hera_top.proofs.Running.{run_whole, run_part, run_image, never_stuck, own_end, own_part}
+use Rattle.hera_volume.proofs.Moments.{leaves-weaker}
 use Rattle.hera_top.proofs.run.run.Goals as goal
 
 pub catalogue_of-requires : goal.catalogue_of-requires

@@ -1,4 +1,4 @@
-use Rattle.std.proofs.Common.{◌≡◌, ◌<◌, ◌++◌, ◌∷◌, [], length, List, None, sym, ap, ◌∙◌, subst, arith}
+use Rattle.std.proofs.Common.{◌≡◌, ◌<◌, ◌++◌, ◌∷◌, [], length, List, None, refl, sym, ap, ◌∙◌, subst, arith}
 use Rattle.std.proofs.lemmas.Result.{MatchResult-from_err}
 use Rattle.std.proofs.KnownBytes.{Appends-trans}
 use Rattle.hera_meaning.specs.Deltas.{Delta}
@@ -8,20 +8,26 @@ use Rattle.hera_machine.specs.declared.events.Event.TheVariants as events
 use Rattle.hera_machine.specs.Descends.{left, IsLower}
 use Rattle.hera_machine.specs.Standing.{Standing, status_by, WaitsBy}
 use Rattle.hera_machine.proofs.Along.{IsAlong, along_start, along_quiet, along_out, along_commit, along_end}
+use Rattle.hera_volume.proofs.Moments.{leaves-none, leaves-on}
+use Rattle.hera_top.specs.Running.{last_text}
 use Rattle.hera_top.proofs.Lines.{same_said, same_part}
 use Rattle.hera_top.proofs.Saying.{Appends-nothing}
-use Rattle.hera_top.proofs.Running.{comes_nearer, along_part, along_cut, ends_cut, ends_said, stepped}
-use Rattle.hera_top.proofs.run.run_code.Goals as goal
+use Rattle.hera_top.proofs.Running.{comes_nearer, along_part, along_cut, ends_cut, ends_said, image_amid, image_end, stepped}
+use Rattle.hera_top.proofs.run.steps.Goals as goal
 
 pub steps-init : goal.steps-init
-steps-init g c = record {
-  later = omega arith;
-  bytes = [];
-  said = Appends-nothing _;
-  along = subst (λ (ds : List Delta). IsAlong c.args.code.now c.args.relations.now (specs_of c.args.hosts.now) c.args.base.now.state c.args.turns [] ds c.in_ok-machine.machine) (sym c.new-commits.ensures.items)
-      (along_start c.args.code.now c.args.relations.now (specs_of c.args.hosts.now) c.args.base.now.state c.args.turns c.in_ok-machine.machine c.in_ok-machine.ensures.start c.in_ok-machine.ensures.works c.in_ok-machine.ensures.code c.in_ok-machine.ensures.relations);
-  taken = c.in_ok-machine.ensures.nothing_waits;
-}
+steps-init g c =
+    record {
+      still = refl;
+      files = λ t f. refl;
+      device = refl;
+      bytes = [];
+      said = Appends-nothing _;
+      along = subst (λ (ds : List Delta). IsAlong c.args.code.now c.args.relations.now (specs_of c.args.hosts.now) c.args.base.now.state c.args.turns [] ds c.args.machine.now) (sym c.requires.no_commits)
+          (along_start c.args.code.now c.args.relations.now (specs_of c.args.hosts.now) c.args.base.now.state c.args.turns c.args.machine.now c.requires.start c.requires.works c.requires.code c.requires.relations);
+      taken = c.requires.nothing_waits;
+      any_moment = λ t. leaves-none _ _ _ _;
+    }
 
 pub returns-in_err-step-clause-cut : goal.returns-in_err-step-clause-cut
 returns-in_err-step-clause-cut g c =
@@ -37,11 +43,14 @@ steps-preserved-in-Quiet g c =
     let told = stepped c.args.code.now c.args.relations.now (specs_of c.args.hosts.now) c.args.base.now.state c.args.turns m n c.steps.commits.items c.deref.result.now c.in_ok-step.field-0 events.Quiet
     c.deref.ensures.value c.in-Quiet.is (ens.steps i.along.works) in
     record {
-      later = i.later;
+      still = i.still;
+      files = i.files;
+      device = i.device;
       bytes = i.bytes;
       said = i.said;
       along = along_quiet c.args.code.now c.args.relations.now (specs_of c.args.hosts.now) c.args.base.now.state c.args.turns i.bytes c.steps.commits.items m n i.along told (ens.status ∙ ap (λ e. status_by e) c.in-Quiet.is) ens.code ens.relations;
       taken = subst (λ e. WaitsBy n.waits e) c.in-Quiet.is ens.waits;
+      any_moment = i.any_moment;
     }
 
 pub returns-in_err-say-in-Out-clause-cut : goal.returns-in_err-say-in-Out-clause-cut
@@ -56,6 +65,17 @@ returns-in_err-say-in-Out-clause-cut g c =
     MatchResult-from_err c.from_residual-in_err-say-in-Out.result _ _ c.from_residual-in_err-say-in-Out.ensures.0
     (λ _. along_cut c.args.code.now c.args.relations.now (specs_of c.args.hosts.now) c.args.base.now.state c.args.turns _ _ _ i.bytes c.in-Out.line c.steps.commits.items n next i.said (same_part _ _ _ _ c.bytes.ensures c.in_err-say-in-Out.ensures.part))
 
+pub returns-in_err-say-in-Out-clause-any_moment : goal.returns-in_err-say-in-Out-clause-any_moment
+returns-in_err-say-in-Out-clause-any_moment g c =
+    let i = c.steps.invariant in
+    let m = c.steps.machine in
+    let n = c.step.new.self in
+    let ens = c.in_ok-step.ensures in
+    let told = stepped c.args.code.now c.args.relations.now (specs_of c.args.hosts.now) c.args.base.now.state c.args.turns m n c.steps.commits.items c.deref.result.now c.in_ok-step.field-0 (events.Out c.in-Out.line)
+    c.deref.ensures.value c.in-Out.is (ens.steps i.along.works) in
+    let next = along_out c.args.code.now c.args.relations.now (specs_of c.args.hosts.now) c.args.base.now.state c.args.turns i.bytes c.steps.commits.items m n c.in-Out.line i.along told (ens.status ∙ ap (λ e. status_by e) c.in-Out.is) ens.code ens.relations in
+    λ t. leaves-on _ _ (i.any_moment t) (c.say.ensures.any_moment t) (image_amid c.args.code.now c.args.relations.now (specs_of c.args.hosts.now) c.args.base.now.state c.args.turns (g.W.Outside.disk c.args.outside.now) (g.W.Outside.disk c.steps.outside) (g.W.Output.emitted c.args.outside.now) (g.W.Output.emitted c.steps.outside) i.bytes c.in-Out.line c.bytes.result.now c.steps.commits.items n next i.said (i.files t) c.bytes.ensures)
+
 pub steps-preserved-in-Out : goal.steps-preserved-in-Out
 steps-preserved-in-Out g c =
     let i = c.steps.invariant in
@@ -64,12 +84,16 @@ steps-preserved-in-Out g c =
     let ens = c.in_ok-step.ensures in
     let told = stepped c.args.code.now c.args.relations.now (specs_of c.args.hosts.now) c.args.base.now.state c.args.turns m n c.steps.commits.items c.deref.result.now c.in_ok-step.field-0 (events.Out c.in-Out.line)
     c.deref.ensures.value c.in-Out.is (ens.steps i.along.works) in
+    let next = along_out c.args.code.now c.args.relations.now (specs_of c.args.hosts.now) c.args.base.now.state c.args.turns i.bytes c.steps.commits.items m n c.in-Out.line i.along told (ens.status ∙ ap (λ e. status_by e) c.in-Out.is) ens.code ens.relations in
     record {
-      later = omega (arith, i.later, c.say.ensures.cause.later);
+      still = c.in_ok-say-in-Out.ensures.cause.still ∙ i.still;
+      files = λ t f. c.say.ensures.files t f ∙ i.files t f;
+      device = c.say.ensures.device ∙ i.device;
       bytes = i.bytes ++ c.in-Out.line;
       said = Appends-trans _ _ _ _ _ i.said (same_said _ _ _ _ c.bytes.ensures c.in_ok-say-in-Out.ensures.whole);
-      along = along_out c.args.code.now c.args.relations.now (specs_of c.args.hosts.now) c.args.base.now.state c.args.turns i.bytes c.steps.commits.items m n c.in-Out.line i.along told (ens.status ∙ ap (λ e. status_by e) c.in-Out.is) ens.code ens.relations;
+      along = next;
       taken = subst (λ e. WaitsBy n.waits e) c.in-Out.is ens.waits;
+      any_moment = λ t. leaves-on _ _ (i.any_moment t) (c.say.ensures.any_moment t) (image_amid c.args.code.now c.args.relations.now (specs_of c.args.hosts.now) c.args.base.now.state c.args.turns (g.W.Outside.disk c.args.outside.now) (g.W.Outside.disk c.steps.outside) (g.W.Output.emitted c.args.outside.now) (g.W.Output.emitted c.steps.outside) i.bytes c.in-Out.line c.bytes.result.now c.steps.commits.items n next i.said (i.files t) c.bytes.ensures);
     }
 
 pub returns-in_err-push-in-Commit-clause-cut : goal.returns-in_err-push-in-Commit-clause-cut
@@ -87,9 +111,9 @@ returns-in_err-say-in-Commit-clause-cut g c =
     let i = c.steps.invariant in
     let m = c.steps.machine in
     let n = c.step.new.self in
+    let ens = c.in_ok-step.ensures in
     let d = c.take_pending.result in
     let line = commit_text c.len.result in
-    let ens = c.in_ok-step.ensures in
     let told = stepped c.args.code.now c.args.relations.now (specs_of c.args.hosts.now) c.args.base.now.state c.args.turns m n c.steps.commits.items c.deref.result.now c.in_ok-step.field-0 events.Commit
     c.deref.ensures.value c.in-Commit.is (ens.steps i.along.works) in
     let pushed = c.in_ok-push-in-Commit.ensures.items in
@@ -98,26 +122,44 @@ returns-in_err-say-in-Commit-clause-cut g c =
     MatchResult-from_err c.from_residual-in_err-say-in-Commit.result _ _ c.from_residual-in_err-say-in-Commit.ensures.0
     (λ _. along_cut c.args.code.now c.args.relations.now (specs_of c.args.hosts.now) c.args.base.now.state c.args.turns _ _ _ i.bytes line (c.steps.commits.items ++ d ∷ []) (record n { waits = None }) next i.said (same_part _ _ _ _ (c.as_bytes.ensures.value ∙ c.in_ok-commit_line-in-Commit.ensures) c.in_err-say-in-Commit.ensures.part))
 
+pub returns-in_err-say-in-Commit-clause-any_moment : goal.returns-in_err-say-in-Commit-clause-any_moment
+returns-in_err-say-in-Commit-clause-any_moment g c =
+    let i = c.steps.invariant in
+    let m = c.steps.machine in
+    let n = c.step.new.self in
+    let ens = c.in_ok-step.ensures in
+    let d = c.take_pending.result in
+    let line = commit_text c.len.result in
+    let told = stepped c.args.code.now c.args.relations.now (specs_of c.args.hosts.now) c.args.base.now.state c.args.turns m n c.steps.commits.items c.deref.result.now c.in_ok-step.field-0 events.Commit
+    c.deref.ensures.value c.in-Commit.is (ens.steps i.along.works) in
+    let pushed = c.in_ok-push-in-Commit.ensures.items in
+    let long : c.len.result ≡ length (c.steps.commits.items ++ d ∷ []) = c.len.ensures ∙ c.push.new.self.ok.0 ∙ ap (λ (ds : List Delta). length ds) pushed in
+    let next = along_commit c.args.code.now c.args.relations.now (specs_of c.args.hosts.now) c.args.base.now.state c.args.turns i.bytes c.steps.commits.items m n d line i.along told c.take_pending.ensures.delta (ens.status ∙ ap (λ e. status_by e) c.in-Commit.is) ens.code ens.relations (ap commit_text long) in
+    λ t. leaves-on _ _ (i.any_moment t) (c.say-in-Commit.ensures.any_moment t) (image_amid c.args.code.now c.args.relations.now (specs_of c.args.hosts.now) c.args.base.now.state c.args.turns (g.W.Outside.disk c.args.outside.now) (g.W.Outside.disk c.steps.outside) (g.W.Output.emitted c.args.outside.now) (g.W.Output.emitted c.steps.outside) i.bytes line c.as_bytes.result.now (c.steps.commits.items ++ d ∷ []) (record n { waits = None }) next i.said (i.files t) (c.as_bytes.ensures.value ∙ c.in_ok-commit_line-in-Commit.ensures))
+
 pub steps-preserved : goal.steps-preserved
 steps-preserved g c =
     let i = c.steps.invariant in
     let m = c.steps.machine in
     let n = c.step.new.self in
+    let ens = c.in_ok-step.ensures in
     let d = c.take_pending.result in
     let line = commit_text c.len.result in
-    let ens = c.in_ok-step.ensures in
     let told = stepped c.args.code.now c.args.relations.now (specs_of c.args.hosts.now) c.args.base.now.state c.args.turns m n c.steps.commits.items c.deref.result.now c.in_ok-step.field-0 events.Commit
     c.deref.ensures.value c.in-Commit.is (ens.steps i.along.works) in
     let pushed = c.in_ok-push-in-Commit.ensures.items in
     let long : c.len.result ≡ length (c.steps.commits.items ++ d ∷ []) = c.len.ensures ∙ c.push.new.self.ok.0 ∙ ap (λ (ds : List Delta). length ds) pushed in
     let next = along_commit c.args.code.now c.args.relations.now (specs_of c.args.hosts.now) c.args.base.now.state c.args.turns i.bytes c.steps.commits.items m n d line i.along told c.take_pending.ensures.delta (ens.status ∙ ap (λ e. status_by e) c.in-Commit.is) ens.code ens.relations (ap commit_text long) in
     record {
-      later = omega (arith, i.later, c.say-in-Commit.ensures.cause.later);
+      still = c.in_ok-say-in-Commit.ensures.cause.still ∙ i.still;
+      files = λ t f. c.say-in-Commit.ensures.files t f ∙ i.files t f;
+      device = c.say-in-Commit.ensures.device ∙ i.device;
       bytes = i.bytes ++ line;
       said = Appends-trans _ _ _ _ _ i.said (same_said _ _ _ _ (c.as_bytes.ensures.value ∙ c.in_ok-commit_line-in-Commit.ensures) c.in_ok-say-in-Commit.ensures.whole);
       along = subst (λ (x : Standing). IsAlong c.args.code.now c.args.relations.now (specs_of c.args.hosts.now) c.args.base.now.state c.args.turns (i.bytes ++ line) c.push.new.self.items x) (sym c.take_pending.ensures.taken)
           (subst (λ (ds : List Delta). IsAlong c.args.code.now c.args.relations.now (specs_of c.args.hosts.now) c.args.base.now.state c.args.turns (i.bytes ++ line) ds (record n { waits = None })) (sym pushed) next);
       taken = ap (λ (x : Standing). x.waits) c.take_pending.ensures.taken;
+      any_moment = λ t. leaves-on _ _ (i.any_moment t) (c.say-in-Commit.ensures.any_moment t) (image_amid c.args.code.now c.args.relations.now (specs_of c.args.hosts.now) c.args.base.now.state c.args.turns (g.W.Outside.disk c.args.outside.now) (g.W.Outside.disk c.steps.outside) (g.W.Output.emitted c.args.outside.now) (g.W.Output.emitted c.steps.outside) i.bytes line c.as_bytes.result.now (c.steps.commits.items ++ d ∷ []) (record n { waits = None }) next i.said (i.files t) (c.as_bytes.ensures.value ∙ c.in_ok-commit_line-in-Commit.ensures));
     }
 
 pub steps-smaller : goal.steps-smaller
@@ -128,8 +170,13 @@ steps-smaller g c =
     comes_nearer c.args.code.now c.args.relations.now (specs_of c.args.hosts.now) c.args.base.now.state c.args.turns m n c.in_ok-step.field-0 events.Commit c.steps.invariant.along.code_is c.requires.forward c.in_ok-step.ensures.nearer c.in-Commit.is in
     subst (λ (x : Standing). left (length c.args.code.now.instrs) x.state < left (length c.args.code.now.instrs) m.state) (sym c.take_pending.ensures.taken) lower.less_left
 
-pub returns-in_err-say_end-in-Ended-clause-cut : goal.returns-in_err-say_end-in-Ended-clause-cut
-returns-in_err-say_end-in-Ended-clause-cut g c =
+pub returns-in_err-last_line-in-Ended-clause-cut : goal.returns-in_err-last_line-in-Ended-clause-cut
+returns-in_err-last_line-in-Ended-clause-cut g c =
+    MatchResult-from_err c.from_residual-in_err-last_line-in-Ended.result _ _ c.from_residual-in_err-last_line-in-Ended.ensures.0
+    (λ _. along_part c.args.code.now c.args.relations.now (specs_of c.args.hosts.now) c.args.base.now.state c.args.turns _ _ c.steps.invariant.bytes c.steps.commits.items c.steps.machine c.steps.invariant.along c.steps.invariant.said)
+
+pub returns-in_err-say-in-Ended-clause-cut : goal.returns-in_err-say-in-Ended-clause-cut
+returns-in_err-say-in-Ended-clause-cut g c =
     let i = c.steps.invariant in
     let m = c.steps.machine in
     let n = c.step.new.self in
@@ -137,8 +184,19 @@ returns-in_err-say_end-in-Ended-clause-cut g c =
     let told = stepped c.args.code.now c.args.relations.now (specs_of c.args.hosts.now) c.args.base.now.state c.args.turns m n c.steps.commits.items c.deref.result.now c.in_ok-step.field-0 (events.Ended c.in-Ended.end)
     c.deref.ensures.value c.in-Ended.is (ens.steps i.along.works) in
     let ends = along_end c.args.code.now c.args.relations.now (specs_of c.args.hosts.now) c.args.base.now.state c.args.turns i.bytes c.steps.commits.items m n c.in-Ended.end i.along told in
-    MatchResult-from_err c.from_residual-in_err-say_end-in-Ended.result _ _ c.from_residual-in_err-say_end-in-Ended.ensures.0
-    (λ _. ends_cut c.args.code.now c.args.relations.now (specs_of c.args.hosts.now) c.args.base.now.state c.args.turns _ _ _ i.bytes c.steps.commits.items c.in-Ended.end ends i.said c.in_err-say_end-in-Ended.ensures.part)
+    MatchResult-from_err c.from_residual-in_err-say-in-Ended.result _ _ c.from_residual-in_err-say-in-Ended.ensures.0
+    (λ _. ends_cut c.args.code.now c.args.relations.now (specs_of c.args.hosts.now) c.args.base.now.state c.args.turns _ _ _ i.bytes c.steps.commits.items c.in-Ended.end ends i.said (same_part _ _ _ _ (c.bytes-in-Ended.ensures ∙ c.in_ok-last_line-in-Ended.ensures) c.in_err-say-in-Ended.ensures.part))
+
+pub returns-in_err-say-in-Ended-clause-any_moment : goal.returns-in_err-say-in-Ended-clause-any_moment
+returns-in_err-say-in-Ended-clause-any_moment g c =
+    let i = c.steps.invariant in
+    let m = c.steps.machine in
+    let n = c.step.new.self in
+    let ens = c.in_ok-step.ensures in
+    let told = stepped c.args.code.now c.args.relations.now (specs_of c.args.hosts.now) c.args.base.now.state c.args.turns m n c.steps.commits.items c.deref.result.now c.in_ok-step.field-0 (events.Ended c.in-Ended.end)
+    c.deref.ensures.value c.in-Ended.is (ens.steps i.along.works) in
+    let ends = along_end c.args.code.now c.args.relations.now (specs_of c.args.hosts.now) c.args.base.now.state c.args.turns i.bytes c.steps.commits.items m n c.in-Ended.end i.along told in
+    λ t. leaves-on _ _ (i.any_moment t) (c.say-in-Ended.ensures.any_moment t) (image_end c.args.code.now c.args.relations.now (specs_of c.args.hosts.now) c.args.base.now.state c.args.turns (g.W.Outside.disk c.args.outside.now) (g.W.Outside.disk c.steps.outside) (g.W.Output.emitted c.args.outside.now) (g.W.Output.emitted c.steps.outside) i.bytes c.bytes-in-Ended.result.now c.steps.commits.items c.in-Ended.end ends i.said (i.files t) (c.bytes-in-Ended.ensures ∙ c.in_ok-last_line-in-Ended.ensures))
 
 pub returns-in-Ended-clause-whole : goal.returns-in-Ended-clause-whole
 returns-in-Ended-clause-whole g c =
@@ -149,4 +207,15 @@ returns-in-Ended-clause-whole g c =
     let told = stepped c.args.code.now c.args.relations.now (specs_of c.args.hosts.now) c.args.base.now.state c.args.turns m n c.steps.commits.items c.deref.result.now c.in_ok-step.field-0 (events.Ended c.in-Ended.end)
     c.deref.ensures.value c.in-Ended.is (ens.steps i.along.works) in
     let ends = along_end c.args.code.now c.args.relations.now (specs_of c.args.hosts.now) c.args.base.now.state c.args.turns i.bytes c.steps.commits.items m n c.in-Ended.end i.along told in
-    ends_said c.args.code.now c.args.relations.now (specs_of c.args.hosts.now) c.args.base.now.state c.args.turns _ _ _ i.bytes c.steps.commits.items c.in-Ended.end ends i.said c.in_ok-say_end-in-Ended.ensures.whole
+    ends_said c.args.code.now c.args.relations.now (specs_of c.args.hosts.now) c.args.base.now.state c.args.turns _ _ _ i.bytes c.steps.commits.items c.in-Ended.end ends i.said (same_said _ _ _ _ (c.bytes-in-Ended.ensures ∙ c.in_ok-last_line-in-Ended.ensures) c.in_ok-say-in-Ended.ensures.whole)
+
+pub returns-in-Ended-clause-any_moment : goal.returns-in-Ended-clause-any_moment
+returns-in-Ended-clause-any_moment g c =
+    let i = c.steps.invariant in
+    let m = c.steps.machine in
+    let n = c.step.new.self in
+    let ens = c.in_ok-step.ensures in
+    let told = stepped c.args.code.now c.args.relations.now (specs_of c.args.hosts.now) c.args.base.now.state c.args.turns m n c.steps.commits.items c.deref.result.now c.in_ok-step.field-0 (events.Ended c.in-Ended.end)
+    c.deref.ensures.value c.in-Ended.is (ens.steps i.along.works) in
+    let ends = along_end c.args.code.now c.args.relations.now (specs_of c.args.hosts.now) c.args.base.now.state c.args.turns i.bytes c.steps.commits.items m n c.in-Ended.end i.along told in
+    λ t. leaves-on _ _ (i.any_moment t) (c.say-in-Ended.ensures.any_moment t) (image_end c.args.code.now c.args.relations.now (specs_of c.args.hosts.now) c.args.base.now.state c.args.turns (g.W.Outside.disk c.args.outside.now) (g.W.Outside.disk c.steps.outside) (g.W.Output.emitted c.args.outside.now) (g.W.Output.emitted c.steps.outside) i.bytes c.bytes-in-Ended.result.now c.steps.commits.items c.in-Ended.end ends i.said (i.files t) (c.bytes-in-Ended.ensures ∙ c.in_ok-last_line-in-Ended.ensures))

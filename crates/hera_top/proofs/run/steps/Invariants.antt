@@ -1,0 +1,25 @@
+use Rattle.std.proofs.Common.{◌≡◌, ℕ, List, None, length}
+use Rattle.std.specs.Io.KnownBytes.{Appends}
+use Rattle.hera_host.specs.Tables.{specs_of}
+use Rattle.hera_machine.specs.Descends.{left}
+use Rattle.hera_machine.proofs.Along.{IsAlong}
+use Rattle.hera_volume.specs.Time.{LeavesOnly}
+use Rattle.hera_volume.specs.declared.file_id.FileId.{FileId}
+use Rattle.hera_top.specs.Running.{IsRunImage}
+use Rattle.hera_top.proofs.run.steps.Given as goal
+
+abbrev pub invariant-steps : goal.invariant-steps
+invariant-steps g l = record {
+  still : g.W.Output.output_faults l.outside ≡ g.W.Output.output_faults l.initial.outside;
+  files : g.W.Outside.told → (f : FileId) → g.W.Outside.disk l.outside f ≡ g.W.Outside.disk l.initial.outside f;
+  device : g.W.Outside.device_faults l.outside ≡ g.W.Outside.device_faults l.initial.outside;
+  bytes : List ℕ;
+  said : Appends (g.W.Output.emitted l.initial.outside) (g.W.Output.emitted l.outside) bytes;
+  along : IsAlong l.code l.relations (specs_of l.hosts) l.base.state l.turns bytes l.commits.items l.machine;
+  taken : l.machine.waits ≡ None;
+  any_moment : g.W.Outside.told → LeavesOnly g.W.Outside.moment g.W.Outside.left_since l.initial.outside l.outside
+      (IsRunImage l.code l.relations (specs_of l.hosts) l.base.state l.turns (g.W.Outside.disk l.initial.outside) (g.W.Output.emitted l.initial.outside));
+}
+
+abbrev pub decreases-steps : goal.decreases-steps
+decreases-steps g l = left (length l.code.instrs) l.machine.state
