@@ -11,6 +11,7 @@ use super::parts::{self, Part};
 use super::{AtomRef, edits};
 use hera_meaning::{RelId, Sign};
 use hera_rows::{RowSet, Sorted};
+use hera_sets::is_same;
 use std::alloc::{AllocError, Global};
 use std::marker::Model;
 
@@ -253,11 +254,10 @@ fn are_same(x: Option<AtomRef<'_>>, y: Option<AtomRef<'_>>) -> bool
 }
 
 /// Whether both have the same sign, relation and row.
-#[tactic(auto, unfolding(hera_sets::specs::Rows::is_same))]
 fn same_atom(a: AtomRef<'_>, b: AtomRef<'_>) -> bool
     ensures { result ≡ same_atom (atom_in a.entry) (atom_in b.entry) }
 {
-    same_sign(a.sign, b.sign) && a.rel.0 == b.rel.0 && a.row.cmp(b.row).is_eq()
+    same_sign(a.sign, b.sign) && a.rel.0 == b.rel.0 && is_same(a.row, b.row)
 }
 
 fn same_sign(a: Sign, b: Sign) -> bool

@@ -2,7 +2,7 @@
 ghost use Rattle.std.specs.Prelude.{◌≡◌, IfOk, OnOk, OnErr, MatchResult, List, ℕ, Option, ◌+◌, [], length};
 ghost use Rattle.std.specs.List.{find, flat_map};
 ghost use Rattle.std.specs.Option.{option_map, option_copied};
-ghost use Rattle.hera_sets.specs.Rows.{is_below, is_past};
+ghost use Rattle.hera_sets.specs.Rows.{is_past};
 ghost use Rattle.delta_atoms.specs.Atoms.{is_after, atom_of};
 ghost use Rattle.delta_atoms.specs.Parts.{side, atoms_at, atoms_of, lesser, IsPackedPart, AreOrdered, AreApart, ArePacked};
 ghost use Rattle.delta_atoms.specs.Refs.{atom_in, bound_of};
@@ -11,6 +11,7 @@ ghost use Rattle.delta_atoms.specs.Edits.{put_in, taken_out, one_side, IsAt, IsG
 use super::AtomRef;
 use hera_meaning::{RelId, Sign};
 use hera_rows::{RowSet, Sorted};
+use hera_sets::is_below;
 use std::alloc::{AllocError, Global};
 
 /// The rows of a relation to put in, and those to take out.
@@ -142,14 +143,6 @@ impl Part {
             }
         }
     }
-}
-
-/// Whether a row stands before another in byte order.
-#[tactic(auto, unfolding(hera_sets::specs::Rows::is_below))]
-fn is_below(a: &[u8], b: &[u8]) -> bool
-    ensures { result ≡ is_below a.now b.now }
-{
-    a.cmp(b).is_lt()
 }
 
 /// The first atom past the bound, whose sign says nothing.

@@ -1,7 +1,6 @@
 //! The least and the greatest of a field.
 ghost use Rattle.std.specs.Prelude.{◌≡◌, ◌<◌, length, All, IfOk, IfErr, OnOk, Some};
 ghost use Rattle.std.specs.Option.{option_map};
-ghost use Rattle.hera_sets.specs.Rows.{is_below};
 ghost use Rattle.hera_meaning.specs.Scalars.{scalar_less};
 ghost use Rattle.hera_meaning.specs.Rows.{IsRow};
 ghost use Rattle.hera_meaning.specs.Aggregates.{column, least_scalar, greatest_scalar};
@@ -14,6 +13,7 @@ use crate::ends::AggEnd;
 use hera_meaning::{Scalar, ScalarRef, Schema, Text};
 use hera_row::field;
 use hera_rows::Sorted;
+use hera_sets::is_below;
 use std::alloc::Global;
 
 /// The least field at place `i`: ints by value, false before true, texts by their bytes. EmptyMin
@@ -111,14 +111,13 @@ fn greater<'a>(best: Option<ScalarRef<'a>>, value: ScalarRef<'a>) -> ScalarRef<'
 }
 
 /// Whether the first scalar stands before the second of its kind.
-#[tactic(auto, unfolding(hera_sets::specs::Rows::is_below))]
 fn is_less(a: ScalarRef<'_>, b: ScalarRef<'_>) -> bool
     ensures { result ≡ scalar_less (told a.entry) (told b.entry) }
 {
     match (a, b) {
         (ScalarRef::Int(v), ScalarRef::Int(w)) => v < w,
         (ScalarRef::Bool(v), ScalarRef::Bool(w)) => !v && w,
-        (ScalarRef::Text(v), ScalarRef::Text(w)) => v.cmp(w).is_lt(),
+        (ScalarRef::Text(v), ScalarRef::Text(w)) => is_below(v, w),
         _ => false,
     }
 }

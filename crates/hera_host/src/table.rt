@@ -4,6 +4,7 @@ ghost use Rattle.hera_host.specs.Tables.{AreHosts, host_named, takes_at, gives_a
 ghost use Rattle.hera_sets.specs.Rows.{is_same};
 
 use hera_meaning::{HostSpec, Kind, Name};
+use hera_sets::is_same;
 use std::alloc::Global;
 use std::marker::Model;
 
@@ -24,11 +25,10 @@ impl Model for HostFn {
 
 impl HostFn {
     /// Whether the host has this name.
-    #[tactic(auto, unfolding(hera_sets::specs::Rows::is_same))]
     fn is_named(&self, name: &[u8]) -> bool
         ensures { result ≡ is_same name.now self.now.name }
     {
-        name.cmp(self.name.bytes()).is_eq()
+        is_same(name, self.name.bytes())
     }
 
     /// The kind of the argument.

@@ -6,6 +6,7 @@ ghost use Rattle.hera_meaning.specs.Schemas.{AreDistinct, names_of, place_named}
 ghost use Rattle.hera_meaning.specs.SchemaFaults.{IsFirstRepeat};
 
 use crate::scalars::{Kind, Name};
+use hera_sets::is_same;
 use std::alloc::{AllocError, Global};
 use std::marker::Model;
 use thiserror::Error;
@@ -141,11 +142,10 @@ fn copied(alloc: Global, attrs: &[Attr]) -> Result<Vec<Attr>, AllocError>
 }
 
 /// Whether the attribute has this name.
-#[tactic(auto, unfolding(hera_sets::specs::Rows::is_same))]
 fn is_named(attr: &Attr, name: &[u8]) -> bool
     ensures { result ≡ is_same name.now attr.now.name }
 {
-    name.cmp(attr.name.bytes()).is_eq()
+    is_same(name, attr.name.bytes())
 }
 
 /// The place of the first attribute of this name.

@@ -1,6 +1,5 @@
 //! Truth and comparisons.
 ghost use Rattle.std.specs.Prelude.{◌≡◌, not, pos};
-ghost use Rattle.hera_sets.specs.Rows.{is_same, is_below};
 ghost use Rattle.hera_meaning.specs.Scalars.{same_scalar, scalar_less};
 ghost use Rattle.hera_meaning.specs.Values.{operand, int_value, same_value, same_rows, same_delta};
 ghost use Rattle.hera_meaning.specs.Primitives.{given, is_less, is_greater};
@@ -13,22 +12,7 @@ use crate::{Args, PrimEnd};
 use delta_atoms::{Delta, Value};
 use hera_meaning::{Op, Scalar, ScalarRef};
 use hera_rows::RowSet;
-
-/// Whether both are the same bytes.
-#[tactic(auto, unfolding(hera_sets::specs::Rows::is_same))]
-fn is_same(a: &[u8], b: &[u8]) -> bool
-    ensures { result ≡ is_same a.now b.now }
-{
-    a.cmp(b).is_eq()
-}
-
-/// Whether the first stands before the second in byte order.
-#[tactic(auto, unfolding(hera_sets::specs::Rows::is_below))]
-fn is_below(a: &[u8], b: &[u8]) -> bool
-    ensures { result ≡ is_below a.now b.now }
-{
-    a.cmp(b).is_lt()
-}
+use hera_sets::{is_below, is_same};
 
 /// Whether both are the same scalar.
 fn same_scalar(a: &Scalar, b: &Scalar) -> bool

@@ -8,6 +8,7 @@ ghost use Rattle.hera_meaning.specs.Fits.{is_place, is_int_at, is_good_agg, is_g
 ghost use Rattle.hera_prims.specs.Joins.{goes_with};
 
 use hera_meaning::{Agg, Attr, Kind, Op, Schema};
+use hera_sets::is_same;
 
 /// Whether an attribute stands at the place.
 fn is_place(schema: &Schema, i: usize) -> bool
@@ -57,11 +58,10 @@ fn are_good_aggs(schema: &Schema, aggs: &[Agg]) -> bool
 }
 
 /// Whether both attributes have the same name.
-#[tactic(auto, unfolding(hera_sets::specs::Rows::is_same))]
 fn same_name(a: &Attr, b: &Attr) -> bool
     ensures { result ≡ is_same a.now.name b.now.name }
 {
-    a.name.bytes().cmp(b.name.bytes()).is_eq()
+    is_same(a.name.bytes(), b.name.bytes())
 }
 
 /// Whether the attributes have different names, or one kind.

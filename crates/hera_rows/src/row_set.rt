@@ -7,7 +7,7 @@ ghost use Rattle.hera_rows.specs.Packed.{IsWithin, cut};
 ghost use Rattle.hera_rows.specs.Places.{IsPlace};
 
 use super::Sorted;
-use super::sorted::is_same;
+use hera_sets::is_same;
 use std::alloc::{AllocError, Global};
 use std::cmp::Ordering;
 use std::marker::Model;
@@ -263,7 +263,8 @@ mod tests {
             assert!(rt; i % 40 == 0 || set.remove(&i.to_be_bytes()));
             assert!(rt; set.bytes.len() <= 4 * set.len() + 2 * SLACK + 2);
         }
-        assert_eq!(rt; set.len(), 50);
+        let copy = set.copy()?;
+        assert!(rt; copy.equal(&set) && copy.len() == 50 && copy.bytes.len() == 100);
         Ok(())
     }
 }

@@ -10,6 +10,3 @@ mod joining;
 mod pairing;
 
 pub use joining::join;
-
-#[cfg(test)]
-mod tests;

@@ -7,7 +7,8 @@ ghost use Rattle.join_exec.specs.Leading.{leading_of};
 
 use hera_meaning::Schema;
 use hera_rows::RowBuf;
-use rel_algebra::{is_same, piece};
+use hera_sets::is_same;
+use rel_algebra::piece;
 use std::alloc::{AllocError, Global};
 
 /// The fields of a left row at the leading attributes of the right schema, up to the first that the

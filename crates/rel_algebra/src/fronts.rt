@@ -2,8 +2,9 @@
 ghost use Rattle.std.specs.Prelude.{◌≡◌};
 ghost use Rattle.rel_algebra.specs.Fronts.{begins, begun_of};
 
-use crate::order::{is_past, is_same};
+use crate::order::is_past;
 use hera_rows::Sorted;
+use hera_sets::is_same;
 
 /// The rows that begin with these bytes, seen without a copy. They are sought, not walked to.
 #[derive(Drop)]

@@ -3,8 +3,8 @@ ghost use Rattle.std.specs.Prelude.{◌≡◌, ◌↔◌, IsTrue, IfOk};
 ghost use Rattle.std.specs.Option.{option_copied};
 ghost use Rattle.hera_sets.specs.Sets.{union_of, minus_of, inter_of, least_of};
 
-use crate::order::is_below;
 use hera_rows::{RowSet, Sorted, collect};
+use hera_sets::is_below;
 use std::alloc::{AllocError, Global};
 
 /// The rows of two sets, seen as one set without a copy.
