@@ -1,5 +1,5 @@
 use Rattle.hera_lexer.proofs.Kept.{are_tokens}
-use Rattle.hera_accepted.proofs.laws.accepted_programs_are_sound.Goals as goal
+use Rattle.hera_script.proofs.accepted.accepted_programs_are_sound.Goals as goal
 
 pub returns : goal.returns
 returns c = λ bytes hosts p short are accepted.

@@ -7,7 +7,7 @@ use Rattle.hera_lexer.specs.declared.script.LexFault.TheVariants.{Memory}
 use Rattle.hera_rules.specs.ReadActs.{script_of}
 use Rattle.hera_rules.specs.Phrases.{Script}
 use Rattle.hera_rules.specs.Programs.{ElabScript}
-use Rattle.hera_accepted.proofs.laws.a_script_has_one_program.Goals as goal
+use Rattle.hera_script.proofs.accepted.a_script_has_one_program.Goals as goal
 
 same_tokens : (xs ys : List Token × ℕ) (r s : Result (List Token × ℕ) LexFault) → r ≡ Ok xs → s ≡ Ok ys → r ≡ s → ys.0 ≡ xs.0
 same_tokens xs ys r s f g e = let h : xs ≡ ys = cc in sym (ap (λ (p : List Token × ℕ). p.0) h)

@@ -9,6 +9,7 @@ ghost use Rattle.hera_syntax.specs.declared.tree.Tree.{Tree};
 ghost use Rattle.hera_syntax.specs.Trees.{IsTextOf};
 ghost use Rattle.hera_rules.specs.ReadActs.{script_of};
 ghost use Rattle.hera_rules.specs.Accepted.{Accepted};
+ghost use Rattle.hera_script.specs.Refusing.{script_limit};
 
 use hera_lexer::one_answer;
 use hera_parser::laws::one_tree;
@@ -28,7 +29,7 @@ pub fn a_script_has_one_program()
 
 /// The program of an accepted script of at most 1,048,576 bytes is sound.
 pub fn accepted_programs_are_sound()
-    ensures { (bytes : List ℕ) → (hosts : List Host) → (p : Program_tree) → length bytes ≤ 1048576 → AreHosts hosts → Accepted bytes hosts p → Sound p (specs_of hosts) }
+    ensures { (bytes : List ℕ) → (hosts : List Host) → (p : Program_tree) → length bytes ≤ script_limit → AreHosts hosts → Accepted bytes hosts p → Sound p (specs_of hosts) }
 {
     typed_programs_are_sound();
 }
