@@ -2,7 +2,7 @@
 --
 -- An outline is the list of the tree's nodes and tokens, in their order. A node says its production and
 -- which of the alternatives it is, a kept token stands whole, and of another token only its terminal.
-use Rattle.std.specs.Prelude.{◌≡◌, ℕ, List, [], ◌∷◌, ◌++◌, Option, Some, None}
+use Rattle.std.specs.Prelude.{ℕ, List, [], ◌∷◌, ◌++◌, Option, Some, None}
 use Rattle.std.specs.List.{flat_map}
 use Rattle.hera_syntax.specs.declared.token.Token.{Token}
 use Rattle.hera_syntax.specs.declared.token.Terminal.{Terminal}
@@ -220,6 +220,15 @@ prefix_outline p = prefix_start p.op ++ post_outline p.operand
 
 abbrev pub tail_outline : Tail → List Mark
 tail_outline t = hold t.op ++ operand_outline t.operand
+
+-- one more operator of a chain, and its operand
+abbrev pub tail_row : Level → Tail → List Mark
+tail_row level t = node (more_of level) 0 ++ tail_outline t
+
+-- what stands behind the first operand of a comparison
+abbrev pub comparison_rest : List Tail → List Mark
+comparison_rest [] = node phrases.more_cmp 1
+comparison_rest (t ∷ ts) = node phrases.more_cmp 0 ++ tail_outline t
 
 abbrev pub some_args_outline : Option Args → List Mark
 some_args_outline None = node phrases.some_args 1

@@ -4,8 +4,9 @@
 //! A chain of one level is flat: its first operand, and then each operator with its operand. A tree
 //! keeps the whole token of each name, literal, operator, heading keyword and opening bracket.
 
-use crate::Token;
+use crate::{Terminal, Token};
 
+mod build;
 
 /// The levels of operators, from the loosest. The operand of a level is an expression of the next one, and
 /// that of the last level a prefix.
@@ -27,6 +28,55 @@ pub enum Level {
     Smashes,
     /// `prefix ('&' prefix)*`
     Merges,
+}
+
+impl Level {
+    ghost use Rattle.std.specs.Prelude.{◌≡◌};
+    ghost use Rattle.hera_syntax.specs.Operators.{below, operators_of};
+
+    /// The level of its operands, or `None` where they are prefixes.
+    pub fn below(self) -> Option<Level>
+        ensures { result ≡ below self }
+    {
+        match self {
+            Level::Whens => Some(Level::Ors),
+            Level::Ors => Some(Level::Ands),
+            Level::Ands => Some(Level::Comparisons),
+            Level::Comparisons => Some(Level::Sums),
+            Level::Sums => Some(Level::Terms),
+            Level::Terms => Some(Level::Smashes),
+            Level::Smashes => Some(Level::Merges),
+            Level::Merges => None,
+        }
+    }
+
+    /// The terminals of its operators.
+    pub fn operators(self) -> &'static [Terminal]
+        ensures { result.now ≡ operators_of self }
+    {
+        match self {
+            Level::Whens => &[Terminal::Key(24)],
+            Level::Ors => &[Terminal::Punct(25)],
+            Level::Ands => &[Terminal::Punct(24)],
+            Level::Comparisons => &[
+                Terminal::Punct(11),
+                Terminal::Punct(12),
+                Terminal::Punct(13),
+                Terminal::Punct(14),
+                Terminal::Punct(15),
+                Terminal::Punct(16),
+                Terminal::Key(14),
+            ],
+            Level::Sums => &[Terminal::Punct(17), Terminal::Punct(18)],
+            Level::Terms => &[
+                Terminal::Punct(19),
+                Terminal::Punct(20),
+                Terminal::Punct(21),
+            ],
+            Level::Smashes => &[Terminal::Punct(22)],
+            Level::Merges => &[Terminal::Punct(23)],
+        }
+    }
 }
 
 /// An expression of one level: its first operand, and then each operator with its operand.
