@@ -13,67 +13,23 @@ use Rattle.hera_syntax.specs.declared.expr.Atoms.{Atoms, Atoms', out-Atoms, Row_
 use Rattle.hera_syntax.specs.declared.expr.Atom.{Atom, Atom', out-Atom}
 use Rattle.hera_syntax.specs.declared.expr.Lines.{Lines, Lines', out-Lines, Row_of-Line, end_of-Line, more_of-Line, items-the_row-Line}
 use Rattle.hera_syntax.specs.declared.expr.Line.{Line, Line', out-Line}
-use Rattle.hera_syntax.specs.declared.expr.Expr.{Expr, Expr', out-Expr, Row_of-WhenTail, end_of-WhenTail, more_of-WhenTail, items-the_row-WhenTail}
-use Rattle.hera_syntax.specs.declared.expr.WhenTail.{WhenTail, WhenTail', out-WhenTail}
-use Rattle.hera_syntax.specs.declared.expr.Or.{Or, Or', out-Or, Row_of-OrTail, end_of-OrTail, more_of-OrTail, items-the_row-OrTail}
-use Rattle.hera_syntax.specs.declared.expr.OrTail.{OrTail, OrTail', out-OrTail}
-use Rattle.hera_syntax.specs.declared.expr.And.{And, And', out-And, Row_of-AndTail, end_of-AndTail, more_of-AndTail, items-the_row-AndTail}
-use Rattle.hera_syntax.specs.declared.expr.AndTail.{AndTail, AndTail', out-AndTail}
-use Rattle.hera_syntax.specs.declared.expr.Sum.{Sum, Sum', out-Sum, Row_of-SumTail, end_of-SumTail, more_of-SumTail, items-the_row-SumTail}
-use Rattle.hera_syntax.specs.declared.expr.SumTail.{SumTail, SumTail', out-SumTail}
-use Rattle.hera_syntax.specs.declared.expr.Term.{Term, Term', out-Term, Row_of-TermTail, end_of-TermTail, more_of-TermTail, items-the_row-TermTail}
-use Rattle.hera_syntax.specs.declared.expr.TermTail.{TermTail, TermTail', out-TermTail}
-use Rattle.hera_syntax.specs.declared.expr.Smash.{Smash, Smash', out-Smash, Row_of-SmashTail, end_of-SmashTail, more_of-SmashTail, items-the_row-SmashTail}
-use Rattle.hera_syntax.specs.declared.expr.SmashTail.{SmashTail, SmashTail', out-SmashTail}
-use Rattle.hera_syntax.specs.declared.expr.Merge.{Merge, Merge', out-Merge, Row_of-MergeTail, end_of-MergeTail, more_of-MergeTail, items-the_row-MergeTail}
-use Rattle.hera_syntax.specs.declared.expr.Cmp.{Cmp, Cmp', out-Cmp, Cmp-rest-None', Cmp-rest-Some'}
-use Rattle.hera_syntax.specs.declared.expr.CmpTail.{CmpTail, CmpTail', out-CmpTail}
-use Rattle.hera_syntax.specs.declared.expr.Prime.TheViews as view
+use Rattle.hera_syntax.specs.declared.expr.Level.{Level}
+use Rattle.hera_syntax.specs.declared.expr.Expr.{Expr, Expr', out-Expr, Row_of-Tail, end_of-Tail, more_of-Tail, items-the_row-Tail}
+use Rattle.hera_syntax.specs.declared.expr.Prefix.{Prefix}
+use Rattle.hera_syntax.specs.declared.expr.Operand.TheViews as view
 use Rattle.hera_syntax.specs.declared.expr.Prime.TheVariants as variant
-use Rattle.hera_syntax.specs.declared.expr.Prime.TheViews.{the_lemmas}
+use Rattle.hera_syntax.specs.declared.expr.Operand.TheViews.{the_lemmas}
 use Rattle.hera_meaning.specs.declared.scalars.Scalar.TheVariants.{Int as int_scalar, Bool as bool_scalar, Text as text_scalar}
 use Rattle.hera_meaning.specs.declared.trees.Const.TheVariants.{Scalar as scalar, FailDelta as fail_delta}
 use Rattle.std.specs.Prelude.{true, false}
 use Rattle.hera_rules.specs.declared.words.Word.{Word}
-use Rattle.hera_rules.specs.declared.words.Joint.TheVariants.{When as by_when, And as by_and, Or as by_or}
-use Rattle.hera_rules.specs.Phrases.{literal, named, calling, row, atom, atoms, line, lines, walking, projecting, renaming, pairing, grouping, testing, folding, bulk, part, phrase, Uses, no_use, uses}
-use Rattle.hera_rules.specs.Read.{word_of, int_of, text_of, joint_of, sign_of, part_of, walk_of, pair_of, test_of, fold_of, words_of, renamed_all, aggregates_of, chain_phrase, prefix_phrase, post_phrase, prefix_of_tree, expr_phrase, expr_uses, expr_use, expr_uses_in, or_phrase, or_uses, or_use, or_uses_in, and_phrase, and_uses, and_use, and_uses_in, sum_phrase, sum_uses, sum_use, sum_uses_in, term_phrase, term_uses, term_use, term_uses_in, smash_phrase, smash_uses, smash_use, smash_uses_in, merge_phrase, merge_uses, merge_uses_in, cmp_phrase, cmp_use, cmp_uses_in, prime_phrase, args_phrases, args_rest, phrases_in, args_in, bindings_phrases, bindings_rest, binding_phrase, bindings_words, binding_words, binding_word, bindings_in, atoms_phrases, atoms_rest, atom_phrase, atoms_in, some_atoms, lines_phrases, lines_rest, line_phrase, lines_in, some_lines}
+use Rattle.hera_rules.specs.Phrases.{literal, named, calling, row, atom, atoms, line, lines, walking, projecting, renaming, pairing, grouping, testing, folding, bulk, part, phrase, uses}
+use Rattle.hera_rules.specs.Read.{word_of, int_of, text_of, joint_at, sign_of, part_of, walk_of, pair_of, test_of, fold_of, words_of, renamed_all, aggregates_of, chain_phrase, prefix_of_tree, expr_phrase, expr_uses, expr_uses_in, operand_phrase, prime_phrase, args_phrases, args_rest, phrases_in, args_in, bindings_phrases, bindings_rest, binding_phrase, bindings_words, binding_words, binding_word, bindings_in, atoms_phrases, atoms_rest, atom_phrase, atoms_in, some_atoms, lines_phrases, lines_rest, line_phrase, lines_in, some_lines}
 
-expr_rows : (n : _) (k : Row_of-WhenTail n) → expr_uses k ≡ expr_uses_in (items-the_row-WhenTail n k)
+expr_rows : (level : Level) (n : _) (k : Row_of-Tail n) → expr_uses level k ≡ expr_uses_in level (items-the_row-Tail n k)
 unfolding expr_phrase
-expr_rows n end_of-WhenTail = refl
-expr_rows n (more_of-WhenTail t rest) = ap (λ us. expr_use t us) (expr_rows _ rest)
-
-or_rows : (n : _) (k : Row_of-OrTail n) → or_uses k ≡ or_uses_in (items-the_row-OrTail n k)
-unfolding expr_phrase
-or_rows n end_of-OrTail = refl
-or_rows n (more_of-OrTail t rest) = ap (λ us. or_use t us) (or_rows _ rest)
-
-and_rows : (n : _) (k : Row_of-AndTail n) → and_uses k ≡ and_uses_in (items-the_row-AndTail n k)
-unfolding expr_phrase
-and_rows n end_of-AndTail = refl
-and_rows n (more_of-AndTail t rest) = ap (λ us. and_use t us) (and_rows _ rest)
-
-sum_rows : (n : _) (k : Row_of-SumTail n) → sum_uses k ≡ sum_uses_in (items-the_row-SumTail n k)
-unfolding expr_phrase
-sum_rows n end_of-SumTail = refl
-sum_rows n (more_of-SumTail t rest) = ap (λ us. sum_use t us) (sum_rows _ rest)
-
-term_rows : (n : _) (k : Row_of-TermTail n) → term_uses k ≡ term_uses_in (items-the_row-TermTail n k)
-unfolding expr_phrase
-term_rows n end_of-TermTail = refl
-term_rows n (more_of-TermTail t rest) = ap (λ us. term_use t us) (term_rows _ rest)
-
-smash_rows : (n : _) (k : Row_of-SmashTail n) → smash_uses k ≡ smash_uses_in (items-the_row-SmashTail n k)
-unfolding expr_phrase
-smash_rows n end_of-SmashTail = refl
-smash_rows n (more_of-SmashTail t rest) = ap (λ us. smash_use t us) (smash_rows _ rest)
-
-merge_rows : (n : _) (k : Row_of-MergeTail n) → merge_uses k ≡ merge_uses_in (items-the_row-MergeTail n k)
-unfolding expr_phrase
-merge_rows n end_of-MergeTail = refl
-merge_rows n (more_of-MergeTail sign op p operand field rest) =
-    ap (λ us. uses (joint_of sign.kind) sign.at (prefix_phrase op (post_phrase (prime_phrase operand) field)) us) (merge_rows _ rest)
+expr_rows level n end_of-Tail = refl
+expr_rows level n (more_of-Tail op operand rest) = ap (λ us. uses (joint_at level op.kind) op.at (operand_phrase operand) us) (expr_rows level _ rest)
 
 arg_rows : (n : _) (k : Row_of-Expr n) → args_rest k ≡ phrases_in (items-the_row-Expr n k)
 unfolding expr_phrase
@@ -100,66 +56,17 @@ unfolding expr_phrase
 line_rows w n end_of-Line = refl
 line_rows w n (more_of-Line l rest) = ap (λ us. phrase (line_phrase w l) us) (line_rows w _ rest)
 
-pub expr_phrase-read : (e : Expr) → expr_phrase e ≡ chain_phrase (or_phrase (out-Expr e).first) (expr_uses_in (out-Expr e).rest.items)
+pub expr_phrase-read : (e : Expr) → expr_phrase e ≡ chain_phrase (operand_phrase (out-Expr e).first) (expr_uses_in (out-Expr e).level (out-Expr e).rest.items)
 unfolding expr_phrase
-expr_phrase-read (Expr' first shape rest) = search (rules, the_lemmas, expr_rows)
+expr_phrase-read (Expr' level first shape rest) = search (rules, the_lemmas, expr_rows)
 
-pub expr_use-read : (t : WhenTail) (rest : Uses) → expr_use t rest ≡ uses by_when (out-WhenTail t).op.at (or_phrase (out-WhenTail t).operand) rest
-unfolding expr_phrase out-WhenTail denote.Hole.Carrier.out
-expr_use-read (WhenTail' op operand) rest = refl
-
-pub or_phrase-read : (e : Or) → or_phrase e ≡ chain_phrase (and_phrase (out-Or e).first) (or_uses_in (out-Or e).rest.items)
+pub operand_phrase-Inner : (e : Box Expr Global) → operand_phrase (view.Inner e) ≡ expr_phrase e.value
 unfolding expr_phrase
-or_phrase-read (Or' first shape rest) = search (rules, the_lemmas, or_rows)
+operand_phrase-Inner e = refl
 
-pub or_use-read : (t : OrTail) (rest : Uses) → or_use t rest ≡ uses by_or (out-OrTail t).op.at (and_phrase (out-OrTail t).operand) rest
-unfolding expr_phrase out-OrTail denote.Hole.Carrier.out
-or_use-read (OrTail' op operand) rest = refl
-
-pub and_phrase-read : (e : And) → and_phrase e ≡ chain_phrase (cmp_phrase (out-And e).first) (and_uses_in (out-And e).rest.items)
+pub operand_phrase-Prefix : (p : Prefix) → operand_phrase (view.Prefix p) ≡ prefix_of_tree p
 unfolding expr_phrase
-and_phrase-read (And' first shape rest) = search (rules, the_lemmas, and_rows)
-
-pub and_use-read : (t : AndTail) (rest : Uses) → and_use t rest ≡ uses by_and (out-AndTail t).op.at (cmp_phrase (out-AndTail t).operand) rest
-unfolding expr_phrase out-AndTail denote.Hole.Carrier.out
-and_use-read (AndTail' op operand) rest = refl
-
-pub sum_phrase-read : (e : Sum) → sum_phrase e ≡ chain_phrase (term_phrase (out-Sum e).first) (sum_uses_in (out-Sum e).rest.items)
-unfolding expr_phrase
-sum_phrase-read (Sum' first shape rest) = search (rules, the_lemmas, sum_rows)
-
-pub sum_use-read : (t : SumTail) (rest : Uses) → sum_use t rest ≡ uses (joint_of (out-SumTail t).op.kind) (out-SumTail t).op.at (term_phrase (out-SumTail t).operand) rest
-unfolding expr_phrase out-SumTail denote.Hole.Carrier.out
-sum_use-read (SumTail' op operand) rest = refl
-
-pub term_phrase-read : (e : Term) → term_phrase e ≡ chain_phrase (smash_phrase (out-Term e).first) (term_uses_in (out-Term e).rest.items)
-unfolding expr_phrase
-term_phrase-read (Term' first shape rest) = search (rules, the_lemmas, term_rows)
-
-pub term_use-read : (t : TermTail) (rest : Uses) → term_use t rest ≡ uses (joint_of (out-TermTail t).op.kind) (out-TermTail t).op.at (smash_phrase (out-TermTail t).operand) rest
-unfolding expr_phrase out-TermTail denote.Hole.Carrier.out
-term_use-read (TermTail' op operand) rest = refl
-
-pub smash_phrase-read : (e : Smash) → smash_phrase e ≡ chain_phrase (merge_phrase (out-Smash e).first) (smash_uses_in (out-Smash e).rest.items)
-unfolding expr_phrase
-smash_phrase-read (Smash' first shape rest) = search (rules, the_lemmas, smash_rows)
-
-pub smash_use-read : (t : SmashTail) (rest : Uses) → smash_use t rest ≡ uses (joint_of (out-SmashTail t).op.kind) (out-SmashTail t).op.at (merge_phrase (out-SmashTail t).operand) rest
-unfolding expr_phrase out-SmashTail denote.Hole.Carrier.out
-smash_use-read (SmashTail' op operand) rest = refl
-
-pub merge_phrase-read : (e : Merge) → merge_phrase e ≡ chain_phrase (prefix_of_tree (out-Merge e).first) (merge_uses_in (out-Merge e).rest.items)
-unfolding expr_phrase
-merge_phrase-read (Merge' op p operand field shape rest) = search (rules, the_lemmas, merge_rows)
-
-pub cmp_phrase-read : (e : Cmp) → cmp_phrase e ≡ chain_phrase (sum_phrase (out-Cmp e).first) (cmp_uses_in (out-Cmp e).rest)
-unfolding expr_phrase
-cmp_phrase-read (Cmp' first Cmp-rest-None') = search (rules, the_lemmas)
-cmp_phrase-read (Cmp' first (Cmp-rest-Some' t)) = search (rules, the_lemmas)
-
-pub cmp_use-read : (t : CmpTail) → cmp_use t ≡ uses (joint_of (out-CmpTail t).op.kind) (out-CmpTail t).op.at (sum_phrase (out-CmpTail t).operand) no_use
-unfolding expr_phrase out-CmpTail denote.Hole.Carrier.out
-cmp_use-read (CmpTail' op operand) = refl
+operand_phrase-Prefix p = refl
 
 pub args_phrases-read : (a : Args) → args_phrases a ≡ phrase (expr_phrase (out-Args a).first) (phrases_in (out-Args a).rest.items)
 unfolding expr_phrase
@@ -282,13 +189,8 @@ prime_phrase-Rows w b n c (Some args) = refl
 
 pub ruleset read = (
   expr_phrase-read,
-  or_phrase-read,
-  and_phrase-read,
-  cmp_phrase-read,
-  sum_phrase-read,
-  term_phrase-read,
-  smash_phrase-read,
-  merge_phrase-read,
+  operand_phrase-Inner,
+  operand_phrase-Prefix,
   args_phrases-read,
   bindings_phrases-read,
   bindings_words-read,

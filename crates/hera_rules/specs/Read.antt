@@ -19,34 +19,23 @@ use Rattle.hera_syntax.specs.declared.expr.AggTree.TheVariants.{Count, Of}
 use Rattle.hera_syntax.specs.declared.expr.NamedAgg.{NamedAgg}
 use Rattle.hera_syntax.specs.declared.expr.NamedAggs.{NamedAggs}
 use Rattle.hera_syntax.specs.declared.expr.Args.{Args, Args', Row_of-Expr, end_of-Expr, more_of-Expr}
-use Rattle.hera_syntax.specs.declared.expr.Expr.{Expr, Expr', Row_of-WhenTail, end_of-WhenTail, more_of-WhenTail}
-use Rattle.hera_syntax.specs.declared.expr.Or.{Or, Or', Row_of-OrTail, end_of-OrTail, more_of-OrTail}
-use Rattle.hera_syntax.specs.declared.expr.And.{And, And', Row_of-AndTail, end_of-AndTail, more_of-AndTail}
-use Rattle.hera_syntax.specs.declared.expr.Sum.{Sum, Sum', Row_of-SumTail, end_of-SumTail, more_of-SumTail}
-use Rattle.hera_syntax.specs.declared.expr.Term.{Term, Term', Row_of-TermTail, end_of-TermTail, more_of-TermTail}
-use Rattle.hera_syntax.specs.declared.expr.Smash.{Smash, Smash', Row_of-SmashTail, end_of-SmashTail, more_of-SmashTail}
-use Rattle.hera_syntax.specs.declared.expr.Merge.{Merge, Merge', Row_of-MergeTail, end_of-MergeTail, more_of-MergeTail}
+use Rattle.hera_syntax.specs.declared.expr.Level.{Level}
+use Rattle.hera_syntax.specs.declared.expr.Level.TheVariants as levels
+use Rattle.hera_syntax.specs.declared.expr.Expr.{Expr, Expr', Row_of-Tail, end_of-Tail, more_of-Tail}
+use Rattle.hera_syntax.specs.declared.expr.Operand.{Operand, Inner', Prefix'}
+use Rattle.hera_syntax.specs.declared.expr.Tail.{Tail}
 use Rattle.hera_syntax.specs.declared.expr.Bindings.{Bindings, Bindings', Row_of-Binding, end_of-Binding, more_of-Binding}
 use Rattle.hera_syntax.specs.declared.expr.Atoms.{Atoms, Atoms', Row_of-Atom, end_of-Atom, more_of-Atom}
 use Rattle.hera_syntax.specs.declared.expr.Lines.{Lines, Lines', Row_of-Line, end_of-Line, more_of-Line}
-use Rattle.hera_syntax.specs.declared.expr.WhenTail.{WhenTail, WhenTail'}
-use Rattle.hera_syntax.specs.declared.expr.OrTail.{OrTail, OrTail'}
-use Rattle.hera_syntax.specs.declared.expr.AndTail.{AndTail, AndTail'}
-use Rattle.hera_syntax.specs.declared.expr.SumTail.{SumTail, SumTail'}
-use Rattle.hera_syntax.specs.declared.expr.TermTail.{TermTail, TermTail'}
-use Rattle.hera_syntax.specs.declared.expr.SmashTail.{SmashTail, SmashTail'}
-use Rattle.hera_syntax.specs.declared.expr.CmpTail.{CmpTail, CmpTail'}
 use Rattle.hera_syntax.specs.declared.expr.Binding.{Binding, Binding'}
 use Rattle.hera_syntax.specs.declared.expr.Atom.{Atom, Atom'}
 use Rattle.hera_syntax.specs.declared.expr.Line.{Line, Line'}
-use Rattle.hera_syntax.specs.declared.expr.MergeTail.{MergeTail}
 use Rattle.hera_syntax.specs.declared.expr.Prefix.{Prefix}
 use Rattle.hera_syntax.specs.declared.expr.Post.{Post}
-use Rattle.hera_syntax.specs.declared.expr.Cmp.{Cmp, Cmp', Held-Cmp-rest, Cmp-rest-None', Cmp-rest-Some'}
 use Rattle.hera_syntax.specs.declared.expr.Prime.{Prime, Int, Text, True, False, Fail, Name, Call', Paren', Row', Delta', Rows', Walk', Project', Rename', Pair', Group', Measure', Fold', Bulk', Part', Held-Prime-Call-2, Prime-Call-2-None', Prime-Call-2-Some', Held-Prime-Delta-1, Prime-Delta-1-None', Prime-Delta-1-Some', Held-Prime-Rows-4, Prime-Rows-4-None', Prime-Rows-4-Some'}
 use Rattle.hera_rules.specs.declared.words.Word.{Word}
-use Rattle.hera_rules.specs.declared.words.Walk.{Walk}
-use Rattle.hera_rules.specs.declared.words.Walk.TheVariants.{Keeping, Mapping}
+use Rattle.hera_rules.specs.declared.words.WalkKind.{WalkKind}
+use Rattle.hera_rules.specs.declared.words.WalkKind.TheVariants.{Keeping, Mapping}
 use Rattle.hera_rules.specs.declared.words.Pair.{Pair as Pair_kind}
 use Rattle.hera_rules.specs.declared.words.Pair.TheVariants.{Sets, Join as as_join}
 use Rattle.hera_rules.specs.declared.words.Fold.{Fold}
@@ -102,6 +91,13 @@ abbrev pub joint_of : TokenKind → Joint
 joint_of (punct_token k) = joint_numbered k
 joint_of _ = Member
 
+-- the operator of a link of a chain of this level
+abbrev pub joint_at : Level → TokenKind → Joint
+joint_at levels.Whens t = by_when
+joint_at levels.Ors t = by_or
+joint_at levels.Ands t = by_and
+joint_at _ t = joint_of t
+
 -- `-`, `!`
 abbrev pub prefix_of : TokenKind → Prefix_kind
 prefix_of t = if nat_eq (punct_of t) 18 then negated else denied
@@ -115,7 +111,7 @@ abbrev pub part_of : TokenKind → Sign
 part_of t = if nat_eq (key_of t) 43 then Plus else Minus
 
 -- `select`, `map`
-abbrev pub walk_of : TokenKind → Walk
+abbrev pub walk_of : TokenKind → WalkKind
 walk_of t = if nat_eq (key_of t) 26 then Keeping else Mapping
 
 -- `union`, `minus`, `inter`, `join`
@@ -172,82 +168,15 @@ post_phrase p (Some t) = attribute p (word_of t)
 
 unfoldable mutual
   pub expr_phrase : Expr → Phrase
-  expr_phrase (Expr' first shape rest) = chain_phrase (or_phrase first) (expr_uses rest)
+  expr_phrase (Expr' level first shape rest) = chain_phrase (operand_phrase first) (expr_uses level rest)
 
-  pub expr_uses : {m : _} → Row_of-WhenTail m → Uses
-  expr_uses end_of-WhenTail = no_use
-  expr_uses (more_of-WhenTail t rest) = expr_use t (expr_uses rest)
+  pub expr_uses : {m : _} → Level → Row_of-Tail m → Uses
+  expr_uses level end_of-Tail = no_use
+  expr_uses level (more_of-Tail op operand rest) = uses (joint_at level op.kind) op.at (operand_phrase operand) (expr_uses level rest)
 
-  pub expr_use : WhenTail → Uses → Uses
-  expr_use (WhenTail' op operand) rest = uses by_when op.at (or_phrase operand) rest
-
-  pub or_phrase : Or → Phrase
-  or_phrase (Or' first shape rest) = chain_phrase (and_phrase first) (or_uses rest)
-
-  pub or_uses : {m : _} → Row_of-OrTail m → Uses
-  or_uses end_of-OrTail = no_use
-  or_uses (more_of-OrTail t rest) = or_use t (or_uses rest)
-
-  pub or_use : OrTail → Uses → Uses
-  or_use (OrTail' op operand) rest = uses by_or op.at (and_phrase operand) rest
-
-  pub and_phrase : And → Phrase
-  and_phrase (And' first shape rest) = chain_phrase (cmp_phrase first) (and_uses rest)
-
-  pub and_uses : {m : _} → Row_of-AndTail m → Uses
-  and_uses end_of-AndTail = no_use
-  and_uses (more_of-AndTail t rest) = and_use t (and_uses rest)
-
-  pub and_use : AndTail → Uses → Uses
-  and_use (AndTail' op operand) rest = uses by_and op.at (cmp_phrase operand) rest
-
-  pub sum_phrase : Sum → Phrase
-  sum_phrase (Sum' first shape rest) = chain_phrase (term_phrase first) (sum_uses rest)
-
-  pub sum_uses : {m : _} → Row_of-SumTail m → Uses
-  sum_uses end_of-SumTail = no_use
-  sum_uses (more_of-SumTail t rest) = sum_use t (sum_uses rest)
-
-  pub sum_use : SumTail → Uses → Uses
-  sum_use (SumTail' op operand) rest = uses (joint_of op.kind) op.at (term_phrase operand) rest
-
-  pub term_phrase : Term → Phrase
-  term_phrase (Term' first shape rest) = chain_phrase (smash_phrase first) (term_uses rest)
-
-  pub term_uses : {m : _} → Row_of-TermTail m → Uses
-  term_uses end_of-TermTail = no_use
-  term_uses (more_of-TermTail t rest) = term_use t (term_uses rest)
-
-  pub term_use : TermTail → Uses → Uses
-  term_use (TermTail' op operand) rest = uses (joint_of op.kind) op.at (smash_phrase operand) rest
-
-  pub smash_phrase : Smash → Phrase
-  smash_phrase (Smash' first shape rest) = chain_phrase (merge_phrase first) (smash_uses rest)
-
-  pub smash_uses : {m : _} → Row_of-SmashTail m → Uses
-  smash_uses end_of-SmashTail = no_use
-  smash_uses (more_of-SmashTail t rest) = smash_use t (smash_uses rest)
-
-  pub smash_use : SmashTail → Uses → Uses
-  smash_use (SmashTail' op operand) rest = uses (joint_of op.kind) op.at (merge_phrase operand) rest
-
-  pub merge_phrase : Merge → Phrase
-  merge_phrase (Merge' op p operand field shape rest) = chain_phrase (prefix_phrase op (post_phrase (prime_phrase operand) field)) (merge_uses rest)
-
-  pub merge_uses : {m : _} → Row_of-MergeTail m → Uses
-  merge_uses end_of-MergeTail = no_use
-  merge_uses (more_of-MergeTail sign op p operand field rest) =
-      uses (joint_of sign.kind) sign.at (prefix_phrase op (post_phrase (prime_phrase operand) field)) (merge_uses rest)
-
-  pub cmp_phrase : Cmp → Phrase
-  cmp_phrase (Cmp' first rest) = chain_phrase (sum_phrase first) (cmp_uses rest)
-
-  pub cmp_uses : Held-Cmp-rest → Uses
-  cmp_uses Cmp-rest-None' = no_use
-  cmp_uses (Cmp-rest-Some' t) = cmp_use t
-
-  pub cmp_use : CmpTail → Uses
-  cmp_use (CmpTail' op operand) = uses (joint_of op.kind) op.at (sum_phrase operand) no_use
+  pub operand_phrase : Operand → Phrase
+  operand_phrase (Inner' p e) = expr_phrase e
+  operand_phrase (Prefix' op p operand field) = prefix_phrase op (post_phrase (prime_phrase operand) field)
 
   pub args_phrases : Args → Phrases
   args_phrases (Args' first shape rest) = phrase (expr_phrase first) (args_rest rest)
@@ -340,40 +269,12 @@ prefix_of_tree p = prefix_phrase p.op (post_of p.operand)
 
 -- ---- the rest of a chain or a list in a Vec
 
-abbrev pub expr_uses_in : List WhenTail → Uses
-expr_uses_in [] = no_use
-expr_uses_in (t ∷ ts) = expr_use t (expr_uses_in ts)
+abbrev pub expr_use : Level → Tail → Uses → Uses
+expr_use level t rest = uses (joint_at level t.op.kind) t.op.at (operand_phrase t.operand) rest
 
-abbrev pub or_uses_in : List OrTail → Uses
-or_uses_in [] = no_use
-or_uses_in (t ∷ ts) = or_use t (or_uses_in ts)
-
-abbrev pub and_uses_in : List AndTail → Uses
-and_uses_in [] = no_use
-and_uses_in (t ∷ ts) = and_use t (and_uses_in ts)
-
-abbrev pub sum_uses_in : List SumTail → Uses
-sum_uses_in [] = no_use
-sum_uses_in (t ∷ ts) = sum_use t (sum_uses_in ts)
-
-abbrev pub term_uses_in : List TermTail → Uses
-term_uses_in [] = no_use
-term_uses_in (t ∷ ts) = term_use t (term_uses_in ts)
-
-abbrev pub smash_uses_in : List SmashTail → Uses
-smash_uses_in [] = no_use
-smash_uses_in (t ∷ ts) = smash_use t (smash_uses_in ts)
-
-abbrev pub merge_use : MergeTail → Uses → Uses
-merge_use t rest = uses (joint_of t.op.kind) t.op.at (prefix_of_tree t.operand) rest
-
-abbrev pub merge_uses_in : List MergeTail → Uses
-merge_uses_in [] = no_use
-merge_uses_in (t ∷ ts) = merge_use t (merge_uses_in ts)
-
-abbrev pub cmp_uses_in : Option CmpTail → Uses
-cmp_uses_in None = no_use
-cmp_uses_in (Some t) = cmp_use t
+abbrev pub expr_uses_in : Level → List Tail → Uses
+expr_uses_in level [] = no_use
+expr_uses_in level (t ∷ ts) = expr_use level t (expr_uses_in level ts)
 
 abbrev pub phrases_in : List Expr → Phrases
 phrases_in [] = no_phrase

@@ -1,5 +1,5 @@
 -- Trees of one outline have one phrase: expressions.
-use Rattle.std.proofs.Common.{◌≡◌, ℕ, List, [], ◌∷◌, ◌++◌, refl, ap, ◌∙◌, sym, arith, append_assoc}
+use Rattle.std.proofs.Common.{◌≡◌, ℕ, ◌+◌, ◌<◌, subst, List, [], ◌∷◌, ◌++◌, refl, ap, ◌∙◌, sym, arith, append_assoc}
 use Rattle.std.specs.Prelude.{Option, Some, None, map}
 use Rattle.std.specs.List.{flat_map}
 use Rattle.hera_syntax.specs.declared.token.Token.{Token}
@@ -11,42 +11,30 @@ use Rattle.hera_syntax.specs.declared.expr.AggTree.TheVariants.{Count, Of}
 use Rattle.hera_syntax.specs.declared.expr.NamedAgg.{NamedAgg}
 use Rattle.hera_syntax.specs.declared.expr.NamedAggs.{NamedAggs}
 use Rattle.hera_syntax.specs.declared.expr.Args.{Args, Args', Row_of-Expr, end_of-Expr, more_of-Expr}
-use Rattle.hera_syntax.specs.declared.expr.Expr.{Expr, Expr', Row_of-WhenTail, end_of-WhenTail, more_of-WhenTail}
-use Rattle.hera_syntax.specs.declared.expr.Or.{Or, Or', Row_of-OrTail, end_of-OrTail, more_of-OrTail}
-use Rattle.hera_syntax.specs.declared.expr.And.{And, And', Row_of-AndTail, end_of-AndTail, more_of-AndTail}
-use Rattle.hera_syntax.specs.declared.expr.Sum.{Sum, Sum', Row_of-SumTail, end_of-SumTail, more_of-SumTail}
-use Rattle.hera_syntax.specs.declared.expr.Term.{Term, Term', Row_of-TermTail, end_of-TermTail, more_of-TermTail}
-use Rattle.hera_syntax.specs.declared.expr.Smash.{Smash, Smash', Row_of-SmashTail, end_of-SmashTail, more_of-SmashTail}
-use Rattle.hera_syntax.specs.declared.expr.Merge.{Merge, Merge', Row_of-MergeTail, end_of-MergeTail, more_of-MergeTail}
+use Rattle.hera_syntax.specs.declared.expr.Level.{Level}
+use Rattle.hera_syntax.specs.declared.expr.Level.TheVariants as levels
+use Rattle.hera_syntax.specs.declared.expr.Expr.{Expr, Expr', Row_of-Tail, end_of-Tail, more_of-Tail}
+use Rattle.hera_syntax.specs.declared.expr.Operand.{Operand, Inner', Prefix'}
 use Rattle.hera_syntax.specs.declared.expr.Bindings.{Bindings, Bindings', Row_of-Binding, end_of-Binding, more_of-Binding}
 use Rattle.hera_syntax.specs.declared.expr.Atoms.{Atoms, Atoms', Row_of-Atom, end_of-Atom, more_of-Atom}
 use Rattle.hera_syntax.specs.declared.expr.Lines.{Lines, Lines', Row_of-Line, end_of-Line, more_of-Line}
-use Rattle.hera_syntax.specs.declared.expr.WhenTail.{WhenTail'}
-use Rattle.hera_syntax.specs.declared.expr.OrTail.{OrTail'}
-use Rattle.hera_syntax.specs.declared.expr.AndTail.{AndTail'}
-use Rattle.hera_syntax.specs.declared.expr.SumTail.{SumTail'}
-use Rattle.hera_syntax.specs.declared.expr.TermTail.{TermTail'}
-use Rattle.hera_syntax.specs.declared.expr.SmashTail.{SmashTail'}
-use Rattle.hera_syntax.specs.declared.expr.CmpTail.{CmpTail'}
 use Rattle.hera_syntax.specs.declared.expr.Binding.{Binding'}
 use Rattle.hera_syntax.specs.declared.expr.Atom.{Atom, Atom'}
 use Rattle.hera_syntax.specs.declared.expr.Line.{Line, Line'}
-use Rattle.hera_syntax.specs.declared.expr.Cmp.{Cmp, Cmp', Held-Cmp-rest, Cmp-rest-None', Cmp-rest-Some'}
 use Rattle.hera_syntax.specs.declared.expr.Prime.{Prime, Int, Text, True, False, Fail, Name, Call', Paren', Row', Delta', Rows', Walk', Project', Rename', Pair', Group', Measure', Fold', Bulk', Part', Held-Prime-Call-2, Prime-Call-2-None', Prime-Call-2-Some', Held-Prime-Delta-1, Prime-Delta-1-None', Prime-Delta-1-Some', Held-Prime-Rows-4, Prime-Rows-4-None', Prime-Rows-4-Some'}
 use Rattle.hera_syntax.specs.Grammar as phrases
 use Rattle.hera_syntax.specs.Grammar.{Production}
-use Rattle.hera_syntax.specs.Outline.{Mark, at_node, kept, left_out, name_row, names_outline, renaming_outline, renaming_row, renamings_outline, agg_outline, named_agg_outline, agg_row, aggs_outline, prefix_start, field_outline}
+use Rattle.hera_syntax.specs.Outline.{Mark, at_node, kept, left_out, production_of, more_of, alternative_of, chain_end, tails_outline, name_row, names_outline, renaming_outline, renaming_row, renamings_outline, agg_outline, named_agg_outline, agg_row, aggs_outline, prefix_start, field_outline}
 use Rattle.hera_rules.specs.declared.words.Word.{Word}
 use Rattle.hera_rules.specs.declared.words.Renamed.{Renamed}
 use Rattle.hera_rules.specs.declared.words.Measured.{Measured}
 use Rattle.hera_rules.specs.declared.words.Measured.TheVariants.{Of as folded}
 use Rattle.hera_rules.specs.declared.words.Aggregate.{Aggregate}
-use Rattle.hera_rules.specs.declared.words.Joint.TheVariants.{When as by_when, And as by_and, Or as by_or}
 use Rattle.hera_meaning.specs.declared.scalars.Scalar.TheVariants.{Int as int_scalar, Text as text_scalar}
 use Rattle.hera_meaning.specs.declared.trees.Const.TheVariants.{Scalar as scalar}
-use Rattle.hera_rules.specs.Phrases.{literal, named, calling, row, atom, atoms, line, lines, walking, projecting, renaming, pairing, grouping, testing, folding, bulk, part, Phrases, phrase, no_use, uses}
-use Rattle.hera_rules.specs.Read.{word_of, int_of, text_of, joint_of, sign_of, part_of, walk_of, pair_of, test_of, fold_of, words_of, renamed_of, renamed_all, measured_of, aggregate_of, aggregates_of, chain_phrase, prefix_phrase, post_phrase, expr_phrase, expr_uses, or_phrase, or_uses, and_phrase, and_uses, sum_phrase, sum_uses, term_phrase, term_uses, smash_phrase, smash_uses, merge_phrase, merge_uses, cmp_phrase, cmp_uses, args_phrases, args_rest, bindings_phrases, bindings_rest, bindings_words, binding_words, atoms_phrases, atoms_rest, atom_phrase, lines_phrases, lines_rest, line_phrase, call_args, delta_atoms, rows_lines, prime_phrase}
-use Rattle.hera_sound.proofs.Out.{expr_out, whens_out, or_out, ors_out, and_out, ands_out, sum_out, sums_out, term_out, terms_out, smash_out, smashes_out, merge_out, merges_out, cmp_out, cmp_more, args_out, args_more, bindings_out, bindings_more, atoms_out, atoms_more, lines_out, lines_more, atom_out, line_out, call_out, delta_out, rows_out, prime_out}
+use Rattle.hera_rules.specs.Phrases.{literal, named, calling, row, atom, atoms, line, lines, walking, projecting, renaming, pairing, grouping, testing, folding, bulk, part, Phrases, phrase, Uses, uses}
+use Rattle.hera_rules.specs.Read.{word_of, int_of, text_of, joint_at, sign_of, part_of, walk_of, pair_of, test_of, fold_of, words_of, renamed_of, renamed_all, measured_of, aggregate_of, aggregates_of, chain_phrase, prefix_phrase, post_phrase, expr_phrase, expr_uses, operand_phrase, args_phrases, args_rest, bindings_phrases, bindings_rest, bindings_words, binding_words, atoms_phrases, atoms_rest, atom_phrase, lines_phrases, lines_rest, line_phrase, call_args, delta_atoms, rows_lines, prime_phrase}
+use Rattle.hera_sound.proofs.Out.{expr_out, tails_out, operand_out, args_out, args_more, bindings_out, bindings_more, atoms_out, atoms_more, lines_out, lines_more, atom_out, line_out, call_out, delta_out, rows_out, prime_out}
 
 -- two readings from one list of marks: what was read is one, and what is left is one
 pub record Same {A : Type 0} (a b : A) (r s : List Mark) : Type 0 where
@@ -158,148 +146,145 @@ aggs_fixed a b r s h =
 
 -- ---- expressions
 
+-- the level of a chain by its production
+level_told : Production → Level
+level_told (phrases.level phrases.whens) = levels.Whens
+level_told (phrases.level phrases.ors) = levels.Ors
+level_told (phrases.level phrases.ands) = levels.Ands
+level_told (phrases.level phrases.sums) = levels.Sums
+level_told (phrases.level phrases.terms) = levels.Terms
+level_told (phrases.level phrases.smashes) = levels.Smashes
+level_told (phrases.level phrases.merges) = levels.Merges
+level_told _ = levels.Comparisons
+
+told : (level : Level) → level_told (production_of level) ≡ level
+unfolding level_told
+told levels.Whens = refl
+told levels.Ors = refl
+told levels.Ands = refl
+told levels.Sums = refl
+told levels.Terms = refl
+told levels.Smashes = refl
+told levels.Merges = refl
+told levels.Comparisons = refl
+
+productions_same : {s t : Production} {k j : ℕ} {xs ys : List Mark} → at_node s k ∷ xs ≡ at_node t j ∷ ys → s ≡ t
+productions_same h = cc
+
+-- a chain is no prefix
+no_prefix : (level : Level) {k j : ℕ} {xs ys : List Mark} → at_node (production_of level) k ∷ xs ≡ at_node phrases.prefix j ∷ ys → ⊥
+no_prefix levels.Whens h = absurd cc
+no_prefix levels.Ors h = absurd cc
+no_prefix levels.Ands h = absurd cc
+no_prefix levels.Sums h = absurd cc
+no_prefix levels.Terms h = absurd cc
+no_prefix levels.Smashes h = absurd cc
+no_prefix levels.Merges h = absurd cc
+no_prefix levels.Comparisons h = absurd cc
+
+-- how many tails there are
+abbrev many : {m : _} → Row_of-Tail m → ℕ
+many end_of-Tail = 0
+many (more_of-Tail op operand rest) = 1 + many rest
+
+-- the end of a chain with what stands behind it
+abbrev end_out : {m : _} → Level → Row_of-Tail m → List Mark → List Mark
+end_out level rest r = chain_end level (tails_outline rest) ++ r
+
+-- no further tail begins the marks
+abbrev Closed : Production → List Mark → Type 0
+Closed t xs = (ys : List Mark) → xs ≡ at_node t 0 ∷ ys → ⊥
+
+-- where one chain has fewer tails, its end is not the beginning of a further one
+record Fit (t : Production) (a b : ℕ) (x y : List Mark) : Type 0 where
+  left : a < b → Closed t x
+  right : b < a → Closed t y
+
+end_closed : (t : Production) (r : List Mark) → Closed t (at_node t 1 ∷ r)
+end_closed t r ys h = let e = numbers_same h in absurd (omega (arith, e))
+
+fit_closed : (t : Production) {a b : ℕ} (r s : List Mark) → Fit t a b (at_node t 1 ∷ r) (at_node t 1 ∷ s)
+fit_closed t r s = record { left = λ h. end_closed t r; right = λ h. end_closed t s }
+
+fits : (l : Level) {m : _} {m' : _} (k : Row_of-Tail m) (j : Row_of-Tail m') (r s : List Mark) → alternative_of l (tails_outline k) ≡ alternative_of l (tails_outline j) → Fit (more_of l) (many k) (many j) (end_out l k r) (end_out l j s)
+fits levels.Whens k j r s n = fit_closed (phrases.more phrases.whens) r s
+fits levels.Ors k j r s n = fit_closed (phrases.more phrases.ors) r s
+fits levels.Ands k j r s n = fit_closed (phrases.more phrases.ands) r s
+fits levels.Sums k j r s n = fit_closed (phrases.more phrases.sums) r s
+fits levels.Terms k j r s n = fit_closed (phrases.more phrases.terms) r s
+fits levels.Smashes k j r s n = fit_closed (phrases.more phrases.smashes) r s
+fits levels.Merges k j r s n = fit_closed (phrases.more phrases.merges) r s
+fits levels.Comparisons end_of-Tail end_of-Tail r s n = fit_closed phrases.more_cmp r s
+fits levels.Comparisons end_of-Tail (more_of-Tail v q end_of-Tail) r s n = record { left = λ h. end_closed phrases.more_cmp r; right = λ h. absurd (omega (arith, h)) }
+fits levels.Comparisons end_of-Tail (more_of-Tail v q (more_of-Tail v2 q2 j)) r s n = absurd (omega (arith, n))
+fits levels.Comparisons (more_of-Tail w p end_of-Tail) end_of-Tail r s n = record { left = λ h. absurd (omega (arith, h)); right = λ h. end_closed phrases.more_cmp s }
+fits levels.Comparisons (more_of-Tail w p end_of-Tail) (more_of-Tail v q end_of-Tail) r s n = record { left = λ h. absurd (omega (arith, h)); right = λ h. absurd (omega (arith, h)) }
+fits levels.Comparisons (more_of-Tail w p end_of-Tail) (more_of-Tail v q (more_of-Tail v2 q2 j)) r s n = absurd (omega (arith, n))
+fits levels.Comparisons (more_of-Tail w p (more_of-Tail w2 p2 k)) end_of-Tail r s n = absurd (omega (arith, n))
+fits levels.Comparisons (more_of-Tail w p (more_of-Tail w2 p2 k)) (more_of-Tail v q end_of-Tail) r s n = absurd (omega (arith, n))
+fits levels.Comparisons (more_of-Tail w p (more_of-Tail w2 p2 k)) (more_of-Tail v q (more_of-Tail v2 q2 j)) r s n = fit_closed phrases.more_cmp r s
+
+ends_same : (l : Level) {m : _} {m' : _} (k : Row_of-Tail m) (j : Row_of-Tail m') (r s : List Mark) → many k ≡ many j → end_out l k r ≡ end_out l j s → r ≡ s
+ends_same levels.Whens k j r s n h = tail_same h
+ends_same levels.Ors k j r s n h = tail_same h
+ends_same levels.Ands k j r s n h = tail_same h
+ends_same levels.Sums k j r s n h = tail_same h
+ends_same levels.Terms k j r s n h = tail_same h
+ends_same levels.Smashes k j r s n h = tail_same h
+ends_same levels.Merges k j r s n h = tail_same h
+ends_same levels.Comparisons end_of-Tail end_of-Tail r s n h = tail_same h
+ends_same levels.Comparisons end_of-Tail (more_of-Tail v q j) r s n h = absurd (omega (arith, n))
+ends_same levels.Comparisons (more_of-Tail w p k) end_of-Tail r s n h = absurd (omega (arith, n))
+ends_same levels.Comparisons (more_of-Tail w p end_of-Tail) (more_of-Tail v q end_of-Tail) r s n h = h
+ends_same levels.Comparisons (more_of-Tail w p end_of-Tail) (more_of-Tail v q (more_of-Tail v2 q2 j)) r s n h = absurd (omega (arith, n))
+ends_same levels.Comparisons (more_of-Tail w p (more_of-Tail w2 p2 k)) (more_of-Tail v q end_of-Tail) r s n h = absurd (omega (arith, n))
+ends_same levels.Comparisons (more_of-Tail w p (more_of-Tail w2 p2 k)) (more_of-Tail v q (more_of-Tail v2 q2 j)) r s n h = tail_same h
+
+record SameTails (us vs : Uses) (a b : ℕ) (r s : List Mark) : Type 0 where
+  same : us ≡ vs
+  number : a ≡ b
+  rest : r ≡ s
+
 mutual
   unfolding expr_phrase
 
   pub expr_fixed : (a b : Expr) (r s : List Mark) → expr_out a r ≡ expr_out b s → Same (expr_phrase a) (expr_phrase b) r s
-  expr_fixed (Expr' f shape k) (Expr' g shape' j) r s h =
-      let a = or_fixed f g (whens_out k (at_node (phrases.more phrases.whens) 1 ∷ r)) (whens_out j (at_node (phrases.more phrases.whens) 1 ∷ s)) (tail_same h) in
-      let b = whens_fixed k j r s a.rest in
-      record { same = ap (λ p. chain_phrase p (expr_uses k)) a.same ∙ ap (λ us. chain_phrase (or_phrase g) us) b.same; rest = b.rest }
+  expr_fixed (Expr' l f shape k) (Expr' l' g shape' j) r s h =
+      let e : l ≡ l' = sym (told l) ∙ ap level_told (productions_same h) ∙ told l' in
+      let a = operand_fixed f g (tails_out (more_of l) k (end_out l k r)) (tails_out (more_of l') j (end_out l' j s)) (tail_same h) in
+      let n = subst (λ x. alternative_of l (tails_outline k) ≡ alternative_of x (tails_outline j)) (sym e) (numbers_same h) in
+      let b = tails_fixed l (more_of l) k j (end_out l k r) (end_out l j s) (fits l k j r s n) (subst (λ x. tails_out (more_of l) k (end_out l k r) ≡ tails_out (more_of x) j (end_out x j s)) (sym e) a.rest) in
+      record { same = ap (λ p. chain_phrase p (expr_uses l k)) a.same ∙ ap (λ us. chain_phrase (operand_phrase g) us) b.same ∙ ap (λ x. chain_phrase (operand_phrase g) (expr_uses x j)) e; rest = ends_same l k j r s b.number b.rest }
 
-  whens_fixed : {m : _} {m' : _} (k : Row_of-WhenTail m) (j : Row_of-WhenTail m') (r s : List Mark) → whens_out k (at_node (phrases.more phrases.whens) 1 ∷ r) ≡ whens_out j (at_node (phrases.more phrases.whens) 1 ∷ s) → Same (expr_uses k) (expr_uses j) r s
-  whens_fixed end_of-WhenTail end_of-WhenTail r s h = record { same = refl; rest = tail_same h }
-  whens_fixed end_of-WhenTail (more_of-WhenTail (WhenTail' v q) j) r s h = absurd cc
-  whens_fixed (more_of-WhenTail (WhenTail' w p) k) end_of-WhenTail r s h = absurd cc
-  whens_fixed (more_of-WhenTail (WhenTail' w p) k) (more_of-WhenTail (WhenTail' v q) j) r s h =
+  tails_fixed : (l : Level) (t : Production) {m : _} {m' : _} (k : Row_of-Tail m) (j : Row_of-Tail m') (x y : List Mark) → Fit t (many k) (many j) x y → tails_out t k x ≡ tails_out t j y → SameTails (expr_uses l k) (expr_uses l j) (many k) (many j) x y
+  tails_fixed l t end_of-Tail end_of-Tail x y c h = record { same = refl; number = refl; rest = h }
+  tails_fixed l t end_of-Tail (more_of-Tail v q j) x y c h = absurd (c.left (omega arith) _ h)
+  tails_fixed l t (more_of-Tail w p k) end_of-Tail x y c h = absurd (c.right (omega arith) _ (sym h))
+  tails_fixed l t (more_of-Tail w p k) (more_of-Tail v q j) x y c h =
       let o = kept_same (tail_same h) in
-      let a = or_fixed p q (whens_out k (at_node (phrases.more phrases.whens) 1 ∷ r)) (whens_out j (at_node (phrases.more phrases.whens) 1 ∷ s)) o.rest in
-      let b = whens_fixed k j r s a.rest in
-      record { same = ap (λ (x : Token). uses by_when x.at (or_phrase p) (expr_uses k)) o.same ∙ ap (λ e. uses by_when v.at e (expr_uses k)) a.same ∙ ap (λ us. uses by_when v.at (or_phrase q) us) b.same; rest = b.rest }
-
-  pub or_fixed : (a b : Or) (r s : List Mark) → or_out a r ≡ or_out b s → Same (or_phrase a) (or_phrase b) r s
-  or_fixed (Or' f shape k) (Or' g shape' j) r s h =
-      let a = and_fixed f g (ors_out k (at_node (phrases.more phrases.ors) 1 ∷ r)) (ors_out j (at_node (phrases.more phrases.ors) 1 ∷ s)) (tail_same h) in
-      let b = ors_fixed k j r s a.rest in
-      record { same = ap (λ p. chain_phrase p (or_uses k)) a.same ∙ ap (λ us. chain_phrase (and_phrase g) us) b.same; rest = b.rest }
-
-  ors_fixed : {m : _} {m' : _} (k : Row_of-OrTail m) (j : Row_of-OrTail m') (r s : List Mark) → ors_out k (at_node (phrases.more phrases.ors) 1 ∷ r) ≡ ors_out j (at_node (phrases.more phrases.ors) 1 ∷ s) → Same (or_uses k) (or_uses j) r s
-  ors_fixed end_of-OrTail end_of-OrTail r s h = record { same = refl; rest = tail_same h }
-  ors_fixed end_of-OrTail (more_of-OrTail (OrTail' v q) j) r s h = absurd cc
-  ors_fixed (more_of-OrTail (OrTail' w p) k) end_of-OrTail r s h = absurd cc
-  ors_fixed (more_of-OrTail (OrTail' w p) k) (more_of-OrTail (OrTail' v q) j) r s h =
-      let o = kept_same (tail_same h) in
-      let a = and_fixed p q (ors_out k (at_node (phrases.more phrases.ors) 1 ∷ r)) (ors_out j (at_node (phrases.more phrases.ors) 1 ∷ s)) o.rest in
-      let b = ors_fixed k j r s a.rest in
-      record { same = ap (λ (x : Token). uses by_or x.at (and_phrase p) (or_uses k)) o.same ∙ ap (λ e. uses by_or v.at e (or_uses k)) a.same ∙ ap (λ us. uses by_or v.at (and_phrase q) us) b.same; rest = b.rest }
-
-  pub and_fixed : (a b : And) (r s : List Mark) → and_out a r ≡ and_out b s → Same (and_phrase a) (and_phrase b) r s
-  and_fixed (And' f shape k) (And' g shape' j) r s h =
-      let a = cmp_fixed f g (ands_out k (at_node (phrases.more phrases.ands) 1 ∷ r)) (ands_out j (at_node (phrases.more phrases.ands) 1 ∷ s)) (tail_same h) in
-      let b = ands_fixed k j r s a.rest in
-      record { same = ap (λ p. chain_phrase p (and_uses k)) a.same ∙ ap (λ us. chain_phrase (cmp_phrase g) us) b.same; rest = b.rest }
-
-  ands_fixed : {m : _} {m' : _} (k : Row_of-AndTail m) (j : Row_of-AndTail m') (r s : List Mark) → ands_out k (at_node (phrases.more phrases.ands) 1 ∷ r) ≡ ands_out j (at_node (phrases.more phrases.ands) 1 ∷ s) → Same (and_uses k) (and_uses j) r s
-  ands_fixed end_of-AndTail end_of-AndTail r s h = record { same = refl; rest = tail_same h }
-  ands_fixed end_of-AndTail (more_of-AndTail (AndTail' v q) j) r s h = absurd cc
-  ands_fixed (more_of-AndTail (AndTail' w p) k) end_of-AndTail r s h = absurd cc
-  ands_fixed (more_of-AndTail (AndTail' w p) k) (more_of-AndTail (AndTail' v q) j) r s h =
-      let o = kept_same (tail_same h) in
-      let a = cmp_fixed p q (ands_out k (at_node (phrases.more phrases.ands) 1 ∷ r)) (ands_out j (at_node (phrases.more phrases.ands) 1 ∷ s)) o.rest in
-      let b = ands_fixed k j r s a.rest in
-      record { same = ap (λ (x : Token). uses by_and x.at (cmp_phrase p) (and_uses k)) o.same ∙ ap (λ e. uses by_and v.at e (and_uses k)) a.same ∙ ap (λ us. uses by_and v.at (cmp_phrase q) us) b.same; rest = b.rest }
-
-  pub sum_fixed : (a b : Sum) (r s : List Mark) → sum_out a r ≡ sum_out b s → Same (sum_phrase a) (sum_phrase b) r s
-  sum_fixed (Sum' f shape k) (Sum' g shape' j) r s h =
-      let a = term_fixed f g (sums_out k (at_node (phrases.more phrases.sums) 1 ∷ r)) (sums_out j (at_node (phrases.more phrases.sums) 1 ∷ s)) (tail_same h) in
-      let b = sums_fixed k j r s a.rest in
-      record { same = ap (λ p. chain_phrase p (sum_uses k)) a.same ∙ ap (λ us. chain_phrase (term_phrase g) us) b.same; rest = b.rest }
-
-  sums_fixed : {m : _} {m' : _} (k : Row_of-SumTail m) (j : Row_of-SumTail m') (r s : List Mark) → sums_out k (at_node (phrases.more phrases.sums) 1 ∷ r) ≡ sums_out j (at_node (phrases.more phrases.sums) 1 ∷ s) → Same (sum_uses k) (sum_uses j) r s
-  sums_fixed end_of-SumTail end_of-SumTail r s h = record { same = refl; rest = tail_same h }
-  sums_fixed end_of-SumTail (more_of-SumTail (SumTail' v q) j) r s h = absurd cc
-  sums_fixed (more_of-SumTail (SumTail' w p) k) end_of-SumTail r s h = absurd cc
-  sums_fixed (more_of-SumTail (SumTail' w p) k) (more_of-SumTail (SumTail' v q) j) r s h =
-      let o = kept_same (tail_same h) in
-      let a = term_fixed p q (sums_out k (at_node (phrases.more phrases.sums) 1 ∷ r)) (sums_out j (at_node (phrases.more phrases.sums) 1 ∷ s)) o.rest in
-      let b = sums_fixed k j r s a.rest in
-      record { same = ap (λ (x : Token). uses (joint_of x.kind) x.at (term_phrase p) (sum_uses k)) o.same ∙ ap (λ e. uses (joint_of v.kind) v.at e (sum_uses k)) a.same ∙ ap (λ us. uses (joint_of v.kind) v.at (term_phrase q) us) b.same; rest = b.rest }
-
-  pub term_fixed : (a b : Term) (r s : List Mark) → term_out a r ≡ term_out b s → Same (term_phrase a) (term_phrase b) r s
-  term_fixed (Term' f shape k) (Term' g shape' j) r s h =
-      let a = smash_fixed f g (terms_out k (at_node (phrases.more phrases.terms) 1 ∷ r)) (terms_out j (at_node (phrases.more phrases.terms) 1 ∷ s)) (tail_same h) in
-      let b = terms_fixed k j r s a.rest in
-      record { same = ap (λ p. chain_phrase p (term_uses k)) a.same ∙ ap (λ us. chain_phrase (smash_phrase g) us) b.same; rest = b.rest }
-
-  terms_fixed : {m : _} {m' : _} (k : Row_of-TermTail m) (j : Row_of-TermTail m') (r s : List Mark) → terms_out k (at_node (phrases.more phrases.terms) 1 ∷ r) ≡ terms_out j (at_node (phrases.more phrases.terms) 1 ∷ s) → Same (term_uses k) (term_uses j) r s
-  terms_fixed end_of-TermTail end_of-TermTail r s h = record { same = refl; rest = tail_same h }
-  terms_fixed end_of-TermTail (more_of-TermTail (TermTail' v q) j) r s h = absurd cc
-  terms_fixed (more_of-TermTail (TermTail' w p) k) end_of-TermTail r s h = absurd cc
-  terms_fixed (more_of-TermTail (TermTail' w p) k) (more_of-TermTail (TermTail' v q) j) r s h =
-      let o = kept_same (tail_same h) in
-      let a = smash_fixed p q (terms_out k (at_node (phrases.more phrases.terms) 1 ∷ r)) (terms_out j (at_node (phrases.more phrases.terms) 1 ∷ s)) o.rest in
-      let b = terms_fixed k j r s a.rest in
-      record { same = ap (λ (x : Token). uses (joint_of x.kind) x.at (smash_phrase p) (term_uses k)) o.same ∙ ap (λ e. uses (joint_of v.kind) v.at e (term_uses k)) a.same ∙ ap (λ us. uses (joint_of v.kind) v.at (smash_phrase q) us) b.same; rest = b.rest }
-
-  pub smash_fixed : (a b : Smash) (r s : List Mark) → smash_out a r ≡ smash_out b s → Same (smash_phrase a) (smash_phrase b) r s
-  smash_fixed (Smash' f shape k) (Smash' g shape' j) r s h =
-      let a = merge_fixed f g (smashes_out k (at_node (phrases.more phrases.smashes) 1 ∷ r)) (smashes_out j (at_node (phrases.more phrases.smashes) 1 ∷ s)) (tail_same h) in
-      let b = smashes_fixed k j r s a.rest in
-      record { same = ap (λ p. chain_phrase p (smash_uses k)) a.same ∙ ap (λ us. chain_phrase (merge_phrase g) us) b.same; rest = b.rest }
-
-  smashes_fixed : {m : _} {m' : _} (k : Row_of-SmashTail m) (j : Row_of-SmashTail m') (r s : List Mark) → smashes_out k (at_node (phrases.more phrases.smashes) 1 ∷ r) ≡ smashes_out j (at_node (phrases.more phrases.smashes) 1 ∷ s) → Same (smash_uses k) (smash_uses j) r s
-  smashes_fixed end_of-SmashTail end_of-SmashTail r s h = record { same = refl; rest = tail_same h }
-  smashes_fixed end_of-SmashTail (more_of-SmashTail (SmashTail' v q) j) r s h = absurd cc
-  smashes_fixed (more_of-SmashTail (SmashTail' w p) k) end_of-SmashTail r s h = absurd cc
-  smashes_fixed (more_of-SmashTail (SmashTail' w p) k) (more_of-SmashTail (SmashTail' v q) j) r s h =
-      let o = kept_same (tail_same h) in
-      let a = merge_fixed p q (smashes_out k (at_node (phrases.more phrases.smashes) 1 ∷ r)) (smashes_out j (at_node (phrases.more phrases.smashes) 1 ∷ s)) o.rest in
-      let b = smashes_fixed k j r s a.rest in
-      record { same = ap (λ (x : Token). uses (joint_of x.kind) x.at (merge_phrase p) (smash_uses k)) o.same ∙ ap (λ e. uses (joint_of v.kind) v.at e (smash_uses k)) a.same ∙ ap (λ us. uses (joint_of v.kind) v.at (merge_phrase q) us) b.same; rest = b.rest }
-
-  merge_fixed : (a b : Merge) (r s : List Mark) → merge_out a r ≡ merge_out b s → Same (merge_phrase a) (merge_phrase b) r s
-  merge_fixed (Merge' op held f field shape k) (Merge' op' held' g field' shape' j) r s h =
-      let o = prefix_fixed op op' (at_node phrases.post 0 ∷ prime_out f (field_outline field ++ merges_out k (at_node (phrases.more phrases.merges) 1 ∷ r))) (at_node phrases.post 0 ∷ prime_out g (field_outline field' ++ merges_out j (at_node (phrases.more phrases.merges) 1 ∷ s))) (tail_same h) in
-      let a = prime_fixed f g (field_outline field ++ merges_out k (at_node (phrases.more phrases.merges) 1 ∷ r)) (field_outline field' ++ merges_out j (at_node (phrases.more phrases.merges) 1 ∷ s)) (tail_same o.rest) in
-      let i = field_fixed field field' (merges_out k (at_node (phrases.more phrases.merges) 1 ∷ r)) (merges_out j (at_node (phrases.more phrases.merges) 1 ∷ s)) a.rest in
-      let b = merges_fixed k j r s i.rest in
+      let a = operand_fixed p q (tails_out t k x) (tails_out t j y) o.rest in
+      let b = tails_fixed l t k j x y (record { left = λ d. c.left (omega (arith, d)); right = λ d. c.right (omega (arith, d)) }) a.rest in
       record {
-        same = ap (λ (x : Option Token). chain_phrase (prefix_phrase x (post_phrase (prime_phrase f) field)) (merge_uses k)) o.same ∙ ap (λ e. chain_phrase (prefix_phrase op' (post_phrase e field)) (merge_uses k)) a.same
-            ∙ ap (λ (x : Option Token). chain_phrase (prefix_phrase op' (post_phrase (prime_phrase g) x)) (merge_uses k)) i.same ∙ ap (λ us. chain_phrase (prefix_phrase op' (post_phrase (prime_phrase g) field')) us) b.same;
+        same = ap (λ (x : Token). uses (joint_at l x.kind) x.at (operand_phrase p) (expr_uses l k)) o.same ∙ ap (λ e. uses (joint_at l v.kind) v.at e (expr_uses l k)) a.same ∙ ap (λ us. uses (joint_at l v.kind) v.at (operand_phrase q) us) b.same;
+        number = ap (λ n. 1 + n) b.number;
         rest = b.rest;
       }
 
-  merges_fixed : {m : _} {m' : _} (k : Row_of-MergeTail m) (j : Row_of-MergeTail m') (r s : List Mark) → merges_out k (at_node (phrases.more phrases.merges) 1 ∷ r) ≡ merges_out j (at_node (phrases.more phrases.merges) 1 ∷ s) → Same (merge_uses k) (merge_uses j) r s
-  merges_fixed end_of-MergeTail end_of-MergeTail r s h = record { same = refl; rest = tail_same h }
-  merges_fixed end_of-MergeTail (more_of-MergeTail v op' held' g field' j) r s h = absurd cc
-  merges_fixed (more_of-MergeTail w op held f field k) end_of-MergeTail r s h = absurd cc
-  merges_fixed (more_of-MergeTail w op held f field k) (more_of-MergeTail v op' held' g field' j) r s h =
-      let z = kept_same (tail_same h) in
-      let o = prefix_fixed op op' (at_node phrases.post 0 ∷ prime_out f (field_outline field ++ merges_out k (at_node (phrases.more phrases.merges) 1 ∷ r))) (at_node phrases.post 0 ∷ prime_out g (field_outline field' ++ merges_out j (at_node (phrases.more phrases.merges) 1 ∷ s))) z.rest in
-      let a = prime_fixed f g (field_outline field ++ merges_out k (at_node (phrases.more phrases.merges) 1 ∷ r)) (field_outline field' ++ merges_out j (at_node (phrases.more phrases.merges) 1 ∷ s)) (tail_same o.rest) in
-      let i = field_fixed field field' (merges_out k (at_node (phrases.more phrases.merges) 1 ∷ r)) (merges_out j (at_node (phrases.more phrases.merges) 1 ∷ s)) a.rest in
-      let b = merges_fixed k j r s i.rest in
+  pub operand_fixed : (a b : Operand) (r s : List Mark) → operand_out a r ≡ operand_out b s → Same (operand_phrase a) (operand_phrase b) r s
+  operand_fixed (Inner' p e) (Inner' q f) r s h = expr_fixed e f r s h
+  operand_fixed (Inner' p (Expr' l f shape k)) (Prefix' None q g field) r s h = absurd (no_prefix l h)
+  operand_fixed (Inner' p (Expr' l f shape k)) (Prefix' (Some t) q g field) r s h = absurd (no_prefix l h)
+  operand_fixed (Prefix' None p f field) (Inner' q (Expr' l g shape k)) r s h = absurd (no_prefix l (sym h))
+  operand_fixed (Prefix' (Some t) p f field) (Inner' q (Expr' l g shape k)) r s h = absurd (no_prefix l (sym h))
+  operand_fixed (Prefix' op held f field) (Prefix' op' held' g field') r s h =
+      let o = prefix_fixed op op' (at_node phrases.post 0 ∷ prime_out f (field_outline field ++ r)) (at_node phrases.post 0 ∷ prime_out g (field_outline field' ++ s)) h in
+      let a = prime_fixed f g (field_outline field ++ r) (field_outline field' ++ s) (tail_same o.rest) in
+      let i = field_fixed field field' r s a.rest in
       record {
-        same = ap (λ (x : Token). uses (joint_of x.kind) x.at (prefix_phrase op (post_phrase (prime_phrase f) field)) (merge_uses k)) z.same
-            ∙ ap (λ (x : Option Token). uses (joint_of v.kind) v.at (prefix_phrase x (post_phrase (prime_phrase f) field)) (merge_uses k)) o.same ∙ ap (λ e. uses (joint_of v.kind) v.at (prefix_phrase op' (post_phrase e field)) (merge_uses k)) a.same
-            ∙ ap (λ (x : Option Token). uses (joint_of v.kind) v.at (prefix_phrase op' (post_phrase (prime_phrase g) x)) (merge_uses k)) i.same ∙ ap (λ us. uses (joint_of v.kind) v.at (prefix_phrase op' (post_phrase (prime_phrase g) field')) us) b.same;
-        rest = b.rest;
+        same = ap (λ (x : Option Token). prefix_phrase x (post_phrase (prime_phrase f) field)) o.same ∙ ap (λ e. prefix_phrase op' (post_phrase e field)) a.same
+            ∙ ap (λ (x : Option Token). prefix_phrase op' (post_phrase (prime_phrase g) x)) i.same;
+        rest = i.rest;
       }
-
-  cmp_fixed : (a b : Cmp) (r s : List Mark) → cmp_out a r ≡ cmp_out b s → Same (cmp_phrase a) (cmp_phrase b) r s
-  cmp_fixed (Cmp' f k) (Cmp' g j) r s h =
-      let a = sum_fixed f g (cmp_more k r) (cmp_more j s) (tail_same h) in
-      let b = cmp_more_fixed k j r s a.rest in
-      record { same = ap (λ p. chain_phrase p (cmp_uses k)) a.same ∙ ap (λ us. chain_phrase (sum_phrase g) us) b.same; rest = b.rest }
-
-  cmp_more_fixed : (k j : Held-Cmp-rest) (r s : List Mark) → cmp_more k r ≡ cmp_more j s → Same (cmp_uses k) (cmp_uses j) r s
-  cmp_more_fixed Cmp-rest-None' Cmp-rest-None' r s h = record { same = refl; rest = tail_same h }
-  cmp_more_fixed Cmp-rest-None' (Cmp-rest-Some' (CmpTail' v q)) r s h = absurd cc
-  cmp_more_fixed (Cmp-rest-Some' (CmpTail' w p)) Cmp-rest-None' r s h = absurd cc
-  cmp_more_fixed (Cmp-rest-Some' (CmpTail' w p)) (Cmp-rest-Some' (CmpTail' v q)) r s h =
-      let o = kept_same (tail_same h) in
-      let a = sum_fixed p q r s o.rest in
-      record { same = ap (λ (x : Token). uses (joint_of x.kind) x.at (sum_phrase p) no_use) o.same ∙ ap (λ e. uses (joint_of v.kind) v.at e no_use) a.same; rest = a.rest }
 
   pub args_fixed : (a b : Args) (r s : List Mark) → args_out a r ≡ args_out b s → Same (args_phrases a) (args_phrases b) r s
   args_fixed (Args' f shape k) (Args' g shape' j) r s h =

@@ -1,110 +1,31 @@
 -- Outlines with what stands behind them: the same marks, without a join of lists to be regrouped.
 use Rattle.std.proofs.Common.{◌≡◌, List, [], ◌∷◌, ◌++◌, refl, ap, ◌∙◌, append_assoc}
 use Rattle.hera_syntax.specs.declared.expr.Args.{Args, Args', Row_of-Expr, end_of-Expr, more_of-Expr}
-use Rattle.hera_syntax.specs.declared.expr.Expr.{Expr, Expr', Row_of-WhenTail, end_of-WhenTail, more_of-WhenTail}
-use Rattle.hera_syntax.specs.declared.expr.Or.{Or, Or', Row_of-OrTail, end_of-OrTail, more_of-OrTail}
-use Rattle.hera_syntax.specs.declared.expr.And.{And, And', Row_of-AndTail, end_of-AndTail, more_of-AndTail}
-use Rattle.hera_syntax.specs.declared.expr.Sum.{Sum, Sum', Row_of-SumTail, end_of-SumTail, more_of-SumTail}
-use Rattle.hera_syntax.specs.declared.expr.Term.{Term, Term', Row_of-TermTail, end_of-TermTail, more_of-TermTail}
-use Rattle.hera_syntax.specs.declared.expr.Smash.{Smash, Smash', Row_of-SmashTail, end_of-SmashTail, more_of-SmashTail}
-use Rattle.hera_syntax.specs.declared.expr.Merge.{Merge, Merge', Row_of-MergeTail, end_of-MergeTail, more_of-MergeTail}
+use Rattle.hera_syntax.specs.declared.expr.Expr.{Expr, Expr', Row_of-Tail, end_of-Tail, more_of-Tail}
+use Rattle.hera_syntax.specs.declared.expr.Operand.{Operand, Inner', Prefix'}
 use Rattle.hera_syntax.specs.declared.expr.Bindings.{Bindings, Bindings', Row_of-Binding, end_of-Binding, more_of-Binding}
 use Rattle.hera_syntax.specs.declared.expr.Atoms.{Atoms, Atoms', Row_of-Atom, end_of-Atom, more_of-Atom}
 use Rattle.hera_syntax.specs.declared.expr.Lines.{Lines, Lines', Row_of-Line, end_of-Line, more_of-Line}
-use Rattle.hera_syntax.specs.declared.expr.WhenTail.{WhenTail, WhenTail'}
-use Rattle.hera_syntax.specs.declared.expr.OrTail.{OrTail, OrTail'}
-use Rattle.hera_syntax.specs.declared.expr.AndTail.{AndTail, AndTail'}
-use Rattle.hera_syntax.specs.declared.expr.SumTail.{SumTail, SumTail'}
-use Rattle.hera_syntax.specs.declared.expr.TermTail.{TermTail, TermTail'}
-use Rattle.hera_syntax.specs.declared.expr.SmashTail.{SmashTail, SmashTail'}
-use Rattle.hera_syntax.specs.declared.expr.CmpTail.{CmpTail, CmpTail'}
 use Rattle.hera_syntax.specs.declared.expr.Binding.{Binding, Binding'}
 use Rattle.hera_syntax.specs.declared.expr.Atom.{Atom, Atom'}
 use Rattle.hera_syntax.specs.declared.expr.Line.{Line, Line'}
-use Rattle.hera_syntax.specs.declared.expr.Cmp.{Cmp, Cmp', Held-Cmp-rest, Cmp-rest-None', Cmp-rest-Some'}
 use Rattle.hera_syntax.specs.declared.expr.Prime.{Prime, Int, Text, True, False, Fail, Name, Call', Paren', Row', Delta', Rows', Walk', Project', Rename', Pair', Group', Measure', Fold', Bulk', Part', Held-Prime-Call-2, Prime-Call-2-None', Prime-Call-2-Some', Held-Prime-Delta-1, Prime-Delta-1-None', Prime-Delta-1-Some', Held-Prime-Rows-4, Prime-Rows-4-None', Prime-Rows-4-Some'}
+use Rattle.std.specs.List.{flat_map}
 use Rattle.hera_syntax.specs.Grammar as phrases
-use Rattle.hera_syntax.specs.Outline.{Mark, at_node, kept, left_out, names_outline, renamings_outline, aggs_outline, prefix_start, field_outline, expr_outline, expr_rest, when_tail_outline, or_outline, or_rest, or_tail_outline, and_outline, and_rest, and_tail_outline, sum_outline, sum_rest, sum_tail_outline, term_outline, term_rest, term_tail_outline, smash_outline, smash_rest, smash_tail_outline, merge_outline, merge_rest, cmp_outline, cmp_rest, cmp_tail_outline, args_outline, args_rest, bindings_outline, bindings_rest, atoms_outline, atoms_rest, lines_outline, lines_rest, binding_outline, atom_outline, line_outline, call_args, delta_atoms, rows_lines, prime_outline}
+use Rattle.hera_syntax.specs.Grammar.{Production}
+use Rattle.hera_syntax.specs.Outline.{Mark, at_node, kept, left_out, node, production_of, more_of, alternative_of, chain_end, names_outline, renamings_outline, aggs_outline, prefix_start, field_outline, expr_outline, tails_outline, operand_outline, args_outline, args_rest, bindings_outline, bindings_rest, atoms_outline, atoms_rest, lines_outline, lines_rest, binding_outline, atom_outline, line_outline, call_args, delta_atoms, rows_lines, prime_outline}
 
 abbrev mutual
   pub expr_out : Expr → List Mark → List Mark
-  expr_out (Expr' first shape rest) r = at_node (phrases.level phrases.whens) 0 ∷ or_out first (whens_out rest (at_node (phrases.more phrases.whens) 1 ∷ r))
+  expr_out (Expr' level first shape rest) r = at_node (production_of level) (alternative_of level (tails_outline rest)) ∷ operand_out first (tails_out (more_of level) rest (chain_end level (tails_outline rest) ++ r))
 
-  pub whens_out : {m : _} → Row_of-WhenTail m → List Mark → List Mark
-  whens_out end_of-WhenTail r = r
-  whens_out (more_of-WhenTail t rest) r = at_node (phrases.more phrases.whens) 0 ∷ whens_one t (whens_out rest r)
+  pub tails_out : {m : _} → Production → Row_of-Tail m → List Mark → List Mark
+  tails_out s end_of-Tail r = r
+  tails_out s (more_of-Tail op operand rest) r = at_node s 0 ∷ kept op ∷ operand_out operand (tails_out s rest r)
 
-  pub whens_one : WhenTail → List Mark → List Mark
-  whens_one (WhenTail' op operand) r = kept op ∷ or_out operand r
-
-  pub or_out : Or → List Mark → List Mark
-  or_out (Or' first shape rest) r = at_node (phrases.level phrases.ors) 0 ∷ and_out first (ors_out rest (at_node (phrases.more phrases.ors) 1 ∷ r))
-
-  pub ors_out : {m : _} → Row_of-OrTail m → List Mark → List Mark
-  ors_out end_of-OrTail r = r
-  ors_out (more_of-OrTail t rest) r = at_node (phrases.more phrases.ors) 0 ∷ ors_one t (ors_out rest r)
-
-  pub ors_one : OrTail → List Mark → List Mark
-  ors_one (OrTail' op operand) r = kept op ∷ and_out operand r
-
-  pub and_out : And → List Mark → List Mark
-  and_out (And' first shape rest) r = at_node (phrases.level phrases.ands) 0 ∷ cmp_out first (ands_out rest (at_node (phrases.more phrases.ands) 1 ∷ r))
-
-  pub ands_out : {m : _} → Row_of-AndTail m → List Mark → List Mark
-  ands_out end_of-AndTail r = r
-  ands_out (more_of-AndTail t rest) r = at_node (phrases.more phrases.ands) 0 ∷ ands_one t (ands_out rest r)
-
-  pub ands_one : AndTail → List Mark → List Mark
-  ands_one (AndTail' op operand) r = kept op ∷ cmp_out operand r
-
-  pub sum_out : Sum → List Mark → List Mark
-  sum_out (Sum' first shape rest) r = at_node (phrases.level phrases.sums) 0 ∷ term_out first (sums_out rest (at_node (phrases.more phrases.sums) 1 ∷ r))
-
-  pub sums_out : {m : _} → Row_of-SumTail m → List Mark → List Mark
-  sums_out end_of-SumTail r = r
-  sums_out (more_of-SumTail t rest) r = at_node (phrases.more phrases.sums) 0 ∷ sums_one t (sums_out rest r)
-
-  pub sums_one : SumTail → List Mark → List Mark
-  sums_one (SumTail' op operand) r = kept op ∷ term_out operand r
-
-  pub term_out : Term → List Mark → List Mark
-  term_out (Term' first shape rest) r = at_node (phrases.level phrases.terms) 0 ∷ smash_out first (terms_out rest (at_node (phrases.more phrases.terms) 1 ∷ r))
-
-  pub terms_out : {m : _} → Row_of-TermTail m → List Mark → List Mark
-  terms_out end_of-TermTail r = r
-  terms_out (more_of-TermTail t rest) r = at_node (phrases.more phrases.terms) 0 ∷ terms_one t (terms_out rest r)
-
-  pub terms_one : TermTail → List Mark → List Mark
-  terms_one (TermTail' op operand) r = kept op ∷ smash_out operand r
-
-  pub smash_out : Smash → List Mark → List Mark
-  smash_out (Smash' first shape rest) r = at_node (phrases.level phrases.smashes) 0 ∷ merge_out first (smashes_out rest (at_node (phrases.more phrases.smashes) 1 ∷ r))
-
-  pub smashes_out : {m : _} → Row_of-SmashTail m → List Mark → List Mark
-  smashes_out end_of-SmashTail r = r
-  smashes_out (more_of-SmashTail t rest) r = at_node (phrases.more phrases.smashes) 0 ∷ smashes_one t (smashes_out rest r)
-
-  pub smashes_one : SmashTail → List Mark → List Mark
-  smashes_one (SmashTail' op operand) r = kept op ∷ merge_out operand r
-
-  pub merge_out : Merge → List Mark → List Mark
-  merge_out (Merge' op p operand field shape rest) r =
-      at_node (phrases.level phrases.merges) 0 ∷ (prefix_start op ++ (at_node phrases.post 0 ∷ prime_out operand (field_outline field ++ merges_out rest (at_node (phrases.more phrases.merges) 1 ∷ r))))
-
-  pub merges_out : {m : _} → Row_of-MergeTail m → List Mark → List Mark
-  merges_out end_of-MergeTail r = r
-  merges_out (more_of-MergeTail sign op p operand field rest) r =
-      at_node (phrases.more phrases.merges) 0 ∷ kept sign ∷ (prefix_start op ++ (at_node phrases.post 0 ∷ prime_out operand (field_outline field ++ merges_out rest r)))
-
-  pub cmp_out : Cmp → List Mark → List Mark
-  cmp_out (Cmp' first rest) r = at_node phrases.cmp 0 ∷ sum_out first (cmp_more rest r)
-
-  pub cmp_more : Held-Cmp-rest → List Mark → List Mark
-  cmp_more Cmp-rest-None' r = at_node phrases.more_cmp 1 ∷ r
-  cmp_more (Cmp-rest-Some' t) r = at_node phrases.more_cmp 0 ∷ cmp_one t r
-
-  pub cmp_one : CmpTail → List Mark → List Mark
-  cmp_one (CmpTail' op operand) r = kept op ∷ sum_out operand r
+  pub operand_out : Operand → List Mark → List Mark
+  operand_out (Inner' p e) r = expr_out e r
+  operand_out (Prefix' op p operand field) r = prefix_start op ++ (at_node phrases.post 0 ∷ prime_out operand (field_outline field ++ r))
 
   pub args_out : Args → List Mark → List Mark
   args_out (Args' first shape rest) r = at_node phrases.args 0 ∷ expr_out first (args_more rest (at_node phrases.more_args 1 ∷ r))
@@ -185,82 +106,16 @@ three_parts e n a s u v t r = simp append_assoc
 
 mutual
   pub expr_law : (e : Expr) (r : List Mark) → expr_outline e ++ r ≡ expr_out e r
-  expr_law (Expr' first shape rest) r = simp append_assoc (rw (whens_law rest (at_node (phrases.more phrases.whens) 1 ∷ r), or_law first (whens_out rest (at_node (phrases.more phrases.whens) 1 ∷ r))) refl)
+  expr_law (Expr' level first shape rest) r =
+      simp append_assoc (rw (tails_law (more_of level) rest (chain_end level (tails_outline rest) ++ r), operand_law first (tails_out (more_of level) rest (chain_end level (tails_outline rest) ++ r))) refl)
 
-  whens_law : {m : _} (k : Row_of-WhenTail m) (r : List Mark) → expr_rest k ++ r ≡ whens_out k r
-  whens_law end_of-WhenTail r = refl
-  whens_law (more_of-WhenTail t rest) r = simp append_assoc (rw (whens_law rest r, whens_one_law t (whens_out rest r)) refl)
+  tails_law : {m : _} (s : Production) (k : Row_of-Tail m) (r : List Mark) → flat_map (λ tail. node s 0 ++ tail) (tails_outline k) ++ r ≡ tails_out s k r
+  tails_law s end_of-Tail r = refl
+  tails_law s (more_of-Tail op operand rest) r = simp append_assoc (rw (tails_law s rest r, operand_law operand (tails_out s rest r)) refl)
 
-  whens_one_law : (t : WhenTail) (r : List Mark) → when_tail_outline t ++ r ≡ whens_one t r
-  whens_one_law (WhenTail' op operand) r = ap (λ ms. kept op ∷ ms) (or_law operand r)
-
-  pub or_law : (e : Or) (r : List Mark) → or_outline e ++ r ≡ or_out e r
-  or_law (Or' first shape rest) r = simp append_assoc (rw (ors_law rest (at_node (phrases.more phrases.ors) 1 ∷ r), and_law first (ors_out rest (at_node (phrases.more phrases.ors) 1 ∷ r))) refl)
-
-  ors_law : {m : _} (k : Row_of-OrTail m) (r : List Mark) → or_rest k ++ r ≡ ors_out k r
-  ors_law end_of-OrTail r = refl
-  ors_law (more_of-OrTail t rest) r = simp append_assoc (rw (ors_law rest r, ors_one_law t (ors_out rest r)) refl)
-
-  ors_one_law : (t : OrTail) (r : List Mark) → or_tail_outline t ++ r ≡ ors_one t r
-  ors_one_law (OrTail' op operand) r = ap (λ ms. kept op ∷ ms) (and_law operand r)
-
-  pub and_law : (e : And) (r : List Mark) → and_outline e ++ r ≡ and_out e r
-  and_law (And' first shape rest) r = simp append_assoc (rw (ands_law rest (at_node (phrases.more phrases.ands) 1 ∷ r), cmp_law first (ands_out rest (at_node (phrases.more phrases.ands) 1 ∷ r))) refl)
-
-  ands_law : {m : _} (k : Row_of-AndTail m) (r : List Mark) → and_rest k ++ r ≡ ands_out k r
-  ands_law end_of-AndTail r = refl
-  ands_law (more_of-AndTail t rest) r = simp append_assoc (rw (ands_law rest r, ands_one_law t (ands_out rest r)) refl)
-
-  ands_one_law : (t : AndTail) (r : List Mark) → and_tail_outline t ++ r ≡ ands_one t r
-  ands_one_law (AndTail' op operand) r = ap (λ ms. kept op ∷ ms) (cmp_law operand r)
-
-  pub sum_law : (e : Sum) (r : List Mark) → sum_outline e ++ r ≡ sum_out e r
-  sum_law (Sum' first shape rest) r = simp append_assoc (rw (sums_law rest (at_node (phrases.more phrases.sums) 1 ∷ r), term_law first (sums_out rest (at_node (phrases.more phrases.sums) 1 ∷ r))) refl)
-
-  sums_law : {m : _} (k : Row_of-SumTail m) (r : List Mark) → sum_rest k ++ r ≡ sums_out k r
-  sums_law end_of-SumTail r = refl
-  sums_law (more_of-SumTail t rest) r = simp append_assoc (rw (sums_law rest r, sums_one_law t (sums_out rest r)) refl)
-
-  sums_one_law : (t : SumTail) (r : List Mark) → sum_tail_outline t ++ r ≡ sums_one t r
-  sums_one_law (SumTail' op operand) r = ap (λ ms. kept op ∷ ms) (term_law operand r)
-
-  pub term_law : (e : Term) (r : List Mark) → term_outline e ++ r ≡ term_out e r
-  term_law (Term' first shape rest) r = simp append_assoc (rw (terms_law rest (at_node (phrases.more phrases.terms) 1 ∷ r), smash_law first (terms_out rest (at_node (phrases.more phrases.terms) 1 ∷ r))) refl)
-
-  terms_law : {m : _} (k : Row_of-TermTail m) (r : List Mark) → term_rest k ++ r ≡ terms_out k r
-  terms_law end_of-TermTail r = refl
-  terms_law (more_of-TermTail t rest) r = simp append_assoc (rw (terms_law rest r, terms_one_law t (terms_out rest r)) refl)
-
-  terms_one_law : (t : TermTail) (r : List Mark) → term_tail_outline t ++ r ≡ terms_one t r
-  terms_one_law (TermTail' op operand) r = ap (λ ms. kept op ∷ ms) (smash_law operand r)
-
-  pub smash_law : (e : Smash) (r : List Mark) → smash_outline e ++ r ≡ smash_out e r
-  smash_law (Smash' first shape rest) r = simp append_assoc (rw (smashes_law rest (at_node (phrases.more phrases.smashes) 1 ∷ r), merge_law first (smashes_out rest (at_node (phrases.more phrases.smashes) 1 ∷ r))) refl)
-
-  smashes_law : {m : _} (k : Row_of-SmashTail m) (r : List Mark) → smash_rest k ++ r ≡ smashes_out k r
-  smashes_law end_of-SmashTail r = refl
-  smashes_law (more_of-SmashTail t rest) r = simp append_assoc (rw (smashes_law rest r, smashes_one_law t (smashes_out rest r)) refl)
-
-  smashes_one_law : (t : SmashTail) (r : List Mark) → smash_tail_outline t ++ r ≡ smashes_one t r
-  smashes_one_law (SmashTail' op operand) r = ap (λ ms. kept op ∷ ms) (merge_law operand r)
-
-  merge_law : (e : Merge) (r : List Mark) → merge_outline e ++ r ≡ merge_out e r
-  merge_law (Merge' op p operand field shape rest) r =
-      simp append_assoc (rw (merges_law rest (at_node (phrases.more phrases.merges) 1 ∷ r), prime_law operand (field_outline field ++ merges_out rest (at_node (phrases.more phrases.merges) 1 ∷ r))) refl)
-
-  merges_law : {m : _} (k : Row_of-MergeTail m) (r : List Mark) → merge_rest k ++ r ≡ merges_out k r
-  merges_law end_of-MergeTail r = refl
-  merges_law (more_of-MergeTail sign op p operand field rest) r = simp append_assoc (rw (merges_law rest r, prime_law operand (field_outline field ++ merges_out rest r)) refl)
-
-  cmp_law : (e : Cmp) (r : List Mark) → cmp_outline e ++ r ≡ cmp_out e r
-  cmp_law (Cmp' first rest) r = simp append_assoc (rw (cmp_more_law rest r, sum_law first (cmp_more rest r)) refl)
-
-  cmp_more_law : (k : Held-Cmp-rest) (r : List Mark) → cmp_rest k ++ r ≡ cmp_more k r
-  cmp_more_law Cmp-rest-None' r = refl
-  cmp_more_law (Cmp-rest-Some' t) r = ap (λ ms. at_node phrases.more_cmp 0 ∷ ms) (cmp_one_law t r)
-
-  cmp_one_law : (t : CmpTail) (r : List Mark) → cmp_tail_outline t ++ r ≡ cmp_one t r
-  cmp_one_law (CmpTail' op operand) r = ap (λ ms. kept op ∷ ms) (sum_law operand r)
+  pub operand_law : (e : Operand) (r : List Mark) → operand_outline e ++ r ≡ operand_out e r
+  operand_law (Inner' p e) r = expr_law e r
+  operand_law (Prefix' op p operand field) r = simp append_assoc (rw (prime_law operand (field_outline field ++ r)) refl)
 
   pub args_law : (e : Args) (r : List Mark) → args_outline e ++ r ≡ args_out e r
   args_law (Args' first shape rest) r = simp append_assoc (rw (args_more_law rest (at_node phrases.more_args 1 ∷ r), expr_law first (args_more rest (at_node phrases.more_args 1 ∷ r))) refl)

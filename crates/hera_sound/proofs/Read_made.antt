@@ -14,41 +14,31 @@ use Rattle.hera_syntax.specs.declared.token.TokenKind.{TokenKind}
 use Rattle.hera_syntax.specs.declared.token.TokenKind.TheVariants.{Ident as ident_token, Int as int_token, Text as text_token, Key as key_token, Punct as punct_token}
 use Rattle.hera_syntax.specs.declared.token.Token.{Token}
 use Rattle.hera_syntax.specs.declared.expr.Args.{Args, Args', Row_of-Expr, end_of-Expr, more_of-Expr}
-use Rattle.hera_syntax.specs.declared.expr.Expr.{Expr, Expr', Row_of-WhenTail, end_of-WhenTail, more_of-WhenTail}
-use Rattle.hera_syntax.specs.declared.expr.Or.{Or, Or', Row_of-OrTail, end_of-OrTail, more_of-OrTail}
-use Rattle.hera_syntax.specs.declared.expr.And.{And, And', Row_of-AndTail, end_of-AndTail, more_of-AndTail}
-use Rattle.hera_syntax.specs.declared.expr.Sum.{Sum, Sum', Row_of-SumTail, end_of-SumTail, more_of-SumTail}
-use Rattle.hera_syntax.specs.declared.expr.Term.{Term, Term', Row_of-TermTail, end_of-TermTail, more_of-TermTail}
-use Rattle.hera_syntax.specs.declared.expr.Smash.{Smash, Smash', Row_of-SmashTail, end_of-SmashTail, more_of-SmashTail}
-use Rattle.hera_syntax.specs.declared.expr.Merge.{Merge, Merge', Row_of-MergeTail, end_of-MergeTail, more_of-MergeTail}
+use Rattle.hera_syntax.specs.declared.expr.Level.{Level as Chain_level}
+use Rattle.hera_syntax.specs.declared.expr.Level.TheVariants as levels
+use Rattle.hera_syntax.specs.declared.expr.Expr.{Expr, Expr', Row_of-Tail, end_of-Tail, more_of-Tail}
+use Rattle.hera_syntax.specs.declared.expr.Operand.{Operand, Inner', Prefix'}
 use Rattle.hera_syntax.specs.declared.expr.Bindings.{Bindings, Bindings', Row_of-Binding, end_of-Binding, more_of-Binding}
 use Rattle.hera_syntax.specs.declared.expr.Atoms.{Atoms, Atoms', Row_of-Atom, end_of-Atom, more_of-Atom}
 use Rattle.hera_syntax.specs.declared.expr.Lines.{Lines, Lines', Row_of-Line, end_of-Line, more_of-Line}
-use Rattle.hera_syntax.specs.declared.expr.WhenTail.{WhenTail'}
-use Rattle.hera_syntax.specs.declared.expr.OrTail.{OrTail'}
-use Rattle.hera_syntax.specs.declared.expr.AndTail.{AndTail'}
-use Rattle.hera_syntax.specs.declared.expr.SumTail.{SumTail'}
-use Rattle.hera_syntax.specs.declared.expr.TermTail.{TermTail'}
-use Rattle.hera_syntax.specs.declared.expr.SmashTail.{SmashTail'}
-use Rattle.hera_syntax.specs.declared.expr.CmpTail.{CmpTail'}
 use Rattle.hera_syntax.specs.declared.expr.Binding.{Binding'}
 use Rattle.hera_syntax.specs.declared.expr.Atom.{Atom, Atom'}
 use Rattle.hera_syntax.specs.declared.expr.Line.{Line, Line'}
-use Rattle.hera_syntax.specs.declared.expr.Cmp.{Cmp, Cmp', Held-Cmp-rest, Cmp-rest-None', Cmp-rest-Some'}
 use Rattle.hera_syntax.specs.declared.expr.Prime.{Prime, Int, Text, True, False, Fail, Name, Call', Paren', Row', Delta', Rows', Walk', Project', Rename', Pair', Group', Measure', Fold', Bulk', Part', Held-Prime-Call-2, Prime-Call-2-None', Prime-Call-2-Some', Held-Prime-Delta-1, Prime-Delta-1-None', Prime-Delta-1-Some', Held-Prime-Rows-4, Prime-Rows-4-None', Prime-Rows-4-Some'}
 use Rattle.hera_syntax.specs.Grammar as phrases
+use Rattle.hera_syntax.specs.Grammar.{Production}
 use Rattle.hera_syntax.specs.Tokens.{HasValue, HaveValues}
 use Rattle.hera_syntax.specs.Trees.{printed, Agree, at_end, one_more}
-use Rattle.hera_syntax.specs.Outline.{Mark, at_node, kept, left_out, names_outline, renamings_outline, aggs_outline, prefix_start, field_outline}
+use Rattle.hera_syntax.specs.Outline.{Mark, at_node, kept, left_out, more_of, chain_end, tails_outline, names_outline, renamings_outline, aggs_outline, prefix_start, field_outline}
 use Rattle.hera_rules.specs.declared.words.Word.{Word}
 use Rattle.hera_rules.specs.declared.words.Pair.{Pair}
 use Rattle.hera_rules.specs.declared.words.Pair.TheVariants.{Sets, Join as as_join}
 use Rattle.hera_rules.specs.declared.words.Joint.{Joint}
 use Rattle.hera_rules.specs.declared.words.Joint.TheVariants.{Arithmetic, Equality, Order, Deltas}
 use Rattle.hera_rules.specs.Phrases.{Phrase, Phrases, Uses, no_use, uses}
-use Rattle.hera_rules.specs.Read.{word_of, int_of, text_of, key_of, joint_numbered, joint_of, pair_of, chain_phrase, prefix_phrase, post_phrase, expr_phrase, expr_uses, or_phrase, or_uses, and_phrase, and_uses, sum_phrase, sum_uses, term_phrase, term_uses, smash_phrase, smash_uses, merge_phrase, merge_uses, cmp_phrase, cmp_uses, args_phrases, args_rest, bindings_phrases, bindings_rest, bindings_words, binding_words, atoms_phrases, atoms_rest, atom_phrase, lines_phrases, lines_rest, line_phrase, call_args, delta_atoms, rows_lines, prime_phrase}
+use Rattle.hera_rules.specs.Read.{word_of, int_of, text_of, key_of, joint_numbered, joint_of, joint_at, pair_of, chain_phrase, prefix_phrase, post_phrase, expr_phrase, expr_uses, operand_phrase, args_phrases, args_rest, bindings_phrases, bindings_rest, bindings_words, binding_words, atoms_phrases, atoms_rest, atom_phrase, lines_phrases, lines_rest, line_phrase, call_args, delta_atoms, rows_lines, prime_phrase}
 use Rattle.hera_sound.proofs.Made.{IsJoint, IsPair, Level, whens, ands, ors, chains, level_of, IsMade, AreMade, UsesAreMade, AreOfLevel, IsAtom, AreAtoms, IsLine, AreLines, count_of, nodes, nodes_all, nodes_uses}
-use Rattle.hera_sound.proofs.Out.{expr_out, whens_out, or_out, ors_out, and_out, ands_out, sum_out, sums_out, term_out, terms_out, smash_out, smashes_out, merge_out, merges_out, cmp_out, cmp_more, args_out, args_more, bindings_out, bindings_more, atoms_out, atoms_more, lines_out, lines_more, atom_out, line_out, call_out, delta_out, rows_out, prime_out}
+use Rattle.hera_sound.proofs.Out.{expr_out, tails_out, operand_out, args_out, args_more, bindings_out, bindings_more, atoms_out, atoms_more, lines_out, lines_more, atom_out, line_out, call_out, delta_out, rows_out, prime_out}
 
 -- ---- marks of a text
 
@@ -134,6 +124,26 @@ operator (ident_token n) = (tt, refl)
 operator (int_token z) = (tt, refl)
 operator (text_token t) = (tt, refl)
 operator (key_token i) = (tt, refl)
+
+-- what a chain's level says of its joints
+abbrev joints_of : Chain_level → Level
+joints_of levels.Whens = whens
+joints_of levels.Ors = ors
+joints_of levels.Ands = ands
+joints_of _ = chains
+
+abbrev IsOperatorAt : Chain_level → Joint → Type 0
+IsOperatorAt l j = IsJoint j × (level_of j ≡ joints_of l)
+
+operator_at : (l : Chain_level) (k : TokenKind) → IsOperatorAt l (joint_at l k)
+operator_at levels.Whens k = (tt, refl)
+operator_at levels.Ors k = (tt, refl)
+operator_at levels.Ands k = (tt, refl)
+operator_at levels.Comparisons k = operator k
+operator_at levels.Sums k = operator k
+operator_at levels.Terms k = operator k
+operator_at levels.Smashes k = operator k
+operator_at levels.Merges k = operator k
 
 pair_is : (b : Bool) (x y : Pair) → IsPair x → IsPair y → IsPair (cond b x y)
 pair_is true x y h k = h
@@ -223,154 +233,36 @@ mutual
   unfolding expr_phrase
 
   pub expr_read : (e : Expr) (r : List Mark) → GoodMarks (expr_out e r) → ReadPhrase (expr_phrase e) r (expr_out e r)
-  expr_read (Expr' f shape k) r g =
-      let a = or_read f (whens_out k (at_node (phrases.more phrases.whens) 1 ∷ r)) g in
-      let b = whens_read k (at_node (phrases.more phrases.whens) 1 ∷ r) a.rest in
+  expr_read (Expr' l f shape k) r g =
+      let close : List Mark = chain_end l (tails_outline k) in
+      let last : List Mark = close ++ r in
+      let a = operand_read f (tails_out (more_of l) k last) g in
+      let b = tails_read l (more_of l) k last a.rest in
       let x = a.few in
       let y = b.few in
-      let z = chain_few (or_phrase f) (expr_uses k) in
-      record { made = chain_made whens (or_phrase f) (expr_uses k) a.made b.made b.level; rest = b.rest; few = omega (arith, x, y, z) }
+      let z = chain_few (operand_phrase f) (expr_uses l k) in
+      let n = tokens_back close r in
+      record { made = chain_made (joints_of l) (operand_phrase f) (expr_uses l k) a.made b.made b.level; rest = marks_back close r b.rest; few = omega (arith, x, y, z, n) }
 
-  whens_read : {m : _} (k : Row_of-WhenTail m) (r : List Mark) → GoodMarks (whens_out k r) → ReadUses whens (expr_uses k) r (whens_out k r)
-  whens_read end_of-WhenTail r g = record { made = tt; level = tt; rest = g; few = omega arith }
-  whens_read (more_of-WhenTail (WhenTail' w p) k) r g =
-      let a = or_read p (whens_out k r) g.1 in
-      let b = whens_read k r a.rest in
+  tails_read : (l : Chain_level) (s : Production) {m : _} (k : Row_of-Tail m) (r : List Mark) → GoodMarks (tails_out s k r) → ReadUses (joints_of l) (expr_uses l k) r (tails_out s k r)
+  tails_read l s end_of-Tail r g = record { made = tt; level = tt; rest = g; few = omega arith }
+  tails_read l s (more_of-Tail w p k) r g =
+      let a = operand_read p (tails_out s k r) g.1 in
+      let b = tails_read l s k r a.rest in
       let x = a.few in
       let y = b.few in
-      record { made = (tt, a.made, b.made); level = (refl, b.level); rest = b.rest; few = omega (arith, x, y) }
+      let o = operator_at l w.kind in
+      record { made = (o.0, a.made, b.made); level = (o.1, b.level); rest = b.rest; few = omega (arith, x, y) }
 
-  pub or_read : (e : Or) (r : List Mark) → GoodMarks (or_out e r) → ReadPhrase (or_phrase e) r (or_out e r)
-  or_read (Or' f shape k) r g =
-      let a = and_read f (ors_out k (at_node (phrases.more phrases.ors) 1 ∷ r)) g in
-      let b = ors_read k (at_node (phrases.more phrases.ors) 1 ∷ r) a.rest in
-      let x = a.few in
-      let y = b.few in
-      let z = chain_few (and_phrase f) (or_uses k) in
-      record { made = chain_made ors (and_phrase f) (or_uses k) a.made b.made b.level; rest = b.rest; few = omega (arith, x, y, z) }
-
-  ors_read : {m : _} (k : Row_of-OrTail m) (r : List Mark) → GoodMarks (ors_out k r) → ReadUses ors (or_uses k) r (ors_out k r)
-  ors_read end_of-OrTail r g = record { made = tt; level = tt; rest = g; few = omega arith }
-  ors_read (more_of-OrTail (OrTail' w p) k) r g =
-      let a = and_read p (ors_out k r) g.1 in
-      let b = ors_read k r a.rest in
-      let x = a.few in
-      let y = b.few in
-      record { made = (tt, a.made, b.made); level = (refl, b.level); rest = b.rest; few = omega (arith, x, y) }
-
-  pub and_read : (e : And) (r : List Mark) → GoodMarks (and_out e r) → ReadPhrase (and_phrase e) r (and_out e r)
-  and_read (And' f shape k) r g =
-      let a = cmp_read f (ands_out k (at_node (phrases.more phrases.ands) 1 ∷ r)) g in
-      let b = ands_read k (at_node (phrases.more phrases.ands) 1 ∷ r) a.rest in
-      let x = a.few in
-      let y = b.few in
-      let z = chain_few (cmp_phrase f) (and_uses k) in
-      record { made = chain_made ands (cmp_phrase f) (and_uses k) a.made b.made b.level; rest = b.rest; few = omega (arith, x, y, z) }
-
-  ands_read : {m : _} (k : Row_of-AndTail m) (r : List Mark) → GoodMarks (ands_out k r) → ReadUses ands (and_uses k) r (ands_out k r)
-  ands_read end_of-AndTail r g = record { made = tt; level = tt; rest = g; few = omega arith }
-  ands_read (more_of-AndTail (AndTail' w p) k) r g =
-      let a = cmp_read p (ands_out k r) g.1 in
-      let b = ands_read k r a.rest in
-      let x = a.few in
-      let y = b.few in
-      record { made = (tt, a.made, b.made); level = (refl, b.level); rest = b.rest; few = omega (arith, x, y) }
-
-  pub sum_read : (e : Sum) (r : List Mark) → GoodMarks (sum_out e r) → ReadPhrase (sum_phrase e) r (sum_out e r)
-  sum_read (Sum' f shape k) r g =
-      let a = term_read f (sums_out k (at_node (phrases.more phrases.sums) 1 ∷ r)) g in
-      let b = sums_read k (at_node (phrases.more phrases.sums) 1 ∷ r) a.rest in
-      let x = a.few in
-      let y = b.few in
-      let z = chain_few (term_phrase f) (sum_uses k) in
-      record { made = chain_made chains (term_phrase f) (sum_uses k) a.made b.made b.level; rest = b.rest; few = omega (arith, x, y, z) }
-
-  sums_read : {m : _} (k : Row_of-SumTail m) (r : List Mark) → GoodMarks (sums_out k r) → ReadUses chains (sum_uses k) r (sums_out k r)
-  sums_read end_of-SumTail r g = record { made = tt; level = tt; rest = g; few = omega arith }
-  sums_read (more_of-SumTail (SumTail' w p) k) r g =
-      let a = term_read p (sums_out k r) g.1 in
-      let b = sums_read k r a.rest in
-      let x = a.few in
-      let y = b.few in
-      record { made = ((operator w.kind).0, a.made, b.made); level = ((operator w.kind).1, b.level); rest = b.rest; few = omega (arith, x, y) }
-
-  pub term_read : (e : Term) (r : List Mark) → GoodMarks (term_out e r) → ReadPhrase (term_phrase e) r (term_out e r)
-  term_read (Term' f shape k) r g =
-      let a = smash_read f (terms_out k (at_node (phrases.more phrases.terms) 1 ∷ r)) g in
-      let b = terms_read k (at_node (phrases.more phrases.terms) 1 ∷ r) a.rest in
-      let x = a.few in
-      let y = b.few in
-      let z = chain_few (smash_phrase f) (term_uses k) in
-      record { made = chain_made chains (smash_phrase f) (term_uses k) a.made b.made b.level; rest = b.rest; few = omega (arith, x, y, z) }
-
-  terms_read : {m : _} (k : Row_of-TermTail m) (r : List Mark) → GoodMarks (terms_out k r) → ReadUses chains (term_uses k) r (terms_out k r)
-  terms_read end_of-TermTail r g = record { made = tt; level = tt; rest = g; few = omega arith }
-  terms_read (more_of-TermTail (TermTail' w p) k) r g =
-      let a = smash_read p (terms_out k r) g.1 in
-      let b = terms_read k r a.rest in
-      let x = a.few in
-      let y = b.few in
-      record { made = ((operator w.kind).0, a.made, b.made); level = ((operator w.kind).1, b.level); rest = b.rest; few = omega (arith, x, y) }
-
-  pub smash_read : (e : Smash) (r : List Mark) → GoodMarks (smash_out e r) → ReadPhrase (smash_phrase e) r (smash_out e r)
-  smash_read (Smash' f shape k) r g =
-      let a = merge_read f (smashes_out k (at_node (phrases.more phrases.smashes) 1 ∷ r)) g in
-      let b = smashes_read k (at_node (phrases.more phrases.smashes) 1 ∷ r) a.rest in
-      let x = a.few in
-      let y = b.few in
-      let z = chain_few (merge_phrase f) (smash_uses k) in
-      record { made = chain_made chains (merge_phrase f) (smash_uses k) a.made b.made b.level; rest = b.rest; few = omega (arith, x, y, z) }
-
-  smashes_read : {m : _} (k : Row_of-SmashTail m) (r : List Mark) → GoodMarks (smashes_out k r) → ReadUses chains (smash_uses k) r (smashes_out k r)
-  smashes_read end_of-SmashTail r g = record { made = tt; level = tt; rest = g; few = omega arith }
-  smashes_read (more_of-SmashTail (SmashTail' w p) k) r g =
-      let a = merge_read p (smashes_out k r) g.1 in
-      let b = smashes_read k r a.rest in
-      let x = a.few in
-      let y = b.few in
-      record { made = ((operator w.kind).0, a.made, b.made); level = ((operator w.kind).1, b.level); rest = b.rest; few = omega (arith, x, y) }
-
-  merge_read : (e : Merge) (r : List Mark) → GoodMarks (merge_out e r) → ReadPhrase (merge_phrase e) r (merge_out e r)
-  merge_read (Merge' op held f field shape k) r g =
-      let last : List Mark = merges_out k (at_node (phrases.more phrases.merges) 1 ∷ r) in
-      let a = prime_read f (field_outline field ++ last) (marks_back (prefix_start op) (at_node phrases.post 0 ∷ prime_out f (field_outline field ++ last)) g) in
-      let b = merges_read k (at_node (phrases.more phrases.merges) 1 ∷ r) (marks_back (field_outline field) last a.rest) in
+  pub operand_read : (e : Operand) (r : List Mark) → GoodMarks (operand_out e r) → ReadPhrase (operand_phrase e) r (operand_out e r)
+  operand_read (Inner' p e) r g = expr_read e r g
+  operand_read (Prefix' op held f field) r g =
+      let a = prime_read f (field_outline field ++ r) (marks_back (prefix_start op) (at_node phrases.post 0 ∷ prime_out f (field_outline field ++ r)) g) in
       let p : Phrase = post_phrase (prime_phrase f) field in
-      let v = post_few (prime_phrase f) field last in
-      let u = prefix_few op p (at_node phrases.post 0 ∷ prime_out f (field_outline field ++ last)) in
+      let v = post_few (prime_phrase f) field r in
+      let u = prefix_few op p (at_node phrases.post 0 ∷ prime_out f (field_outline field ++ r)) in
       let x = a.few in
-      let y = b.few in
-      let z = chain_few (prefix_phrase op p) (merge_uses k) in
-      record { made = chain_made chains (prefix_phrase op p) (merge_uses k) (prefix_made op p (post_made (prime_phrase f) field a.made)) b.made b.level; rest = b.rest; few = omega (arith, u, v, x, y, z) }
-
-  merges_read : {m : _} (k : Row_of-MergeTail m) (r : List Mark) → GoodMarks (merges_out k r) → ReadUses chains (merge_uses k) r (merges_out k r)
-  merges_read end_of-MergeTail r g = record { made = tt; level = tt; rest = g; few = omega arith }
-  merges_read (more_of-MergeTail w op held f field k) r g =
-      let last : List Mark = merges_out k r in
-      let a = prime_read f (field_outline field ++ last) (marks_back (prefix_start op) (at_node phrases.post 0 ∷ prime_out f (field_outline field ++ last)) g.1) in
-      let b = merges_read k r (marks_back (field_outline field) last a.rest) in
-      let p : Phrase = post_phrase (prime_phrase f) field in
-      let v = post_few (prime_phrase f) field last in
-      let u = prefix_few op p (at_node phrases.post 0 ∷ prime_out f (field_outline field ++ last)) in
-      let x = a.few in
-      let y = b.few in
-      record { made = ((operator w.kind).0, prefix_made op p (post_made (prime_phrase f) field a.made), b.made); level = ((operator w.kind).1, b.level); rest = b.rest; few = omega (arith, u, v, x, y) }
-
-  cmp_read : (e : Cmp) (r : List Mark) → GoodMarks (cmp_out e r) → ReadPhrase (cmp_phrase e) r (cmp_out e r)
-  cmp_read (Cmp' f k) r g =
-      let a = sum_read f (cmp_more k r) g in
-      let b = cmp_more_read k r a.rest in
-      let x = a.few in
-      let y = b.few in
-      let z = chain_few (sum_phrase f) (cmp_uses k) in
-      record { made = chain_made chains (sum_phrase f) (cmp_uses k) a.made b.made b.level; rest = b.rest; few = omega (arith, x, y, z) }
-
-  cmp_more_read : (k : Held-Cmp-rest) (r : List Mark) → GoodMarks (cmp_more k r) → ReadUses chains (cmp_uses k) r (cmp_more k r)
-  cmp_more_read Cmp-rest-None' r g = record { made = tt; level = tt; rest = g; few = omega arith }
-  cmp_more_read (Cmp-rest-Some' (CmpTail' w p)) r g =
-      let a = sum_read p r g.1 in
-      let x = a.few in
-      record { made = ((operator w.kind).0, a.made, tt); level = ((operator w.kind).1, tt); rest = a.rest; few = omega (arith, x) }
+      record { made = prefix_made op p (post_made (prime_phrase f) field a.made); rest = marks_back (field_outline field) r a.rest; few = omega (arith, u, v, x) }
 
   pub args_read : (e : Args) (r : List Mark) → GoodMarks (args_out e r) → ReadAll (args_phrases e) r (args_out e r)
   args_read (Args' f shape k) r g =

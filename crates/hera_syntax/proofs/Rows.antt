@@ -1,14 +1,7 @@
 -- The rest of a chain or a list is its rows, one after the other.
-use Rattle.std.proofs.Common.{◌≡◌, List, [], ◌∷◌, ◌++◌, refl, ap, sym, ◌∙◌}
+use Rattle.std.proofs.Common.{◌≡◌, List, [], ◌∷◌, ◌++◌, ◌≤◌, length, arith, refl, ap, sym, ◌∙◌}
 use Rattle.std.specs.List.{flat_map}
 use Rattle.hera_syntax.specs.Grammar as phrases
-use Rattle.hera_syntax.specs.declared.expr.Expr.{Row_of-WhenTail, end_of-WhenTail, more_of-WhenTail, items-the_row-WhenTail}
-use Rattle.hera_syntax.specs.declared.expr.Or.{Row_of-OrTail, end_of-OrTail, more_of-OrTail, items-the_row-OrTail}
-use Rattle.hera_syntax.specs.declared.expr.And.{Row_of-AndTail, end_of-AndTail, more_of-AndTail, items-the_row-AndTail}
-use Rattle.hera_syntax.specs.declared.expr.Sum.{Row_of-SumTail, end_of-SumTail, more_of-SumTail, items-the_row-SumTail}
-use Rattle.hera_syntax.specs.declared.expr.Term.{Row_of-TermTail, end_of-TermTail, more_of-TermTail, items-the_row-TermTail}
-use Rattle.hera_syntax.specs.declared.expr.Smash.{Row_of-SmashTail, end_of-SmashTail, more_of-SmashTail, items-the_row-SmashTail}
-use Rattle.hera_syntax.specs.declared.expr.Merge.{Row_of-MergeTail, end_of-MergeTail, more_of-MergeTail, items-the_row-MergeTail}
 use Rattle.hera_syntax.specs.declared.expr.Args.{Row_of-Expr, end_of-Expr, more_of-Expr, items-the_row-Expr}
 use Rattle.hera_syntax.specs.declared.expr.Bindings.{Row_of-Binding, end_of-Binding, more_of-Binding, items-the_row-Binding}
 use Rattle.hera_syntax.specs.declared.expr.Atoms.{Row_of-Atom, end_of-Atom, more_of-Atom, items-the_row-Atom}
@@ -19,36 +12,45 @@ use Rattle.std.proofs.Common.{Vec, Global, Option, Some, None}
 use Rattle.hera_syntax.specs.declared.tree.ElseIf.{ElseIf}
 use Rattle.hera_syntax.specs.declared.tree.Block.{Block}
 use Rattle.hera_syntax.specs.Programs.{stmt_outline, stmts_rest, stmt_row, elses_rest, else_if_row, last_outline, last_else}
-use Rattle.hera_syntax.specs.Outline.{Mark, and_rest, and_row, and_tail_outline, args_rest, args_row, atom_outline, atoms_rest, atoms_row, binding_outline, bindings_rest, bindings_row, expr_outline, expr_rest, expr_row, field_outline, hold, line_outline, lines_rest, lines_row, merge_rest, merge_row, merge_tail_outline, node, or_rest, or_row, or_tail_outline, prefix_start, prime_outline, skip, smash_rest, smash_row, smash_tail_outline, sum_rest, sum_row, sum_tail_outline, term_rest, term_row, term_tail_outline, when_tail_outline}
+use Rattle.hera_syntax.specs.Outline.{Mark, args_rest, args_row, atom_outline, atoms_rest, atoms_row, binding_outline, bindings_rest, bindings_row, chain, comparison_rest, expr_outline, hold, line_outline, lines_rest, lines_row, more_of, node, operand_outline, production_of, skip, tail_row, tails_outline}
+use Rattle.hera_syntax.specs.declared.expr.Level.{Level}
+use Rattle.hera_syntax.specs.declared.expr.Level.TheVariants as levels
+use Rattle.hera_syntax.specs.declared.expr.Operand.{Operand}
+use Rattle.hera_syntax.specs.declared.expr.Expr.{Row_of-Tail, end_of-Tail, more_of-Tail, items-the_row-Tail}
 
-pub expr_rows : (n : _) (k : Row_of-WhenTail n) → expr_rest k ≡ flat_map expr_row (items-the_row-WhenTail n k)
-expr_rows n end_of-WhenTail = refl
-expr_rows n (more_of-WhenTail e rest) = ap (λ r. (node (phrases.more phrases.whens) 0 ++ when_tail_outline e) ++ r) (expr_rows _ rest)
+pub tail_rows : (level : Level) (n : _) (k : Row_of-Tail n) → flat_map (λ tail. node (more_of level) 0 ++ tail) (tails_outline k) ≡ flat_map (tail_row level) (items-the_row-Tail n k)
+tail_rows level n end_of-Tail = refl
+tail_rows level n (more_of-Tail op operand rest) = ap (λ r. (node (more_of level) 0 ++ (hold op ++ operand_outline operand)) ++ r) (tail_rows level _ rest)
 
-pub or_rows : (n : _) (k : Row_of-OrTail n) → or_rest k ≡ flat_map or_row (items-the_row-OrTail n k)
-or_rows n end_of-OrTail = refl
-or_rows n (more_of-OrTail e rest) = ap (λ r. (node (phrases.more phrases.ors) 0 ++ or_tail_outline e) ++ r) (or_rows _ rest)
+-- a chain that is no comparison
+pub plain_chain : (level : Level) (first : List Mark) (tails : List (List Mark)) → ¬ (level ≡ levels.Comparisons) →
+    chain level first tails ≡ node (production_of level) 0 ++ first ++ flat_map (λ tail. node (more_of level) 0 ++ tail) tails ++ node (more_of level) 1
+plain_chain levels.Whens first tails h = refl
+plain_chain levels.Ors first tails h = refl
+plain_chain levels.Ands first tails h = refl
+plain_chain levels.Comparisons first tails h = absurd (h refl)
+plain_chain levels.Sums first tails h = refl
+plain_chain levels.Terms first tails h = refl
+plain_chain levels.Smashes first tails h = refl
+plain_chain levels.Merges first tails h = refl
 
-pub and_rows : (n : _) (k : Row_of-AndTail n) → and_rest k ≡ flat_map and_row (items-the_row-AndTail n k)
-and_rows n end_of-AndTail = refl
-and_rows n (more_of-AndTail e rest) = ap (λ r. (node (phrases.more phrases.ands) 0 ++ and_tail_outline e) ++ r) (and_rows _ rest)
+pub chain_rows : (level : Level) (first : Operand) (n : _) (k : Row_of-Tail n) → ¬ (level ≡ levels.Comparisons) →
+    chain level (operand_outline first) (tails_outline k) ≡ node (production_of level) 0 ++ operand_outline first ++ flat_map (tail_row level) (items-the_row-Tail n k) ++ node (more_of level) 1
+chain_rows level first n k h =
+    plain_chain level (operand_outline first) (tails_outline k) h
+    ∙ ap (λ r. node (production_of level) 0 ++ operand_outline first ++ r ++ node (more_of level) 1) (tail_rows level n k)
 
-pub sum_rows : (n : _) (k : Row_of-SumTail n) → sum_rest k ≡ flat_map sum_row (items-the_row-SumTail n k)
-sum_rows n end_of-SumTail = refl
-sum_rows n (more_of-SumTail e rest) = ap (λ r. (node (phrases.more phrases.sums) 0 ++ sum_tail_outline e) ++ r) (sum_rows _ rest)
+append_none : {A : Type 0} (xs : List A) → xs ++ [] ≡ xs
+append_none [] = refl
+append_none (x ∷ xs) = ap (λ r. x ∷ r) (append_none xs)
 
-pub term_rows : (n : _) (k : Row_of-TermTail n) → term_rest k ≡ flat_map term_row (items-the_row-TermTail n k)
-term_rows n end_of-TermTail = refl
-term_rows n (more_of-TermTail e rest) = ap (λ r. (node (phrases.more phrases.terms) 0 ++ term_tail_outline e) ++ r) (term_rows _ rest)
-
-pub smash_rows : (n : _) (k : Row_of-SmashTail n) → smash_rest k ≡ flat_map smash_row (items-the_row-SmashTail n k)
-smash_rows n end_of-SmashTail = refl
-smash_rows n (more_of-SmashTail e rest) = ap (λ r. (node (phrases.more phrases.smashes) 0 ++ smash_tail_outline e) ++ r) (smash_rows _ rest)
-
-pub merge_rows : (n : _) (k : Row_of-MergeTail n) → merge_rest k ≡ flat_map merge_row (items-the_row-MergeTail n k)
-merge_rows n end_of-MergeTail = refl
-merge_rows n (more_of-MergeTail sign op p operand field rest) =
-    ap (λ r. (node (phrases.more phrases.merges) 0 ++ (hold sign ++ (prefix_start op ++ (node phrases.post 0 ++ prime_outline operand ++ field_outline field)))) ++ r) (merge_rows _ rest)
+pub comparison_rows : (first : List Mark) (n : _) (k : Row_of-Tail n) → length (items-the_row-Tail n k) ≤ 1 →
+    chain levels.Comparisons first (tails_outline k) ≡ node phrases.cmp 0 ++ first ++ comparison_rest (items-the_row-Tail n k)
+comparison_rows first n end_of-Tail h = ap (λ r. r ++ node phrases.more_cmp 1) (append_none (node phrases.cmp 0 ++ first))
+comparison_rows first n (more_of-Tail op operand end_of-Tail) h =
+    let row : List Mark = node phrases.more_cmp 0 ++ (hold op ++ operand_outline operand) in
+    append_none (node phrases.cmp 0 ++ first ++ (row ++ [])) ∙ ap (λ r. node phrases.cmp 0 ++ first ++ r) (append_none row)
+comparison_rows first n (more_of-Tail op operand (more_of-Tail op' operand' rest)) h = absurd (omega (arith, h))
 
 pub args_rows : (n : _) (k : Row_of-Expr n) → args_rest k ≡ flat_map args_row (items-the_row-Expr n k)
 args_rows n end_of-Expr = refl

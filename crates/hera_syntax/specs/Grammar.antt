@@ -1,5 +1,5 @@
 -- The grammar, as data: each production's alternatives, as lists of parts.
-use Rattle.std.specs.Prelude.{◌≡◌, ℕ, ◌+◌, ◌*◌, List, [], ◌∷◌, Bool, IsTrue, nat_eq, slice_index_or}
+use Rattle.std.specs.Prelude.{ℕ, ◌+◌, ◌*◌, List, [], ◌∷◌, Bool, IsTrue, nat_eq, slice_index_or}
 use Rattle.std.specs.List.{list_any}
 use Rattle.hera_syntax.specs.declared.token.Terminal.{Terminal}
 use Rattle.hera_syntax.specs.declared.token.Terminal.TheVariants as terminals

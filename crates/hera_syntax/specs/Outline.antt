@@ -2,7 +2,7 @@
 --
 -- An outline is the list of the tree's nodes and tokens, in their order. A node says its production and
 -- which of the alternatives it is, a kept token stands whole, and of another token only its terminal.
-use Rattle.std.specs.Prelude.{◌≡◌, ℕ, List, [], ◌∷◌, ◌++◌, Option, Some, None}
+use Rattle.std.specs.Prelude.{ℕ, List, [], ◌∷◌, ◌++◌, Option, Some, None}
 use Rattle.std.specs.List.{flat_map}
 use Rattle.hera_syntax.specs.declared.token.Token.{Token}
 use Rattle.hera_syntax.specs.declared.token.Terminal.{Terminal}
@@ -16,30 +16,19 @@ use Rattle.hera_syntax.specs.declared.expr.AggTree.TheVariants.{Count, Of}
 use Rattle.hera_syntax.specs.declared.expr.NamedAgg.{NamedAgg}
 use Rattle.hera_syntax.specs.declared.expr.NamedAggs.{NamedAggs}
 use Rattle.hera_syntax.specs.declared.expr.Args.{Args, Args', Row_of-Expr, end_of-Expr, more_of-Expr}
-use Rattle.hera_syntax.specs.declared.expr.Expr.{Expr, Expr', Row_of-WhenTail, end_of-WhenTail, more_of-WhenTail}
-use Rattle.hera_syntax.specs.declared.expr.Or.{Or, Or', Row_of-OrTail, end_of-OrTail, more_of-OrTail}
-use Rattle.hera_syntax.specs.declared.expr.And.{And, And', Row_of-AndTail, end_of-AndTail, more_of-AndTail}
-use Rattle.hera_syntax.specs.declared.expr.Sum.{Sum, Sum', Row_of-SumTail, end_of-SumTail, more_of-SumTail}
-use Rattle.hera_syntax.specs.declared.expr.Term.{Term, Term', Row_of-TermTail, end_of-TermTail, more_of-TermTail}
-use Rattle.hera_syntax.specs.declared.expr.Smash.{Smash, Smash', Row_of-SmashTail, end_of-SmashTail, more_of-SmashTail}
-use Rattle.hera_syntax.specs.declared.expr.Merge.{Merge, Merge', Row_of-MergeTail, end_of-MergeTail, more_of-MergeTail}
+use Rattle.hera_syntax.specs.declared.expr.Level.{Level}
+use Rattle.hera_syntax.specs.declared.expr.Level.TheVariants as levels
+use Rattle.hera_syntax.specs.declared.expr.Expr.{Expr, Expr', Row_of-Tail, end_of-Tail, more_of-Tail}
+use Rattle.hera_syntax.specs.declared.expr.Operand.{Operand, Inner', Prefix'}
+use Rattle.hera_syntax.specs.declared.expr.Tail.{Tail}
 use Rattle.hera_syntax.specs.declared.expr.Bindings.{Bindings, Bindings', Row_of-Binding, end_of-Binding, more_of-Binding}
 use Rattle.hera_syntax.specs.declared.expr.Atoms.{Atoms, Atoms', Row_of-Atom, end_of-Atom, more_of-Atom}
 use Rattle.hera_syntax.specs.declared.expr.Lines.{Lines, Lines', Row_of-Line, end_of-Line, more_of-Line}
-use Rattle.hera_syntax.specs.declared.expr.WhenTail.{WhenTail, WhenTail'}
-use Rattle.hera_syntax.specs.declared.expr.OrTail.{OrTail, OrTail'}
-use Rattle.hera_syntax.specs.declared.expr.AndTail.{AndTail, AndTail'}
-use Rattle.hera_syntax.specs.declared.expr.SumTail.{SumTail, SumTail'}
-use Rattle.hera_syntax.specs.declared.expr.TermTail.{TermTail, TermTail'}
-use Rattle.hera_syntax.specs.declared.expr.SmashTail.{SmashTail, SmashTail'}
-use Rattle.hera_syntax.specs.declared.expr.CmpTail.{CmpTail, CmpTail'}
 use Rattle.hera_syntax.specs.declared.expr.Binding.{Binding, Binding'}
 use Rattle.hera_syntax.specs.declared.expr.Atom.{Atom, Atom'}
 use Rattle.hera_syntax.specs.declared.expr.Line.{Line, Line'}
-use Rattle.hera_syntax.specs.declared.expr.MergeTail.{MergeTail}
 use Rattle.hera_syntax.specs.declared.expr.Prefix.{Prefix}
 use Rattle.hera_syntax.specs.declared.expr.Post.{Post}
-use Rattle.hera_syntax.specs.declared.expr.Cmp.{Cmp, Cmp', Held-Cmp-rest, Cmp-rest-None', Cmp-rest-Some'}
 use Rattle.hera_syntax.specs.declared.expr.Prime.{Prime, Int, Text, True, False, Fail, Name, Call', Paren', Row', Delta', Rows', Walk', Project', Rename', Pair', Group', Measure', Fold', Bulk', Part', Held-Prime-Call-2, Prime-Call-2-None', Prime-Call-2-Some', Held-Prime-Delta-1, Prime-Delta-1-None', Prime-Delta-1-Some', Held-Prime-Rows-4, Prime-Rows-4-None', Prime-Rows-4-Some'}
 
 -- what stands at one place of an outline
@@ -97,87 +86,53 @@ abbrev pub field_outline : Option Token → List Mark
 field_outline None = node phrases.field 1
 field_outline (Some t) = node phrases.field 0 ++ skip phrases.dot ++ hold t
 
+-- the production of a chain of this level, and of what stands behind an operand of it
+abbrev pub production_of : Level → Production
+production_of levels.Whens = phrases.level phrases.whens
+production_of levels.Ors = phrases.level phrases.ors
+production_of levels.Ands = phrases.level phrases.ands
+production_of levels.Comparisons = phrases.cmp
+production_of levels.Sums = phrases.level phrases.sums
+production_of levels.Terms = phrases.level phrases.terms
+production_of levels.Smashes = phrases.level phrases.smashes
+production_of levels.Merges = phrases.level phrases.merges
+
+abbrev pub more_of : Level → Production
+more_of levels.Whens = phrases.more phrases.whens
+more_of levels.Ors = phrases.more phrases.ors
+more_of levels.Ands = phrases.more phrases.ands
+more_of levels.Comparisons = phrases.more_cmp
+more_of levels.Sums = phrases.more phrases.sums
+more_of levels.Terms = phrases.more phrases.terms
+more_of levels.Smashes = phrases.more phrases.smashes
+more_of levels.Merges = phrases.more phrases.merges
+
+-- Which alternative a chain is, by the outlines of its tails. A comparison has at most one tail: one with more
+-- is by none that there is.
+abbrev pub alternative_of : Level → List (List Mark) → ℕ
+alternative_of levels.Comparisons (tail ∷ other ∷ tails) = 1
+alternative_of _ tails = 0
+
+-- what stands behind the tails; behind the one of a comparison stands nothing
+abbrev pub chain_end : Level → List (List Mark) → List Mark
+chain_end levels.Comparisons (tail ∷ []) = []
+chain_end level tails = node (more_of level) 1
+
+-- a chain, by the outlines of its first operand and of its tails
+abbrev pub chain : Level → List Mark → List (List Mark) → List Mark
+chain level first tails = node (production_of level) (alternative_of level tails) ++ first ++ flat_map (λ tail. node (more_of level) 0 ++ tail) tails ++ chain_end level tails
+
 abbrev mutual
   pub expr_outline : Expr → List Mark
-  expr_outline (Expr' first shape rest) = node (phrases.level phrases.whens) 0 ++ or_outline first ++ expr_rest rest ++ node (phrases.more phrases.whens) 1
+  expr_outline (Expr' level first shape rest) = chain level (operand_outline first) (tails_outline rest)
 
-  pub expr_rest : {m : _} → Row_of-WhenTail m → List Mark
-  expr_rest end_of-WhenTail = []
-  expr_rest (more_of-WhenTail e rest) = (node (phrases.more phrases.whens) 0 ++ when_tail_outline e) ++ expr_rest rest
+  pub tails_outline : {m : _} → Row_of-Tail m → List (List Mark)
+  tails_outline end_of-Tail = []
+  tails_outline (more_of-Tail op operand rest) = (hold op ++ operand_outline operand) ∷ tails_outline rest
 
-  pub when_tail_outline : WhenTail → List Mark
-  when_tail_outline (WhenTail' op operand) = hold op ++ or_outline operand
-
-  pub or_outline : Or → List Mark
-  or_outline (Or' first shape rest) = node (phrases.level phrases.ors) 0 ++ and_outline first ++ or_rest rest ++ node (phrases.more phrases.ors) 1
-
-  pub or_rest : {m : _} → Row_of-OrTail m → List Mark
-  or_rest end_of-OrTail = []
-  or_rest (more_of-OrTail e rest) = (node (phrases.more phrases.ors) 0 ++ or_tail_outline e) ++ or_rest rest
-
-  pub or_tail_outline : OrTail → List Mark
-  or_tail_outline (OrTail' op operand) = hold op ++ and_outline operand
-
-  pub and_outline : And → List Mark
-  and_outline (And' first shape rest) = node (phrases.level phrases.ands) 0 ++ cmp_outline first ++ and_rest rest ++ node (phrases.more phrases.ands) 1
-
-  pub and_rest : {m : _} → Row_of-AndTail m → List Mark
-  and_rest end_of-AndTail = []
-  and_rest (more_of-AndTail e rest) = (node (phrases.more phrases.ands) 0 ++ and_tail_outline e) ++ and_rest rest
-
-  pub and_tail_outline : AndTail → List Mark
-  and_tail_outline (AndTail' op operand) = hold op ++ cmp_outline operand
-
-  pub sum_outline : Sum → List Mark
-  sum_outline (Sum' first shape rest) = node (phrases.level phrases.sums) 0 ++ term_outline first ++ sum_rest rest ++ node (phrases.more phrases.sums) 1
-
-  pub sum_rest : {m : _} → Row_of-SumTail m → List Mark
-  sum_rest end_of-SumTail = []
-  sum_rest (more_of-SumTail e rest) = (node (phrases.more phrases.sums) 0 ++ sum_tail_outline e) ++ sum_rest rest
-
-  pub sum_tail_outline : SumTail → List Mark
-  sum_tail_outline (SumTail' op operand) = hold op ++ term_outline operand
-
-  pub term_outline : Term → List Mark
-  term_outline (Term' first shape rest) = node (phrases.level phrases.terms) 0 ++ smash_outline first ++ term_rest rest ++ node (phrases.more phrases.terms) 1
-
-  pub term_rest : {m : _} → Row_of-TermTail m → List Mark
-  term_rest end_of-TermTail = []
-  term_rest (more_of-TermTail e rest) = (node (phrases.more phrases.terms) 0 ++ term_tail_outline e) ++ term_rest rest
-
-  pub term_tail_outline : TermTail → List Mark
-  term_tail_outline (TermTail' op operand) = hold op ++ smash_outline operand
-
-  pub smash_outline : Smash → List Mark
-  smash_outline (Smash' first shape rest) = node (phrases.level phrases.smashes) 0 ++ merge_outline first ++ smash_rest rest ++ node (phrases.more phrases.smashes) 1
-
-  pub smash_rest : {m : _} → Row_of-SmashTail m → List Mark
-  smash_rest end_of-SmashTail = []
-  smash_rest (more_of-SmashTail e rest) = (node (phrases.more phrases.smashes) 0 ++ smash_tail_outline e) ++ smash_rest rest
-
-  pub smash_tail_outline : SmashTail → List Mark
-  smash_tail_outline (SmashTail' op operand) = hold op ++ merge_outline operand
-
-  pub merge_outline : Merge → List Mark
-  merge_outline (Merge' op p operand field shape rest) =
-      node (phrases.level phrases.merges) 0 ++ (prefix_start op ++ (node phrases.post 0 ++ prime_outline operand ++ field_outline field)) ++ merge_rest rest
-      ++ node (phrases.more phrases.merges) 1
-
-  pub merge_rest : {m : _} → Row_of-MergeTail m → List Mark
-  merge_rest end_of-MergeTail = []
-  merge_rest (more_of-MergeTail sign op p operand field rest) =
-      (node (phrases.more phrases.merges) 0 ++ (hold sign ++ (prefix_start op ++ (node phrases.post 0 ++ prime_outline operand ++ field_outline field))))
-      ++ merge_rest rest
-
-  pub cmp_outline : Cmp → List Mark
-  cmp_outline (Cmp' first rest) = node phrases.cmp 0 ++ sum_outline first ++ cmp_rest rest
-
-  pub cmp_rest : Held-Cmp-rest → List Mark
-  cmp_rest Cmp-rest-None' = node phrases.more_cmp 1
-  cmp_rest (Cmp-rest-Some' t) = node phrases.more_cmp 0 ++ cmp_tail_outline t
-
-  pub cmp_tail_outline : CmpTail → List Mark
-  cmp_tail_outline (CmpTail' op operand) = hold op ++ sum_outline operand
+  pub operand_outline : Operand → List Mark
+  operand_outline (Inner' p e) = expr_outline e
+  operand_outline (Prefix' op p operand field) = prefix_start op ++ (node phrases.post 0 ++ prime_outline operand ++ field_outline field)
 
   pub args_outline : Args → List Mark
   args_outline (Args' first shape rest) = node phrases.args 0 ++ expr_outline first ++ args_rest rest ++ node phrases.more_args 1
@@ -263,8 +218,17 @@ post_outline p = node phrases.post 0 ++ prime_outline p.operand.value ++ field_o
 abbrev pub prefix_outline : Prefix → List Mark
 prefix_outline p = prefix_start p.op ++ post_outline p.operand
 
-abbrev pub merge_tail_outline : MergeTail → List Mark
-merge_tail_outline m = hold m.op ++ prefix_outline m.operand
+abbrev pub tail_outline : Tail → List Mark
+tail_outline t = hold t.op ++ operand_outline t.operand
+
+-- one more operator of a chain, and its operand
+abbrev pub tail_row : Level → Tail → List Mark
+tail_row level t = node (more_of level) 0 ++ tail_outline t
+
+-- what stands behind the first operand of a comparison
+abbrev pub comparison_rest : List Tail → List Mark
+comparison_rest [] = node phrases.more_cmp 1
+comparison_rest (t ∷ ts) = node phrases.more_cmp 0 ++ tail_outline t
 
 abbrev pub some_args_outline : Option Args → List Mark
 some_args_outline None = node phrases.some_args 1
@@ -277,34 +241,6 @@ some_atoms_outline (Some atoms) = node phrases.some_atoms 0 ++ atoms_outline ato
 abbrev pub some_lines_outline : Option Lines → List Mark
 some_lines_outline None = node phrases.some_lines 1
 some_lines_outline (Some lines) = node phrases.some_lines 0 ++ lines_outline lines
-
--- one more operand of a chain
-abbrev pub expr_row : WhenTail → List Mark
-expr_row e = node (phrases.more phrases.whens) 0 ++ when_tail_outline e
-
--- one more operand of a chain
-abbrev pub or_row : OrTail → List Mark
-or_row e = node (phrases.more phrases.ors) 0 ++ or_tail_outline e
-
--- one more operand of a chain
-abbrev pub and_row : AndTail → List Mark
-and_row e = node (phrases.more phrases.ands) 0 ++ and_tail_outline e
-
--- one more operand of a chain
-abbrev pub sum_row : SumTail → List Mark
-sum_row e = node (phrases.more phrases.sums) 0 ++ sum_tail_outline e
-
--- one more operand of a chain
-abbrev pub term_row : TermTail → List Mark
-term_row e = node (phrases.more phrases.terms) 0 ++ term_tail_outline e
-
--- one more operand of a chain
-abbrev pub smash_row : SmashTail → List Mark
-smash_row e = node (phrases.more phrases.smashes) 0 ++ smash_tail_outline e
-
--- one more operand of a chain
-abbrev pub merge_row : MergeTail → List Mark
-merge_row e = node (phrases.more phrases.merges) 0 ++ merge_tail_outline e
 
 -- one more item of a list
 abbrev pub args_row : Expr → List Mark

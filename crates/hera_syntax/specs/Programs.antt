@@ -1,7 +1,6 @@
 -- The outlines of statements, declarations and programs.
-use Rattle.std.specs.Prelude.{◌≡◌, ℕ, List, [], ◌∷◌, ◌++◌, Option, Some, None}
+use Rattle.std.specs.Prelude.{List, [], ◌++◌, Option, Some, None}
 use Rattle.std.specs.List.{flat_map}
-use Rattle.hera_syntax.specs.declared.token.Token.{Token}
 use Rattle.hera_syntax.specs.declared.expr.Expr.{Expr}
 use Rattle.hera_syntax.specs.declared.tree.KindTree.{KindTree}
 use Rattle.hera_syntax.specs.declared.tree.AttrTree.{AttrTree}

@@ -1,138 +1,109 @@
-//! The trees of expressions: one type for each production, from the loosest operator inwards.
+//! The trees of expressions: one type for each production, but for the levels of operators, which are one
+//! type with its level.
 //!
 //! A chain of one level is flat: its first operand, and then each operator with its operand. A tree
 //! keeps the whole token of each name, literal, operator, heading keyword and opening bracket.
 
-use crate::Token;
+use crate::{Terminal, Token};
 
 mod build;
 
-/// `or ('when' or)*`
+/// The levels of operators, from the loosest. The operand of a level is an expression of the next one, and
+/// that of the last level a prefix.
+#[derive(Clone, Copy, Debug, PartialEq, Eq)]
+pub enum Level {
+    /// `or ('when' or)*`
+    Whens,
+    /// `and ('||' and)*`
+    Ors,
+    /// `cmp ('&&' cmp)*`
+    Ands,
+    /// `sum (('==' | '!=' | '<' | '<=' | '>' | '>=' | 'in') sum)?`
+    Comparisons,
+    /// `term (('+' | '-') term)*`
+    Sums,
+    /// `smash (('*' | '/' | '%') smash)*`
+    Terms,
+    /// `merge ('!' merge)*`
+    Smashes,
+    /// `prefix ('&' prefix)*`
+    Merges,
+}
+
+impl Level {
+    ghost use Rattle.std.specs.Prelude.{◌≡◌};
+    ghost use Rattle.hera_syntax.specs.Operators.{below, operators_of};
+
+    /// The level of its operands, or `None` where they are prefixes.
+    pub fn below(self) -> Option<Level>
+        ensures { result ≡ below self }
+    {
+        match self {
+            Level::Whens => Some(Level::Ors),
+            Level::Ors => Some(Level::Ands),
+            Level::Ands => Some(Level::Comparisons),
+            Level::Comparisons => Some(Level::Sums),
+            Level::Sums => Some(Level::Terms),
+            Level::Terms => Some(Level::Smashes),
+            Level::Smashes => Some(Level::Merges),
+            Level::Merges => None,
+        }
+    }
+
+    /// The terminals of its operators.
+    pub fn operators(self) -> &'static [Terminal]
+        ensures { result.now ≡ operators_of self }
+    {
+        match self {
+            Level::Whens => &[Terminal::Key(24)],
+            Level::Ors => &[Terminal::Punct(25)],
+            Level::Ands => &[Terminal::Punct(24)],
+            Level::Comparisons => &[
+                Terminal::Punct(11),
+                Terminal::Punct(12),
+                Terminal::Punct(13),
+                Terminal::Punct(14),
+                Terminal::Punct(15),
+                Terminal::Punct(16),
+                Terminal::Key(14),
+            ],
+            Level::Sums => &[Terminal::Punct(17), Terminal::Punct(18)],
+            Level::Terms => &[
+                Terminal::Punct(19),
+                Terminal::Punct(20),
+                Terminal::Punct(21),
+            ],
+            Level::Smashes => &[Terminal::Punct(22)],
+            Level::Merges => &[Terminal::Punct(23)],
+        }
+    }
+}
+
+/// An expression of one level: its first operand, and then each operator with its operand.
 #[derive(Drop)]
 #[cycle(expr)]
 pub struct Expr {
-    pub first: Or,
-    pub rest: Vec<WhenTail>,
+    pub level: Level,
+    pub first: Operand,
+    pub rest: Vec<Tail>,
 }
 
-/// `'when' or`
+/// An operator and its right operand.
 #[derive(Drop)]
 #[cycle(expr)]
-pub struct WhenTail {
+pub struct Tail {
     pub op: Token,
-    pub operand: Or,
+    pub operand: Operand,
 }
 
-/// `and ('||' and)*`
+/// An operand of a level.
 #[derive(Drop)]
 #[cycle(expr)]
-pub struct Or {
-    pub first: And,
-    pub rest: Vec<OrTail>,
-}
-
-/// `'||' and`
-#[derive(Drop)]
-#[cycle(expr)]
-pub struct OrTail {
-    pub op: Token,
-    pub operand: And,
-}
-
-/// `cmp ('&&' cmp)*`
-#[derive(Drop)]
-#[cycle(expr)]
-pub struct And {
-    pub first: Cmp,
-    pub rest: Vec<AndTail>,
-}
-
-/// `'&&' cmp`
-#[derive(Drop)]
-#[cycle(expr)]
-pub struct AndTail {
-    pub op: Token,
-    pub operand: Cmp,
-}
-
-/// `sum (('==' | '!=' | '<' | '<=' | '>' | '>=' | 'in') sum)?`
-#[derive(Drop)]
-#[cycle(expr)]
-pub struct Cmp {
-    pub first: Sum,
-    pub rest: Option<CmpTail>,
-}
-
-/// A comparison's operator and its right operand.
-#[derive(Drop)]
-#[cycle(expr)]
-pub struct CmpTail {
-    pub op: Token,
-    pub operand: Sum,
-}
-
-/// `term (('+' | '-') term)*`
-#[derive(Drop)]
-#[cycle(expr)]
-pub struct Sum {
-    pub first: Term,
-    pub rest: Vec<SumTail>,
-}
-
-/// `('+' | '-') term`
-#[derive(Drop)]
-#[cycle(expr)]
-pub struct SumTail {
-    pub op: Token,
-    pub operand: Term,
-}
-
-/// `smash (('*' | '/' | '%') smash)*`
-#[derive(Drop)]
-#[cycle(expr)]
-pub struct Term {
-    pub first: Smash,
-    pub rest: Vec<TermTail>,
-}
-
-/// `('*' | '/' | '%') smash`
-#[derive(Drop)]
-#[cycle(expr)]
-pub struct TermTail {
-    pub op: Token,
-    pub operand: Smash,
-}
-
-/// `merge ('!' merge)*`
-#[derive(Drop)]
-#[cycle(expr)]
-pub struct Smash {
-    pub first: Merge,
-    pub rest: Vec<SmashTail>,
-}
-
-/// `'!' merge`
-#[derive(Drop)]
-#[cycle(expr)]
-pub struct SmashTail {
-    pub op: Token,
-    pub operand: Merge,
-}
-
-/// `prefix ('&' prefix)*`
-#[derive(Drop)]
-#[cycle(expr)]
-pub struct Merge {
-    pub first: Prefix,
-    pub rest: Vec<MergeTail>,
-}
-
-/// `'&' prefix`
-#[derive(Drop)]
-#[cycle(expr)]
-pub struct MergeTail {
-    pub op: Token,
-    pub operand: Prefix,
+pub enum Operand {
+    /// An expression of the next level.
+    Inner(Box<Expr>),
+    /// The operand of the last level.
+    Prefix(Prefix),
 }
 
 /// `('-' | '!')? post`

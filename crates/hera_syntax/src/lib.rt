@@ -10,9 +10,8 @@ mod tokens;
 mod tree;
 
 pub use expr::{
-    AggTree, And, AndTail, Args, Atom, Atoms, Binding, Bindings, Cmp, CmpTail, Expr, Line, Lines,
-    Merge, MergeTail, NamedAgg, NamedAggs, Names, Or, OrTail, Post, Prefix, Prime, Renaming,
-    Renamings, Smash, SmashTail, Sum, SumTail, Term, TermTail, WhenTail,
+    AggTree, Args, Atom, Atoms, Binding, Bindings, Expr, Level, Line, Lines, NamedAgg, NamedAggs,
+    Names, Operand, Post, Prefix, Prime, Renaming, Renamings, Tail,
 };
 pub use token::{PieceShape, Terminal, Token, TokenKind};
 pub use tokens::Tokens;

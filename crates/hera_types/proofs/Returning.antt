@@ -10,8 +10,8 @@ use Rattle.hera_meaning.specs.declared.trees.Stmt.TheVariants as variant
 use Rattle.hera_meaning.proofs.PlainLaws.{command_of-If, command_of-Return}
 use Rattle.hera_meaning.specs.Plain.{command_of, block_in, arms_in, return_of}
 use Rattle.hera_meaning.specs.Sound.{returns, command_returns, arms_return}
-use Rattle.hera_typing_parts.proofs.Giving.{next_at, none_at}
-use Rattle.hera_typing_parts.proofs.Before.{take_at}
+use Rattle.hera_types_parts.proofs.Giving.{next_at, none_at}
+use Rattle.hera_types_parts.proofs.Before.{take_at}
 
 returns_last : (xs : List Stmt) (x : Stmt) → returns (block_in (xs ++ x ∷ [])) ≡ command_returns (command_of x)
 returns_last [] x = refl

@@ -14,7 +14,7 @@ use Rattle.hera_rules.specs.Commands.{fields_row}
 use Rattle.hera_rules.specs.Checked.{and_then}
 use Rattle.hera_rules.specs.CheckedScripts.{check_funcs, check_procs}
 use Rattle.hera_rules.specs.Programs.{relation_name, relations_row, new_name_row, names_row, func_row, funcs_row, proc_row, procs_row}
-use Rattle.hera_typing_parts.proofs.Giving.{next_at, none_at, and_then-assoc}
+use Rattle.hera_types_parts.proofs.Giving.{next_at, none_at, and_then-assoc}
 use Rattle.hera_types.specs.Passes.{relation_row}
 
 -- a row of relations, one declaration at a time

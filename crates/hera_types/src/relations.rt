@@ -12,8 +12,8 @@ ghost use Rattle.hera_rules.specs.ReadActs.{relation_phrase};
 use hera_meaning::{Name, RelDecl};
 use hera_rules::{Relations, TypeFault};
 use hera_syntax::{Relation, Token};
-use hera_typing_parts::{made, name_bytes, name_copy};
-use hera_typing_rows::fields_row_of;
+use hera_types_parts::{made, name_bytes, name_copy};
+use hera_types_rows::fields_row_of;
 use std::alloc::Global;
 
 /// Whether one of the relations has this name.

@@ -24,8 +24,8 @@ ghost use Rattle.hera_types.specs.Passes.{func_names, proc_names};
 use hera_meaning::Name;
 use hera_rules::{FuncSig, Local, Locals, ProcSig, Relations, TypeFault};
 use hera_syntax::{Func, Param, Params, Proc, Token};
-use hera_typing_parts::{is_name, name_bytes, name_copy, number_of, put};
-use hera_typing_rows::type_row_of;
+use hera_types_parts::{is_name, name_bytes, name_copy, number_of, put};
+use hera_types_rows::type_row_of;
 use std::alloc::{AllocError, Global};
 
 // ---- names

@@ -6,18 +6,18 @@ ghost use Rattle.hera_rules.specs.Phrases.{applying, asserting, assigning, decla
 ghost use Rattle.hera_rules.specs.Read.{expr_phrase, word_of};
 ghost use Rattle.hera_rules.specs.ReadActs.{return_act, some_args, type_phrase};
 ghost use Rattle.hera_rules.specs.Statements.{slots_of_act};
-ghost use Rattle.hera_typing_exprs.specs.Parts.{list_of};
+ghost use Rattle.hera_types_exprs.specs.Parts.{list_of};
 ghost use Rattle.hera_rules.specs.Agrees.{Gives, Keeps};
 ghost use Rattle.hera_rules.specs.Checked.{check_all};
 ghost use Rattle.hera_rules.specs.Typing.{slots_of_all};
 ghost use Rattle.hera_types.specs.Scopes.{ActGives, Extends};
 
 use hera_meaning::{Shape, Stmt};
-use hera_rules::{Globals, Scope, TypeFault, Typed};
+use hera_rules::{Globals, LocalScope, TypeFault, Typed};
 use hera_syntax::{Args, Expr, Token, TypeTree};
-use hera_typing_exprs::{Waiting, args, expr, push_local, take_slot};
-use hera_typing_parts::into_core;
-use hera_typing_rows::{
+use hera_types_exprs::{Waiting, args, expr, push_local, take_slot};
+use hera_types_parts::into_core;
+use hera_types_rows::{
     apply_row_of, assert_row_of, assign_row_of, declare_row_of, perform_row_of, print_row_of,
     return_row_of, return_value_row_of, type_row_of,
 };
@@ -28,7 +28,7 @@ pub fn declare(
     alloc: Global,
     globals: &Globals,
     returned: &Option<Shape>,
-    scope: &mut Scope,
+    scope: &mut LocalScope,
     type_tree: &TypeTree,
     name: &Token,
     value: &Expr,
@@ -60,7 +60,7 @@ pub fn assign(
     alloc: Global,
     globals: &Globals,
     returned: &Option<Shape>,
-    scope: &mut Scope,
+    scope: &mut LocalScope,
     name: &Token,
     value: &Expr,
 ) -> Result<Stmt, TypeFault>
@@ -77,7 +77,7 @@ pub fn perform(
     alloc: Global,
     globals: &Globals,
     returned: &Option<Shape>,
-    scope: &mut Scope,
+    scope: &mut LocalScope,
     name: &Token,
     list: &Option<Args>,
 ) -> Result<Stmt, TypeFault>
@@ -94,7 +94,7 @@ pub fn print(
     alloc: Global,
     globals: &Globals,
     returned: &Option<Shape>,
-    scope: &mut Scope,
+    scope: &mut LocalScope,
     at: u32,
     value: &Expr,
 ) -> Result<Stmt, TypeFault>
@@ -111,7 +111,7 @@ pub fn apply(
     alloc: Global,
     globals: &Globals,
     returned: &Option<Shape>,
-    scope: &mut Scope,
+    scope: &mut LocalScope,
     at: u32,
     value: &Expr,
 ) -> Result<Stmt, TypeFault>
@@ -128,7 +128,7 @@ pub fn claim(
     alloc: Global,
     globals: &Globals,
     returned: &Option<Shape>,
-    scope: &mut Scope,
+    scope: &mut LocalScope,
     at: u32,
     value: &Expr,
 ) -> Result<Stmt, TypeFault>
@@ -145,7 +145,7 @@ pub fn give_back(
     alloc: Global,
     globals: &Globals,
     returned: &Option<Shape>,
-    scope: &mut Scope,
+    scope: &mut LocalScope,
     word: &Token,
     value: &Option<Expr>,
 ) -> Result<Stmt, TypeFault>
@@ -164,7 +164,7 @@ fn give_value(
     alloc: Global,
     globals: &Globals,
     returned: &Option<Shape>,
-    scope: &mut Scope,
+    scope: &mut LocalScope,
     at: u32,
     value: &Expr,
 ) -> Result<Stmt, TypeFault>
@@ -180,7 +180,7 @@ fn give_value(
 fn some_values(
     alloc: Global,
     globals: &Globals,
-    scope: &mut Scope,
+    scope: &mut LocalScope,
     list: &Option<Args>,
 ) -> Result<Vec<Typed>, TypeFault>
     ensures checks { Gives list_of result (check_all (env_of globals.now) scope.old.locals.items scope.old.next [] (some_args list.now)) }

@@ -1,153 +1,55 @@
 //! How the trees of expressions are made, with the outline that each has.
 
-ghost use Rattle.std.specs.Prelude.{◌≡◌, ◌++◌};
+ghost use Rattle.std.specs.Prelude.{◌≡◌, ◌≤◌, ◌++◌, length};
 ghost use Rattle.std.specs.List.{flat_map};
 ghost use Rattle.hera_syntax.specs.Grammar as phrases;
-ghost use Rattle.hera_syntax.specs.Outline.{agg_outline, agg_row, aggs_outline, and_outline, and_row, and_tail_outline, args_outline, args_row, atom_outline, atoms_outline, atoms_row, binding_outline, bindings_outline, bindings_row, cmp_outline, expr_outline, expr_row, field_outline, hold, line_outline, lines_outline, lines_row, merge_outline, merge_row, merge_tail_outline, name_row, named_agg_outline, names_outline, node, or_outline, or_row, or_tail_outline, post_outline, prefix_outline, prime_outline, renaming_outline, renaming_row, renamings_outline, skip, smash_outline, smash_row, smash_tail_outline, sum_outline, sum_row, sum_tail_outline, term_outline, term_row, term_tail_outline, when_tail_outline};
+ghost use Rattle.hera_syntax.specs.Outline.{agg_outline, agg_row, aggs_outline, args_outline, args_row, atom_outline, atoms_outline, atoms_row, binding_outline, bindings_outline, bindings_row, comparison_rest, expr_outline, field_outline, hold, line_outline, lines_outline, lines_row, more_of, name_row, named_agg_outline, names_outline, node, operand_outline, post_outline, prefix_outline, prime_outline, production_of, renaming_outline, renaming_row, renamings_outline, skip, tail_outline, tail_row};
 
 use super::*;
 
-impl WhenTail {
-    /// An operator and its operand.
-    pub fn new(op: Token, operand: Or) -> WhenTail
-        ensures { when_tail_outline result ≡ hold op ++ or_outline operand }
+impl Tail {
+    /// An operator and its right operand.
+    pub fn new(op: Token, operand: Operand) -> Tail
+        ensures { tail_outline result ≡ hold op ++ operand_outline operand }
     {
-        WhenTail { op, operand }
+        Tail { op, operand }
+    }
+}
+
+impl Operand {
+    /// An expression of the next level.
+    pub fn inner(inner: Box<Expr>) -> Operand
+        ensures { operand_outline result ≡ expr_outline inner.value }
+    {
+        Operand::Inner(inner)
+    }
+
+    /// The operand of the last level.
+    pub fn prefix(prefix: Prefix) -> Operand
+        ensures { operand_outline result ≡ prefix_outline prefix }
+    {
+        Operand::Prefix(prefix)
     }
 }
 
 impl Expr {
-    /// A chain of operands.
-    pub fn new(first: Or, rest: Vec<WhenTail>) -> Expr
-        ensures { expr_outline result ≡ node (phrases.level phrases.whens) 0 ++ or_outline first ++ flat_map expr_row rest.items ++ node (phrases.more phrases.whens) 1 }
+    /// A chain of operands. A comparison is none: it has at most one operator.
+    pub fn chain(level: Level, first: Operand, rest: Vec<Tail>) -> Expr
+        requires { ¬ (level ≡ Level.Comparisons) }
+        ensures { expr_outline result ≡ node (production_of level) 0 ++ operand_outline first ++ flat_map (tail_row level) rest.items ++ node (more_of level) 1 }
     {
-        Expr { first, rest }
-    }
-}
-
-impl OrTail {
-    /// An operator and its operand.
-    pub fn new(op: Token, operand: And) -> OrTail
-        ensures { or_tail_outline result ≡ hold op ++ and_outline operand }
-    {
-        OrTail { op, operand }
-    }
-}
-
-impl Or {
-    /// A chain of operands.
-    pub fn new(first: And, rest: Vec<OrTail>) -> Or
-        ensures { or_outline result ≡ node (phrases.level phrases.ors) 0 ++ and_outline first ++ flat_map or_row rest.items ++ node (phrases.more phrases.ors) 1 }
-    {
-        Or { first, rest }
-    }
-}
-
-impl AndTail {
-    /// An operator and its operand.
-    pub fn new(op: Token, operand: Cmp) -> AndTail
-        ensures { and_tail_outline result ≡ hold op ++ cmp_outline operand }
-    {
-        AndTail { op, operand }
-    }
-}
-
-impl And {
-    /// A chain of operands.
-    pub fn new(first: Cmp, rest: Vec<AndTail>) -> And
-        ensures { and_outline result ≡ node (phrases.level phrases.ands) 0 ++ cmp_outline first ++ flat_map and_row rest.items ++ node (phrases.more phrases.ands) 1 }
-    {
-        And { first, rest }
-    }
-}
-
-impl SumTail {
-    /// An operator and its operand.
-    pub fn new(op: Token, operand: Term) -> SumTail
-        ensures { sum_tail_outline result ≡ hold op ++ term_outline operand }
-    {
-        SumTail { op, operand }
-    }
-}
-
-impl Sum {
-    /// A chain of operands.
-    pub fn new(first: Term, rest: Vec<SumTail>) -> Sum
-        ensures { sum_outline result ≡ node (phrases.level phrases.sums) 0 ++ term_outline first ++ flat_map sum_row rest.items ++ node (phrases.more phrases.sums) 1 }
-    {
-        Sum { first, rest }
-    }
-}
-
-impl TermTail {
-    /// An operator and its operand.
-    pub fn new(op: Token, operand: Smash) -> TermTail
-        ensures { term_tail_outline result ≡ hold op ++ smash_outline operand }
-    {
-        TermTail { op, operand }
-    }
-}
-
-impl Term {
-    /// A chain of operands.
-    pub fn new(first: Smash, rest: Vec<TermTail>) -> Term
-        ensures { term_outline result ≡ node (phrases.level phrases.terms) 0 ++ smash_outline first ++ flat_map term_row rest.items ++ node (phrases.more phrases.terms) 1 }
-    {
-        Term { first, rest }
-    }
-}
-
-impl SmashTail {
-    /// An operator and its operand.
-    pub fn new(op: Token, operand: Merge) -> SmashTail
-        ensures { smash_tail_outline result ≡ hold op ++ merge_outline operand }
-    {
-        SmashTail { op, operand }
-    }
-}
-
-impl Smash {
-    /// A chain of operands.
-    pub fn new(first: Merge, rest: Vec<SmashTail>) -> Smash
-        ensures { smash_outline result ≡ node (phrases.level phrases.smashes) 0 ++ merge_outline first ++ flat_map smash_row rest.items ++ node (phrases.more phrases.smashes) 1 }
-    {
-        Smash { first, rest }
-    }
-}
-
-impl MergeTail {
-    /// An operator and its operand.
-    pub fn new(op: Token, operand: Prefix) -> MergeTail
-        ensures { merge_tail_outline result ≡ hold op ++ prefix_outline operand }
-    {
-        MergeTail { op, operand }
-    }
-}
-
-impl Merge {
-    /// A chain of operands.
-    pub fn new(first: Prefix, rest: Vec<MergeTail>) -> Merge
-        ensures { merge_outline result ≡ node (phrases.level phrases.merges) 0 ++ prefix_outline first ++ flat_map merge_row rest.items ++ node (phrases.more phrases.merges) 1 }
-    {
-        Merge { first, rest }
-    }
-}
-
-impl Cmp {
-    /// A sum that is not compared.
-    pub fn single(first: Sum) -> Cmp
-        ensures { cmp_outline result ≡ node phrases.cmp 0 ++ sum_outline first ++ node phrases.more_cmp 1 }
-    {
-        Cmp { first, rest: None }
+        Expr { level, first, rest }
     }
 
-    /// A comparison.
-    pub fn pair(first: Sum, op: Token, operand: Sum) -> Cmp
-        ensures { cmp_outline result ≡ node phrases.cmp 0 ++ sum_outline first ++ (node phrases.more_cmp 0 ++ (hold op ++ sum_outline operand)) }
+    /// A comparison, or with no tail a sum that is not compared.
+    pub fn comparison(first: Operand, rest: Vec<Tail>) -> Expr
+        requires { length rest.items ≤ 1 }
+        ensures { expr_outline result ≡ node phrases.cmp 0 ++ operand_outline first ++ comparison_rest rest.items }
     {
-        Cmp {
+        Expr {
+            level: Level::Comparisons,
             first,
-            rest: Some(CmpTail { op, operand }),
+            rest,
         }
     }
 }

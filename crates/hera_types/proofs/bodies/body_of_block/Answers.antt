@@ -1,7 +1,7 @@
 use Rattle.hera_meaning.specs.Plain.{body_of}
 use Rattle.hera_rules.specs.Environments.{env_of}
 use Rattle.hera_rules.specs.ReadActs.{block_acts}
-use Rattle.hera_typing_parts.proofs.Giving.{gives_err}
+use Rattle.hera_types_parts.proofs.Giving.{gives_err}
 use Rattle.hera_types.proofs.Block_lemmas.{block_of_commands}
 use Rattle.hera_types.proofs.Made.{body_done, body_breaks}
 use Rattle.hera_types.proofs.bodies.body_of_block.Goals as goal

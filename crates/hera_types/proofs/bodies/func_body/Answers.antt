@@ -4,7 +4,7 @@ use Rattle.hera_meaning.specs.Plain.{body_of, block_in}
 use Rattle.hera_meaning.specs.Sound.{returns as last_returns}
 use Rattle.hera_rules.specs.Environments.{env_of}
 use Rattle.hera_rules.specs.ReadActs.{func_phrase, block_acts}
-use Rattle.hera_typing_parts.proofs.Giving.{gives_err}
+use Rattle.hera_types_parts.proofs.Giving.{gives_err}
 use Rattle.hera_types.specs.Passes.{body_row}
 use Rattle.hera_types.proofs.Made.{func_done, func_no_return, func_breaks}
 use Rattle.hera_types.proofs.bodies.func_body.Goals as goal

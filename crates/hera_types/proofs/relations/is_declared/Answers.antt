@@ -3,7 +3,7 @@ use Rattle.std.specs.Prelude.{is_some}
 use Rattle.hera_sets.specs.Rows.{is_same}
 use Rattle.hera_meaning.specs.Catalogues.{decl_name}
 use Rattle.hera_meaning.specs.declared.schemas.RelDecl.{RelDecl}
-use Rattle.hera_typing_parts.proofs.Equal.{any_map}
+use Rattle.hera_types_parts.proofs.Equal.{any_map}
 use Rattle.hera_types.proofs.Names.{some-position, some-map}
 use Rattle.hera_types.proofs.relations.is_declared.Goals as goal
 

@@ -1,5 +1,5 @@
 use Rattle.std.proofs.Common.{◌∙◌}
-use Rattle.hera_typing_parts.proofs.Giving.{gives_err}
+use Rattle.hera_types_parts.proofs.Giving.{gives_err}
 use Rattle.hera_rules.specs.ReadActs.{relation_phrase}
 use Rattle.hera_types.proofs.Turns.{relations_turn, relations_stop, relations_end}
 use Rattle.hera_types.proofs.relations.relations_of.Goals as goal

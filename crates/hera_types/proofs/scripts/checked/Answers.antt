@@ -4,7 +4,7 @@ use Rattle.hera_rules.specs.Environments.{env_of}
 use Rattle.hera_rules.specs.CheckedScripts.{check_funcs, check_procs}
 use Rattle.hera_rules.specs.ReadActs.{script_of, func_phrase, proc_phrase}
 use Rattle.hera_types.specs.Passes.{bodies_of}
-use Rattle.hera_typing_parts.proofs.Giving.{gives_err}
+use Rattle.hera_types_parts.proofs.Giving.{gives_err}
 use Rattle.hera_types.proofs.Made.{script_env, script_funcs, script_procs, script_main}
 use Rattle.hera_types.proofs.scripts.checked.Goals as goal
 

@@ -4,7 +4,7 @@ use Rattle.hera_meaning.specs.Catalogues.{decl_name}
 use Rattle.hera_rules.specs.Environments.{env_of}
 use Rattle.hera_rules.specs.Programs.{relations_row, names_row, funcs_row, procs_row}
 use Rattle.hera_rules.specs.ReadActs.{script_of, relation_phrase, func_phrase, proc_phrase}
-use Rattle.hera_typing_parts.proofs.Giving.{gives_err}
+use Rattle.hera_types_parts.proofs.Giving.{gives_err}
 use Rattle.hera_types.specs.Passes.{func_names, proc_names}
 use Rattle.hera_types.proofs.Made.{Named, env_funcs_named, env_procs_named, env_funcs, env_procs, env_done}
 use Rattle.hera_types.proofs.Names.{names-of_funcs, names-of_procs}

@@ -1,5 +1,5 @@
 use Rattle.std.proofs.Common.{◌≡◌, ◌+◌, ◌∙◌, ap, sym, length, arith}
-use Rattle.hera_typing_parts.proofs.Giving.{gives_err}
+use Rattle.hera_types_parts.proofs.Giving.{gives_err}
 use Rattle.hera_rules.specs.ReadActs.{func_phrase}
 use Rattle.hera_rules.specs.Programs.{func_row}
 use Rattle.hera_types.proofs.Turns.{funcs_turn, funcs_stop, funcs_end}

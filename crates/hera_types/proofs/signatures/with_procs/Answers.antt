@@ -1,5 +1,5 @@
 use Rattle.std.proofs.Common.{◌∙◌, ap, sym}
-use Rattle.hera_typing_parts.proofs.Giving.{gives_err}
+use Rattle.hera_types_parts.proofs.Giving.{gives_err}
 use Rattle.hera_syntax.specs.declared.tree.Proc.{Proc}
 use Rattle.hera_rules.specs.Read.{word_of}
 use Rattle.hera_rules.specs.Programs.{new_name_row}

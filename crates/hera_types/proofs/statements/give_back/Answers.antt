@@ -5,7 +5,7 @@ use Rattle.hera_rules.specs.Commands.{return_row}
 use Rattle.hera_rules.specs.Environments.{env_of}
 use Rattle.hera_rules.specs.ReadActs.{return_act}
 use Rattle.hera_rules.specs.Statements.{slots_of_act}
-use Rattle.hera_typing_parts.proofs.Giving.{on_ok}
+use Rattle.hera_types_parts.proofs.Giving.{on_ok}
 use Rattle.hera_types.proofs.Block_lemmas.{act_as, act_row}
 use Rattle.hera_types.proofs.statements.give_back.Goals as goal
 

@@ -1,0 +1,163 @@
+// The rows of typing for the forms of an expression, once its parts are typed.
+
+ghost use Rattle.std.specs.Prelude.{◌≡◌, IfOk, IfErr};
+ghost use Rattle.hera_rules.specs.Agrees.{Gives, typing_of, typings_of};
+ghost use Rattle.hera_rules.specs.Environments.{env_of};
+ghost use Rattle.hera_rules.specs.Read.{bindings_words, int_of, prime_phrase, text_of};
+ghost use Rattle.hera_rules.specs.declared.fault.TypeFault.TheVariants as fault;
+ghost use Rattle.hera_meaning.specs.Trees.{constant as constant_expr};
+ghost use Rattle.hera_meaning.specs.declared.scalars.Scalar.TheVariants as scalars;
+ghost use Rattle.hera_meaning.specs.declared.trees.Const.TheVariants as consts;
+ghost use Rattle.hera_rules.specs.Rules.{literal_row, row_row, typing};
+ghost use Rattle.hera_types_exprs.specs.Parts.{one_row};
+
+use hera_meaning::{Const, Core, Scalar, Shape, Text};
+use hera_rules::{Globals, TypeFault, Typed, Word};
+use hera_syntax::{Bindings, Prime, Token, TokenKind};
+use hera_types_parts::{
+    aggregates, fold_word, part_word, put, renamings, sign_word, test_word, word, words,
+};
+use hera_types_rows::{
+    bulk_row_of, fold_row_of, group_row_of, part_row_of, project_row_of, rename_row_of, row_row_of,
+    test_row_of,
+};
+use std::alloc::Global;
+
+/// `[a = e]`, once its values are typed.
+pub fn named_row_of(
+    alloc: Global,
+    at: u32,
+    bindings: &Bindings,
+    values: Vec<Typed>,
+) -> Result<Typed, TypeFault>
+    ensures { Gives typing_of result (row_row at (bindings_words bindings.now) (typings_of values.items)) }
+{
+    let names = binding_names(alloc, bindings)?;
+    row_row_of(alloc, at, names, values)
+}
+
+/// A form with one part, once that is typed. Of any other form it says nothing: it answers as for want of memory.
+#[tactic(auto, using(crate::proofs::Steps::steps))]
+pub fn one_row_of(
+    alloc: Global,
+    globals: &Globals,
+    e: &Prime,
+    value: Typed,
+) -> Result<Typed, TypeFault>
+    ensures { Gives typing_of result (one_row (env_of globals.now) (prime_phrase e.now) (typing_of value)) }
+{
+    match e {
+        Prime::Project { word, names, .. } => {
+            let all = words(alloc, names)?;
+            project_row_of(alloc, word.at, all, value)
+        }
+        Prime::Rename {
+            word,
+            renamings: names,
+            ..
+        } => {
+            let all = renamings(alloc, names)?;
+            rename_row_of(alloc, word.at, all, value)
+        }
+        Prime::Group {
+            word,
+            names,
+            aggs,
+            ..
+        } => {
+            let by = words(alloc, names)?;
+            let all = aggregates(alloc, aggs)?;
+            group_row_of(alloc, word.at, by, all, value)
+        }
+        Prime::Measure { word, .. } => test_row_of(alloc, test_word(word), word.at, value),
+        Prime::Fold { word, name, .. } => fold_row_of(alloc, fold_word(word), word.at, name, value),
+        Prime::Bulk {
+            word,
+            sign,
+            name,
+            ..
+        } => bulk_row_of(alloc, globals, sign_word(sign), name, word.at, value),
+        Prime::Part { word, name, .. } => part_row_of(
+            alloc,
+            globals,
+            part_word(word),
+            name,
+            word.at,
+            value,
+        ),
+        _ => Err(TypeFault::Memory),
+    }
+}
+
+/// A constant of a type.
+#[tactic(auto, using(hera_meaning::proofs::PlainLaws::plain))]
+fn constant(value: Const, shape: Shape) -> Typed
+    ensures { typing_of result ≡ typing shape (constant_expr value) }
+{
+    Typed {
+        shape,
+        core: Core::Const(value),
+    }
+}
+
+/// An int literal.
+pub fn int_literal(token: &Token) -> Typed
+    ensures { typing_of result ≡ literal_row (consts.Scalar (scalars.Int (int_of token.now.kind))) }
+{
+    let value = match &token.kind {
+        TokenKind::Int(value) => *value,
+        _ => 0,
+    };
+    constant(Const::Scalar(Scalar::Int(value)), Shape::Int)
+}
+
+/// `true` or `false`.
+pub fn bool_literal(value: bool) -> Typed
+    ensures { typing_of result ≡ literal_row (consts.Scalar (scalars.Bool value)) }
+{
+    constant(Const::Scalar(Scalar::Bool(value)), Shape::Bool)
+}
+
+/// `fail`.
+pub fn fail_literal() -> Typed
+    ensures { typing_of result ≡ literal_row consts.FailDelta }
+{
+    constant(Const::FailDelta, Shape::Delta)
+}
+
+/// A text literal.
+pub fn text_literal(alloc: Global, token: &Token) -> Result<Typed, TypeFault>
+    ensures literal { IfOk result (λ v. typing_of v ≡ literal_row (consts.Scalar (scalars.Text (text_of token.now.kind)))) }
+    ensures refused { IfErr result (λ f. f ≡ fault.Memory) }
+{
+    let text = text_copy(alloc, token)?;
+    Ok(constant(Const::Scalar(Scalar::Text(text)), Shape::Text))
+}
+
+/// The value of a text literal.
+fn text_copy(alloc: Global, token: &Token) -> Result<Text, TypeFault>
+    ensures text { IfOk result (λ text. text ≡ text_of token.now.kind) }
+    ensures refused { IfErr result (λ f. f ≡ fault.Memory) }
+{
+    match &token.kind {
+        TokenKind::Text(text) => Ok(text.copy()?),
+        _ => match Text::new(alloc, &[]) {
+            Ok(text) => Ok(text),
+            Err(_) => Err(TypeFault::Memory),
+        },
+    }
+}
+
+/// The names of `[a = e]`.
+#[tactic(auto, using(crate::proofs::Steps::steps))]
+fn binding_names(alloc: Global, e: &Bindings) -> Result<Vec<Word>, TypeFault>
+    ensures names { IfOk result (λ all. all.items ≡ bindings_words e.now) }
+    ensures refused { IfErr result (λ f. f ≡ fault.Memory) }
+{
+    let mut all = Vec::new(alloc);
+    put(&mut all, word(alloc, &e.first.name)?)?;
+    for binding in &e.rest {
+        put(&mut all, word(alloc, &binding.name)?)?;
+    }
+    Ok(all)
+}

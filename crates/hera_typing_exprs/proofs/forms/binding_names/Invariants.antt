@@ -1,6 +1,0 @@
-use Rattle.std.proofs.Common.{◌≡◌, ◌++◌, map, take}
-use Rattle.hera_rules.specs.Read.{binding_word}
-use Rattle.hera_typing_exprs.proofs.forms.binding_names.Given as goal
-
-abbrev pub invariant-loop-binding : goal.invariant-loop-binding
-invariant-loop-binding l = l.all.items ≡ l.initial.all.items ++ map binding_word (take l.binding-index l.binding-items)
