@@ -1,9 +1,9 @@
 //! Runs the cases of standard input, each a command line and a script, by the top call of `hera`, over sources and an
 //! output in memory.
 //!
-//! A case begins with a line `== WORDS`, the words of its command line. Where the last word is `-`, the lines up to the
-//! next case, joined by line feeds, are its script; else the script is the file of that name. For each case the program
-//! prints that line, what the call emitted, and a line `-- STATUS`.
+//! A case begins with a line `== NAME: WORDS`, its name and the words of its command line. Where the words name a file,
+//! its script is that file, and for the word `-` the lines up to the next case, joined by line feeds. For each case the
+//! program prints that line, what the call emitted, and a line `-- STATUS`.
 #![tactic(auto)]
 
 ghost use Rattle.std.specs.Prelude.{◌≡◌, IfOk, length};
@@ -15,7 +15,7 @@ use std::alloc::{AllocError, Global};
 use std::fs::{self, Files};
 use std::io::{self, BufRead, BufReader};
 
-/// A command line and a script.
+/// A name with a command line, and a script.
 #[derive(Drop)]
 struct Case {
     heading: String,
@@ -40,25 +40,24 @@ impl Case {
         Ok(())
     }
 
-    /// Takes the script from the file that the last word names, but for the word `-`.
-    fn load<R: Files + AllocGlobal>(&mut self, rt: &R) -> io::Result<()> {
-        match self.heading.rsplit(' ').next() {
-            Some("-") | None => Ok(()),
-            Some(file) => {
-                let text = fs::read_to_string(rt, file)?;
-                self.script.extend_from_slice(text.as_bytes())?;
-                Ok(())
-            }
-        }
-    }
-
-    /// The words of the command line.
+    /// The words of the command line, which stand behind the name.
     fn words(&self, alloc: Global) -> Result<Vec<String>, AllocError> {
         let mut words = Vec::new(alloc);
-        for word in self.heading.split(' ') {
-            words.push(String::from_str(alloc, word)?)?;
+        if let Some((_, line)) = self.heading.split_once(": ") {
+            for word in line.split(' ') {
+                words.push(String::from_str(alloc, word)?)?;
+            }
         }
         Ok(words)
+    }
+
+    /// Takes the script from a file, but not for the word `-`.
+    fn load<R: Files + AllocGlobal>(&mut self, rt: &R, file: &str) -> io::Result<()> {
+        if file != "-" {
+            let text = fs::read_to_string(rt, file)?;
+            self.script.extend_from_slice(text.as_bytes())?;
+        }
+        Ok(())
     }
 }
 
@@ -76,9 +75,11 @@ fn sources_of(alloc: Global, script: &[u8], count: usize) -> Result<Vec<MemSourc
 /// Runs the case, and prints its heading, what was emitted, and the status.
 fn run<R: Files + Print + AllocGlobal>(rt: &R, mut case: Case) -> io::Result<()> {
     let alloc = rt.alloc();
-    case.load(rt)?;
     let words = case.words(alloc)?;
     let (first, last) = files_of(&words);
+    for file in &words[first..last] {
+        case.load(rt, file.as_str())?;
+    }
     let mut sources = sources_of(alloc, &case.script, last - first)?;
     let mut outside = MemOutput::new(alloc, Vec::new(alloc));
     let status = hera(

@@ -1,10 +1,11 @@
 // The listing of code.
 
 ghost use Rattle.std.specs.Prelude.{◌≡◌, ◌≤◌, ◌<◌, ◌+◌, ◌++◌, length, drop, slice_get, slice_range, codes, [], ◌∷◌, Some, IfOk, OnOk, IsTrue, ◌↔◌};
-ghost use Rattle.hera_meaning.specs.Printed.{number_text, int_text, bool_text, quoted, quoted_byte, inner_text};
+ghost use Rattle.hera_meaning.specs.Printed.{number_text, inner_text};
 ghost use Rattle.hera_code.specs.Listing.{op_text, const_text, instr_text, body_line, instr_line, instr_lines, next_start, bodies_text, listing_of, StartsFrom, IsListable};
 
 use crate::instrs::{BodyInfo, Code, Instr};
+use hera_meaning::writing::{put, put_bool, put_int, put_number, put_quoted};
 use hera_meaning::{Const, Line, Op, Scalar};
 use std::alloc::{AllocError, Global};
 
@@ -62,63 +63,12 @@ fn end_of(code: &Code, k: usize) -> usize
     }
 }
 
-fn put(out: &mut Vec<u8>, text: &[u8]) -> Result<(), AllocError>
-    ensures { OnOk result (out.new.items ≡ out.old.items ++ text.now) }
-{
-    out.extend_from_slice(text)
-}
-
-fn put_number(out: &mut Vec<u8>, n: u64) -> Result<(), AllocError>
-    ensures { OnOk result (out.new.items ≡ out.old.items ++ number_text n) }
-{
-    let digits = format!(in *out.allocator(); "{n}")?;
-    put(out, digits.as_bytes())
-}
-
-fn put_int(out: &mut Vec<u8>, v: i64) -> Result<(), AllocError>
-    ensures { OnOk result (out.new.items ≡ out.old.items ++ int_text v) }
-{
-    let digits = format!(in *out.allocator(); "{v}")?;
-    put(out, digits.as_bytes())
-}
-
 /// A word and a number.
 fn put_with(out: &mut Vec<u8>, word: &[u8], n: u32) -> Result<(), AllocError>
     ensures { OnOk result (out.new.items ≡ out.old.items ++ (word.now ++ number_text n)) }
 {
     put(out, word)?;
-    put_number(out, u64::from(n))
-}
-
-/// One byte of a text inside a tuple.
-#[tactic(auto, unfolding(hera_meaning::specs::Printed::quoted_byte))]
-fn put_quoted_byte(out: &mut Vec<u8>, byte: u8) -> Result<(), AllocError>
-    ensures { OnOk result (out.new.items ≡ out.old.items ++ quoted_byte byte) }
-{
-    match byte {
-        b'"' => put(out, b"\\\""),
-        b'\\' => put(out, b"\\\\"),
-        b'\n' => put(out, b"\\n"),
-        b'\t' => put(out, b"\\t"),
-        _ => put(out, &[byte]),
-    }
-}
-
-fn put_quoted(out: &mut Vec<u8>, bytes: &[u8]) -> Result<(), AllocError>
-    ensures { OnOk result (out.new.items ≡ out.old.items ++ quoted bytes.now) }
-{
-    for byte in bytes {
-        put_quoted_byte(out, *byte)?;
-    }
-    Ok(())
-}
-
-fn put_text(out: &mut Vec<u8>, bytes: &[u8]) -> Result<(), AllocError>
-    ensures { OnOk result (out.new.items ≡ out.old.items ++ (34 ∷ [] ++ quoted bytes.now ++ 34 ∷ [])) }
-{
-    put(out, b"\"")?;
-    put_quoted(out, bytes)?;
-    put(out, b"\"")
+    put_number(out, u128::from(n))
 }
 
 fn put_scalar(out: &mut Vec<u8>, scalar: &Scalar) -> Result<(), AllocError>
@@ -126,9 +76,8 @@ fn put_scalar(out: &mut Vec<u8>, scalar: &Scalar) -> Result<(), AllocError>
 {
     match scalar {
         Scalar::Int(v) => put_int(out, *v),
-        Scalar::Bool(true) => put(out, b"true"),
-        Scalar::Bool(false) => put(out, b"false"),
-        Scalar::Text(text) => put_text(out, text.bytes()),
+        Scalar::Bool(b) => put_bool(out, *b),
+        Scalar::Text(text) => put_quoted(out, text.bytes()),
     }
 }
 
@@ -245,7 +194,7 @@ fn put_instr(out: &mut Vec<u8>, instr: &Instr) -> Result<(), AllocError>
 fn put_line(out: &mut Vec<u8>, at: usize, instr: &Instr) -> Result<(), AllocError>
     ensures { OnOk result (out.new.items ≡ out.old.items ++ instr_line at instr.now) }
 {
-    put_number(out, at as u64)?;
+    put_number(out, at as u128)?;
     put(out, b" ")?;
     put_instr(out, instr)?;
     put(out, b"\n")
@@ -269,7 +218,7 @@ fn put_head(out: &mut Vec<u8>, k: usize, body: BodyInfo) -> Result<(), AllocErro
     ensures { OnOk result (out.new.items ≡ out.old.items ++ body_line k body) }
 {
     put(out, b"body ")?;
-    put_number(out, k as u64)?;
+    put_number(out, k as u128)?;
     put_with(out, b" params ", body.params)?;
     put_with(out, b" slots ", body.slots)?;
     put(out, b"\n")

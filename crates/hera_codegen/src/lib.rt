@@ -9,6 +9,3 @@ mod statements;
 
 pub use correctness::{code_does_what_the_program_means, code_of_programs_is_forward};
 pub use programs::generate;
-
-#[cfg(test)]
-mod tests;

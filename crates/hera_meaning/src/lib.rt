@@ -2,7 +2,7 @@
 //!
 //! The plain types are scalars, schemas and core trees. The definitions stand in `specs/`, one file a
 //! subject, and contracts of all other crates cite them. The laws that hold of them are the clauses of
-//! the functions in the module `laws`.
+//! the functions in the module `laws`. The module `writing` puts printed numbers and texts into a buffer.
 #![tactic(auto)]
 
 mod hosts;
@@ -11,6 +11,7 @@ mod lines;
 mod scalars;
 mod schemas;
 mod trees;
+pub mod writing;
 
 pub use hosts::{HostAnswer, HostSpec};
 pub use lines::Line;

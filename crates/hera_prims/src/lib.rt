@@ -26,6 +26,3 @@ pub use matching::fits;
 pub use ops::arity;
 pub use prims::prim;
 pub use shapes::{has_shape, is_delta_of};
-
-#[cfg(test)]
-mod tests;

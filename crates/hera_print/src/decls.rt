@@ -3,7 +3,8 @@ ghost use Rattle.std.specs.Prelude.{◌≡◌, ◌++◌, IfOk, OnOk};
 ghost use Rattle.hera_meaning.specs.Printed.{kind_text, attr_text, attrs_text, decl_text};
 ghost use Rattle.hera_print.specs.Commas.{comma_before};
 
-use super::words::{put, put_comma};
+use super::commas::put_comma;
+use hera_meaning::writing::put;
 use hera_meaning::{Attr, Kind, Line, RelDecl, Schema};
 use std::alloc::{AllocError, Global};
 

@@ -7,8 +7,8 @@ ghost use Rattle.delta_atoms.specs.Atoms.{atoms_in};
 ghost use Rattle.delta_atoms.specs.Refs.{atom_in};
 
 use super::tuples::put_row;
-use super::words::{put, put_number};
 use delta_atoms::{AtomRef, Delta};
+use hera_meaning::writing::{put, put_number};
 use hera_meaning::{RelDecl, RelId, Sign};
 use std::alloc::AllocError;
 

@@ -6,14 +6,11 @@
 //! or the word `fail`. Each line ends in a line feed.
 #![tactic(auto)]
 
+mod commas;
 mod decls;
 mod deltas;
 mod tuples;
 mod values;
-mod words;
 
 pub use decls::decl_line;
 pub use values::{end_line, value_line};
-
-#[cfg(test)]
-mod tests;

@@ -1,48 +1,17 @@
 //! Tuples and relations.
-ghost use Rattle.std.specs.Prelude.{◌≡◌, ◌<◌, ◌∷◌, [], ◌++◌, length, true, OnOk, codes};
+ghost use Rattle.std.specs.Prelude.{◌≡◌, ◌<◌, ◌++◌, length, true, OnOk, codes};
 ghost use Rattle.std.specs.List.{list_all};
 ghost use Rattle.hera_meaning.specs.Rows.{is_row, field_at, fields_of};
-ghost use Rattle.hera_meaning.specs.Printed.{quoted, quoted_byte, inner_text, fields_text, tuple_text, rows_text, table_text};
+ghost use Rattle.hera_meaning.specs.Printed.{inner_text, fields_text, tuple_text, rows_text, table_text};
 ghost use Rattle.hera_row.specs.Fields.{told};
 ghost use Rattle.hera_print.specs.Commas.{comma_before};
 
-use super::words::{put, put_bool, put_comma, put_int, put_number};
+use super::commas::put_comma;
+use hera_meaning::writing::{put, put_bool, put_int, put_number, put_quoted};
 use hera_meaning::{ScalarRef, Schema};
 use hera_row::field;
 use hera_rows::RowSet;
 use std::alloc::AllocError;
-
-/// Puts one byte of a text that stands in quotes.
-#[tactic(auto, unfolding(hera_meaning::specs::Printed::quoted_byte))]
-fn put_quoted_byte(out: &mut Vec<u8>, byte: u8) -> Result<(), AllocError>
-    ensures { OnOk result (out.new.items ≡ out.old.items ++ quoted_byte byte) }
-{
-    match byte {
-        b'"' => put(out, b"\\\""),
-        b'\\' => put(out, b"\\\\"),
-        b'\n' => put(out, b"\\n"),
-        b'\t' => put(out, b"\\t"),
-        _ => put(out, &[byte]),
-    }
-}
-
-fn put_quoted(out: &mut Vec<u8>, bytes: &[u8]) -> Result<(), AllocError>
-    ensures { OnOk result (out.new.items ≡ out.old.items ++ quoted bytes.now) }
-{
-    for byte in bytes {
-        put_quoted_byte(out, *byte)?;
-    }
-    Ok(())
-}
-
-/// Puts a text in quotes.
-fn put_text(out: &mut Vec<u8>, bytes: &[u8]) -> Result<(), AllocError>
-    ensures { OnOk result (out.new.items ≡ out.old.items ++ (34 ∷ [] ++ quoted bytes.now ++ 34 ∷ [])) }
-{
-    put(out, b"\"")?;
-    put_quoted(out, bytes)?;
-    put(out, b"\"")
-}
 
 /// Puts a field of a tuple.
 fn put_field(out: &mut Vec<u8>, field: ScalarRef<'_>) -> Result<(), AllocError>
@@ -51,7 +20,7 @@ fn put_field(out: &mut Vec<u8>, field: ScalarRef<'_>) -> Result<(), AllocError>
     match field {
         ScalarRef::Int(v) => put_int(out, v),
         ScalarRef::Bool(b) => put_bool(out, b),
-        ScalarRef::Text(bytes) => put_text(out, bytes),
+        ScalarRef::Text(bytes) => put_quoted(out, bytes),
     }
 }
 

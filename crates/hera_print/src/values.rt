@@ -6,8 +6,8 @@ ghost use Rattle.delta_atoms.specs.Plain.{value_of};
 
 use super::deltas::put_delta;
 use super::tuples::{put_row, put_table};
-use super::words::{put, put_bool, put_int, put_number};
 use delta_atoms::Value;
+use hera_meaning::writing::{put, put_bool, put_int, put_number};
 use hera_meaning::{Line, RelDecl, Scalar, Shape};
 use std::alloc::{AllocError, Global};
 

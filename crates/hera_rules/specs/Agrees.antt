@@ -2,7 +2,7 @@
 use Rattle.std.specs.Prelude.{◌≡◌, ◌≢◌, ◌+◌, ℕ, List, map, Result, Ok, Err}
 use Rattle.hera_meaning.specs.Plain.{expr_of}
 use Rattle.hera_rules.specs.declared.env.Item.{Item}
-use Rattle.hera_rules.specs.declared.env.Scope.{Scope}
+use Rattle.hera_rules.specs.declared.env.LocalScope.{LocalScope}
 use Rattle.hera_rules.specs.declared.env.Typed.{Typed}
 use Rattle.hera_rules.specs.declared.fault.TypeFault.{TypeFault}
 use Rattle.hera_rules.specs.declared.fault.TypeFault.TheVariants.{Memory as memory}
@@ -26,6 +26,6 @@ Gives as_b (Ok v) r = r ≡ Ok (as_b v)
 Gives as_b (Err f) r = f ≢ memory → r ≡ Err f
 
 -- the same locals, and so many slots more
-pub record Keeps (old new : Scope) (k : ℕ) : Type 0 where
+pub record Keeps (old new : LocalScope) (k : ℕ) : Type 0 where
   pub locals : new.locals.items ≡ old.locals.items
   pub next : new.next ≡ old.next + k

@@ -1,7 +1,7 @@
 -- Phrases: a syntax tree without its brackets, and without the levels that have no operator.
 use Rattle.std.specs.Prelude.{ℕ, List}
 use Rattle.hera_rules.specs.declared.words.Word.{Word}
-use Rattle.hera_rules.specs.declared.words.Walk.{Walk}
+use Rattle.hera_rules.specs.declared.words.WalkKind.{WalkKind}
 use Rattle.hera_rules.specs.declared.words.Pair.{Pair}
 use Rattle.hera_rules.specs.declared.words.Fold.{Fold}
 use Rattle.hera_rules.specs.declared.words.Renamed.{Renamed}
@@ -30,7 +30,7 @@ mutual
     -- a line of `rows`, and all of them
     line : (w : Word) (at : ℕ) (args : Phrases) → Phrase
     lines : (w : Word) (at : ℕ) (all : Phrases) → Phrase
-    walking : (walk : Walk) (at : ℕ) (var : Word) (of body : Phrase) → Phrase
+    walking : (walk : WalkKind) (at : ℕ) (var : Word) (of body : Phrase) → Phrase
     projecting : (at : ℕ) (of : Phrase) (names : List Word) → Phrase
     renaming : (at : ℕ) (of : Phrase) (names : List Renamed) → Phrase
     pairing : (pair : Pair) (at : ℕ) (left right : Phrase) → Phrase

@@ -34,8 +34,8 @@ use Rattle.hera_syntax.specs.declared.expr.Prefix.{Prefix}
 use Rattle.hera_syntax.specs.declared.expr.Post.{Post}
 use Rattle.hera_syntax.specs.declared.expr.Prime.{Prime, Int, Text, True, False, Fail, Name, Call', Paren', Row', Delta', Rows', Walk', Project', Rename', Pair', Group', Measure', Fold', Bulk', Part', Held-Prime-Call-2, Prime-Call-2-None', Prime-Call-2-Some', Held-Prime-Delta-1, Prime-Delta-1-None', Prime-Delta-1-Some', Held-Prime-Rows-4, Prime-Rows-4-None', Prime-Rows-4-Some'}
 use Rattle.hera_rules.specs.declared.words.Word.{Word}
-use Rattle.hera_rules.specs.declared.words.Walk.{Walk}
-use Rattle.hera_rules.specs.declared.words.Walk.TheVariants.{Keeping, Mapping}
+use Rattle.hera_rules.specs.declared.words.WalkKind.{WalkKind}
+use Rattle.hera_rules.specs.declared.words.WalkKind.TheVariants.{Keeping, Mapping}
 use Rattle.hera_rules.specs.declared.words.Pair.{Pair as Pair_kind}
 use Rattle.hera_rules.specs.declared.words.Pair.TheVariants.{Sets, Join as as_join}
 use Rattle.hera_rules.specs.declared.words.Fold.{Fold}
@@ -111,7 +111,7 @@ abbrev pub part_of : TokenKind → Sign
 part_of t = if nat_eq (key_of t) 43 then Plus else Minus
 
 -- `select`, `map`
-abbrev pub walk_of : TokenKind → Walk
+abbrev pub walk_of : TokenKind → WalkKind
 walk_of t = if nat_eq (key_of t) 26 then Keeping else Mapping
 
 -- `union`, `minus`, `inter`, `join`

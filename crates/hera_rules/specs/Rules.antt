@@ -29,8 +29,8 @@ use Rattle.hera_meaning.specs.Forms.{kinds_of, kind_at, agg_kind}
 use Rattle.hera_meaning.specs.Trees.{Expr, constant, local, relation, prim, chain, and_all, or_any, when, select, map_each, call, host, Exprs, no_more, then_expr, Links, no_link, link, Hypos, no_hypo, hypo}
 use Rattle.hera_host.specs.Tables.{host_named, takes_at, gives_at}
 use Rattle.hera_rules.specs.declared.words.Word.{Word}
-use Rattle.hera_rules.specs.declared.words.Walk.{Walk}
-use Rattle.hera_rules.specs.declared.words.Walk.TheVariants.{Keeping, Mapping}
+use Rattle.hera_rules.specs.declared.words.WalkKind.{WalkKind}
+use Rattle.hera_rules.specs.declared.words.WalkKind.TheVariants.{Keeping, Mapping}
 use Rattle.hera_rules.specs.declared.words.Pair.{Pair}
 use Rattle.hera_rules.specs.declared.words.Pair.TheVariants.{Sets, Join as as_join}
 use Rattle.hera_rules.specs.declared.words.Fold.{Fold}
@@ -235,12 +235,12 @@ chain_core e (i ∷ is) = chain_by i.joint e (i ∷ is)
 
 -- ---- attributes and rows
 
-abbrev pub field_at : Word → Expr → List Attr → Option ℕ → Result Typing TypeFault
-field_at w e s None = Err (unknown w.at)
-field_at w e s (Some i) = Ok (typing (kind_type (kind_at s i)) (prim (field_op s i) (one_expr e) w.at))
+abbrev pub field_type : Word → Expr → List Attr → Option ℕ → Result Typing TypeFault
+field_type w e s None = Err (unknown w.at)
+field_type w e s (Some i) = Ok (typing (kind_type (kind_at s i)) (prim (field_op s i) (one_expr e) w.at))
 
 abbrev pub field_of : Word → Expr → Shape → Result Typing TypeFault
-field_of w e (tuple s) = field_at w e s (place_named w.name s)
+field_of w e (tuple s) = field_type w e s (place_named w.name s)
 field_of w e _ = Err (mismatch w.at)
 
 -- `.a`: a tuple that has the attribute
@@ -326,7 +326,7 @@ image_row at n of body (tuple s) = Ok (typing (rel s) (map_each n of body))
 image_row at n of body _ = Err (mismatch at)
 
 -- `select`: a bool, the rel's type; `map`: a tuple, a rel of its schema
-abbrev pub walk_row : Walk → ℕ → ℕ → Typing → Typing → Result Typing TypeFault
+abbrev pub walk_row : WalkKind → ℕ → ℕ → Typing → Typing → Result Typing TypeFault
 walk_row Keeping at n of body = given (is_bool body.type) (mismatch at) (typing of.type (select n of.core body.core))
 walk_row Mapping at n of body = image_row at n of.core body.core body.type
 
@@ -355,14 +355,14 @@ attr_in s w = record { name = w.name; kind = kind_at s (place_in s w.name) }
 abbrev pub attrs_in : List Attr → List Word → List Attr
 attrs_in s ws = map (attr_in s) ws
 
-abbrev pub project_of : ℕ → List Word → Expr → Shape → Result Typing TypeFault
-project_of at ws e (rel s) =
+abbrev pub project_type : ℕ → List Word → Expr → Shape → Result Typing TypeFault
+project_type at ws e (rel s) =
     unless (stranger_in s ws) (unless (repeat_in [] ws) (Ok (typing (rel (attrs_in s ws)) (prim (Project s (places_in s ws)) (one_expr e) at))))
-project_of at ws e _ = unless (repeat_in [] ws) (Err (mismatch at))
+project_type at ws e _ = unless (repeat_in [] ws) (Err (mismatch at))
 
 -- `project`: a rel, distinct names in it
 abbrev pub project_row : ℕ → List Word → Typing → Result Typing TypeFault
-project_row at ws v = project_of at ws v.core v.type
+project_row at ws v = project_type at ws v.core v.type
 
 abbrev pub word_names : List Word → List (List ℕ)
 word_names ws = map (λ w. w.name) ws
@@ -412,17 +412,17 @@ sets_of op at e f _ _ = Err (mismatch at)
 abbrev pub kinds_agree : List Attr → List Attr → Bool
 kinds_agree left right = list_all (λ a. list_all (λ b. not (is_same a.name b.name) || is_same_kind a.kind b.kind) right) left
 
-abbrev pub join_of : ℕ → Expr → Expr → Shape → Shape → Result Typing TypeFault
-join_of at e f (rel s) (rel t) =
+abbrev pub join_type : ℕ → Expr → Expr → Shape → Shape → Result Typing TypeFault
+join_type at e f (rel s) (rel t) =
     cond (nat_lt (length s + length (lacking s t)) 17)
     (given (kinds_agree s t) (mismatch at) (typing (rel (s ++ lacking s t)) (prim (join_op s t) (two_exprs e f) at)))
     (Err (too_many at))
-join_of at e f _ _ = Err (mismatch at)
+join_type at e f _ _ = Err (mismatch at)
 
 -- `union`, `minus`, `inter`: rels of equal schemas; `join`: common names of one kind, at most 16 in all
 abbrev pub pair_row : Pair → ℕ → Typing → Typing → Result Typing TypeFault
 pair_row (Sets op) at v w = sets_of op at v.core w.core v.type w.type
-pair_row as_join at v w = join_of at v.core w.core v.type w.type
+pair_row as_join at v w = join_type at v.core w.core v.type w.type
 
 abbrev pub measured_word : Measured → List Word
 measured_word counted = []
@@ -463,16 +463,16 @@ group_attrs s by aggs = attrs_in s by ++ map (agg_attr s) aggs
 abbrev pub result_fault : ℕ → List Word → List Aggregate → Option TypeFault
 result_fault at by aggs = either (repeat_in [] by) (either (repeat_in (word_names by) (agg_words aggs)) (cond (nat_lt 16 (length by + length aggs)) (Some (too_many at)) None))
 
-abbrev pub group_of : ℕ → List Word → List Aggregate → Expr → Shape → Result Typing TypeFault
-group_of at by aggs e (rel s) =
+abbrev pub group_type : ℕ → List Word → List Aggregate → Expr → Shape → Result Typing TypeFault
+group_type at by aggs e (rel s) =
     unless (stranger_in s by) (unless (stranger_in s (measured_words aggs)) (unless (result_fault at by aggs)
     (given (list_all (λ a. sums_int s a.of) aggs) (mismatch at)
     (typing (rel (group_attrs s by aggs)) (prim (Group s (places_in s by) (aggs_in s aggs)) (one_expr e) at)))))
-group_of at by aggs e _ = unless (result_fault at by aggs) (Err (mismatch at))
+group_type at by aggs e _ = unless (result_fault at by aggs) (Err (mismatch at))
 
 -- `group`: a rel, names in it, distinct results, at most 16, sums of ints
 abbrev pub group_row : ℕ → List Word → List Aggregate → Typing → Result Typing TypeFault
-group_row at by aggs v = group_of at by aggs v.core v.type
+group_row at by aggs v = group_type at by aggs v.core v.type
 
 -- ---- measures
 

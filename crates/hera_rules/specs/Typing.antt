@@ -6,7 +6,7 @@ use Rattle.hera_meaning.specs.declared.trees.Shape.{Shape}
 use Rattle.hera_rules.specs.declared.words.Prefix.{Prefix}
 use Rattle.hera_rules.specs.declared.words.Test.{Test}
 use Rattle.hera_rules.specs.declared.words.Word.{Word}
-use Rattle.hera_rules.specs.declared.words.Walk.{Walk}
+use Rattle.hera_rules.specs.declared.words.WalkKind.{WalkKind}
 use Rattle.hera_rules.specs.declared.words.Pair.{Pair}
 use Rattle.hera_rules.specs.declared.words.Fold.{Fold}
 use Rattle.hera_rules.specs.declared.words.Renamed.{Renamed}
@@ -74,7 +74,7 @@ mutual
     atoms_are : {ls : List Local} {n at : ℕ} {all : Phrases} {vs : List Typing} → ElabAll g ls n [] all vs → Elab g ls n (atoms at all) (atoms_row at vs)
     pair_is : {ls : List Local} {n at : ℕ} {pair : Pair} {p q : Phrase} {v w r : Typing} →
         Elab g ls n p v → Elab g ls (n + slots_of p) q w → pair_row pair at v w ≡ Ok r → Elab g ls n (pairing pair at p q) r
-    walk_is : {ls : List Local} {n : ℕ} {walk : Walk} {at : ℕ} {var : Word} {of body : Phrase} {v b r : Typing} {l : Local} →
+    walk_is : {ls : List Local} {n : ℕ} {walk : WalkKind} {at : ℕ} {var : Word} {of body : Phrase} {v b r : Typing} {l : Local} →
         Elab g ls (n + 1) of v → variable_row g ls var at n v.type ≡ Ok l →
         Elab g (ls ++ l ∷ []) (n + 1 + slots_of of) body b → walk_row walk at n v b ≡ Ok r → Elab g ls n (walking walk at var of body) r
 
@@ -112,9 +112,9 @@ pub data Broken (g : Env) : List Local → ℕ → Phrase → TypeFault → Type
   pair_breaks : {ls : List Local} {n at : ℕ} {pair : Pair} {p q : Phrase} {v w : Typing} {f : TypeFault} →
       Elab g ls n p v → Elab g ls (n + slots_of p) q w → pair_row pair at v w ≡ Err f → Broken g ls n (pairing pair at p q) f
   -- the variable of a walk is checked before its body
-  variable_breaks : {ls : List Local} {n : ℕ} {walk : Walk} {at : ℕ} {var : Word} {of body : Phrase} {v : Typing} {f : TypeFault} →
+  variable_breaks : {ls : List Local} {n : ℕ} {walk : WalkKind} {at : ℕ} {var : Word} {of body : Phrase} {v : Typing} {f : TypeFault} →
       Elab g ls (n + 1) of v → variable_row g ls var at n v.type ≡ Err f → Broken g ls n (walking walk at var of body) f
-  walk_breaks : {ls : List Local} {n : ℕ} {walk : Walk} {at : ℕ} {var : Word} {of body : Phrase} {v b : Typing} {l : Local} {f : TypeFault} →
+  walk_breaks : {ls : List Local} {n : ℕ} {walk : WalkKind} {at : ℕ} {var : Word} {of body : Phrase} {v b : Typing} {l : Local} {f : TypeFault} →
       Elab g ls (n + 1) of v → variable_row g ls var at n v.type ≡ Ok l →
       Elab g (ls ++ l ∷ []) (n + 1 + slots_of of) body b → walk_row walk at n v b ≡ Err f → Broken g ls n (walking walk at var of body) f
 
@@ -143,9 +143,9 @@ mutual
     in_left : {ls : List Local} {n at : ℕ} {pair : Pair} {p q : Phrase} {f : TypeFault} → First g ls n p f → First g ls n (pairing pair at p q) f
     in_right : {ls : List Local} {n at : ℕ} {pair : Pair} {p q : Phrase} {v : Typing} {f : TypeFault} →
         Elab g ls n p v → First g ls (n + slots_of p) q f → First g ls n (pairing pair at p q) f
-    in_range : {ls : List Local} {n : ℕ} {walk : Walk} {at : ℕ} {var : Word} {of body : Phrase} {f : TypeFault} →
+    in_range : {ls : List Local} {n : ℕ} {walk : WalkKind} {at : ℕ} {var : Word} {of body : Phrase} {f : TypeFault} →
         First g ls (n + 1) of f → First g ls n (walking walk at var of body) f
-    in_body : {ls : List Local} {n : ℕ} {walk : Walk} {at : ℕ} {var : Word} {of body : Phrase} {v : Typing} {l : Local} {f : TypeFault} →
+    in_body : {ls : List Local} {n : ℕ} {walk : WalkKind} {at : ℕ} {var : Word} {of body : Phrase} {v : Typing} {l : Local} {f : TypeFault} →
         Elab g ls (n + 1) of v → variable_row g ls var at n v.type ≡ Ok l →
         First g (ls ++ l ∷ []) (n + 1 + slots_of of) body f → First g ls n (walking walk at var of body) f
 

@@ -80,7 +80,7 @@ pub struct Globals<'a> {
 
 /// The visible locals, and the first slot that is free.
 #[derive(Drop)]
-pub struct Scope {
+pub struct LocalScope {
     pub locals: Vec<Local>,
     pub next: u32,
 }

@@ -40,7 +40,7 @@ pub enum Joint {
 
 /// `select` or `map`.
 #[derive(Clone, Copy)]
-pub enum Walk {
+pub enum WalkKind {
     Keeping,
     Mapping,
 }

@@ -7,7 +7,7 @@ ghost use Rattle.hera_rules.specs.Accepted.{Accepted};
 ghost use Rattle.hera_script.specs.Refusing.{IsRefused, script_limit};
 ghost use Rattle.hera_script.specs.declared.cause.Cause.{Cause};
 
-use hera_accepted::a_script_has_one_program;
+use crate::accepted::a_script_has_one_program;
 use hera_lexer::one_answer;
 use hera_parser::laws::one_fault;
 use hera_rules::typing_is_exact;

@@ -6,7 +6,7 @@ ghost use Rattle.hera_syntax.specs.Trees.{IsTextOf};
 ghost use Rattle.hera_script.specs.Faults.{IsUnreadable};
 ghost use Rattle.hera_script.specs.declared.cause.Cause.{Cause};
 ghost use Rattle.hera_rules.specs.Accepted.{Accepted};
-ghost use Rattle.hera_script.specs.Refusing.{IsRefused, offset_or};
+ghost use Rattle.hera_script.specs.Refusing.{IsRefused, offset_or, script_limit};
 
 use crate::cause::Cause;
 use hera_host::HostTable;
@@ -74,7 +74,7 @@ impl From<TypeFault> for ScriptFault {
 
 /// The offset of the token at this place, the script's length where there is none.
 fn offset_of(tokens: &Tokens, place: usize) -> u32
-    requires { tokens.now.1 ≤ 1048576 }
+    requires { tokens.now.1 ≤ script_limit }
     ensures { result ≡ offset_or (slice_get tokens.now.0 place) tokens.now.1 }
 {
     match tokens.items().get(place) {
@@ -85,7 +85,7 @@ fn offset_of(tokens: &Tokens, place: usize) -> u32
 
 /// The tree of the tokens.
 fn tree_of(alloc: Global, tokens: &Tokens) -> Result<Tree, ScriptFault>
-    requires { tokens.now.1 ≤ 1048576 }
+    requires { tokens.now.1 ≤ script_limit }
     ensures tree { IfOk result (λ tree. IsTextOf tree tokens.now.0) }
     ensures fault { (cause : Cause) (at : ℕ) → result ≡ Err (ScriptFault.Refused cause at) → IsUnreadable tokens.now cause at }
 {
@@ -102,7 +102,7 @@ fn tree_of(alloc: Global, tokens: &Tokens) -> Result<Tree, ScriptFault>
 /// The program of a script that may call these hosts, which is sound, or why it is refused: BadUtf8, BadToken,
 /// TooDeep and Syntax are looked for in this order, and then the first fault of types in the order of checking.
 pub fn read_program(alloc: Global, script: &[u8], hosts: &HostTable) -> Result<Program, ScriptFault>
-    requires { length script.now ≤ 1048576 }
+    requires { length script.now ≤ script_limit }
     ensures accepted { IfOk result (λ program. Accepted script.now hosts.now (program_of program)) }
     ensures sound { IfOk result (λ program. Sound (program_of program) (specs_of hosts.now)) }
     ensures refused { (cause : Cause) (at : ℕ) → result ≡ Err (ScriptFault.Refused cause at) → IsRefused hosts.now script.now cause at }

@@ -30,8 +30,8 @@ use Rattle.hera_rules.specs.declared.words.Prefix.{Prefix}
 use Rattle.hera_rules.specs.declared.words.Prefix.TheVariants.{Minus as negated, Not as denied}
 use Rattle.hera_rules.specs.declared.words.Test.{Test}
 use Rattle.hera_rules.specs.declared.words.Test.TheVariants.{Count as count_test, Empty as empty_test, IsFail as is_fail_test}
-use Rattle.hera_rules.specs.declared.words.Walk.{Walk}
-use Rattle.hera_rules.specs.declared.words.Walk.TheVariants.{Keeping, Mapping}
+use Rattle.hera_rules.specs.declared.words.WalkKind.{WalkKind}
+use Rattle.hera_rules.specs.declared.words.WalkKind.TheVariants.{Keeping, Mapping}
 use Rattle.hera_rules.specs.declared.words.Pair.{Pair}
 use Rattle.hera_rules.specs.declared.words.Pair.TheVariants.{Sets, Join as as_join}
 use Rattle.hera_rules.specs.declared.words.Fold.{Fold}
@@ -43,7 +43,7 @@ use Rattle.hera_rules.specs.declared.fault.TypeFault.{TypeFault}
 use Rattle.hera_rules.specs.declared.fault.TypeFault.TheVariants.{Repeated as repeated, Mismatch as mismatch, TooMany as too_many}
 use Rattle.hera_rules.specs.Environments.{Env, relation_named, local_named, is_taken}
 use Rattle.hera_rules.specs.Same.{same_schema}
-use Rattle.hera_rules.specs.Rules.{Typing, typing, given, unless, is_int, is_bool, is_delta, is_rel, kind_type, const_type, literal_row, relation_row, value_row, name_row, one_expr, two_exprs, prefix_row, field_at, field_of, over, variable_row, image_row, walk_row, stranger_in, repeat_in, places_in, attrs_in, project_of, kept_names, old_names, old_words, rename_repeat, renamed_attr, rename_of, sets_of, kinds_agree, join_of, pair_row, measured_words, aggs_in, sums_int, group_attrs, result_fault, group_of, test_row, fold_at, fold_in, has_kinds, bulk_of, bulk_row, part_op, part_of, part_row}
+use Rattle.hera_rules.specs.Rules.{Typing, typing, given, unless, is_int, is_bool, is_delta, is_rel, kind_type, const_type, literal_row, relation_row, value_row, name_row, one_expr, two_exprs, prefix_row, field_type, field_of, over, variable_row, image_row, walk_row, stranger_in, repeat_in, places_in, attrs_in, project_type, kept_names, old_names, old_words, rename_repeat, renamed_attr, rename_of, sets_of, kinds_agree, join_type, pair_row, measured_words, aggs_in, sums_int, group_attrs, result_fault, group_type, test_row, fold_at, fold_in, has_kinds, bulk_of, bulk_row, part_op, part_of, part_row}
 use Rattle.hera_sound.proofs.Tests.{given_true, unless_none, cond_second, cond_first, both_true, found_within, is_int-true, is_bool-true, is_delta-true, is_rel-true, same_schema-true, same_kinds-true}
 use Rattle.hera_sound.proofs.Schemas.{is_place-below, int_at, stranger_none, places_good, good_aggs, project_schema, kinds_of-attrs_in, rename_schema, kinds_of-renamed, group_schema, kinds_of-group, join_schema, kinds_of-append, width_schema}
 use Rattle.hera_sound.proofs.Made.{IsPair}
@@ -152,7 +152,7 @@ module _ {g : Env} (x : Inside g) (env : EnvIsGood x) (rs : List ℕ) where
   pub field_fine : (ws : List ℕ) (b : ℕ) (w : Word) (c : Expr) (t : Shape) (r : Typing) → field_of w c t ≡ Ok r → Fine x rs ws b (typing t c) → Fine x rs ws (b + 4) r
   field_fine ws b w c (tuple s) r e f = by (place_named w.name s) refl e
     where
-      by : (o : Option ℕ) → place_named w.name s ≡ o → field_at w c s o ≡ Ok r → Fine x rs ws (b + 4) r
+      by : (o : Option ℕ) → place_named w.name s ≡ o → field_type w c s o ≡ Ok r → Fine x rs ws (b + 4) r
       by None k e = absurd cc
       by (Some i) k e =
           let h : typing (kind_type (kind_at s i)) (prim (field_op s i) (one_expr c) w.at) ≡ r = cc in
@@ -184,7 +184,7 @@ module _ {g : Env} (x : Inside g) (env : EnvIsGood x) (rs : List ℕ) where
 
   -- ---- set operators
 
-  pub project_fine : (ws : List ℕ) (b at : ℕ) (names : List Word) (c : Expr) (t : Shape) (r : Typing) → 1 ≤ length names → project_of at names c t ≡ Ok r → Fine x rs ws b (typing t c) → Fine x rs ws (b + 4) r
+  pub project_fine : (ws : List ℕ) (b at : ℕ) (names : List Word) (c : Expr) (t : Shape) (r : Typing) → 1 ≤ length names → project_type at names c t ≡ Ok r → Fine x rs ws b (typing t c) → Fine x rs ws (b + 4) r
   project_fine ws b at names c (rel s) r n e f =
       let out : Typing = typing (rel (attrs_in s names)) (prim (Project s (places_in s names)) (one_expr c) at) in
       let p = unless_none (stranger_in s names) (unless (repeat_in [] names) (Ok out)) r e in
@@ -212,7 +212,7 @@ module _ {g : Env} (x : Inside g) (env : EnvIsGood x) (rs : List ℕ) where
       })
   rename_fine ws b at names c _ r e f = absurd (let p = unless_none (rename_repeat [] [] names) (Err (mismatch at)) r e in cc)
 
-  pub group_fine : (ws : List ℕ) (b at : ℕ) (by : List Word) (aggs : List Aggregate) (c : Expr) (t : Shape) (r : Typing) → 1 ≤ length by → group_of at by aggs c t ≡ Ok r → Fine x rs ws b (typing t c) → Fine x rs ws (b + 4) r
+  pub group_fine : (ws : List ℕ) (b at : ℕ) (by : List Word) (aggs : List Aggregate) (c : Expr) (t : Shape) (r : Typing) → 1 ≤ length by → group_type at by aggs c t ≡ Ok r → Fine x rs ws b (typing t c) → Fine x rs ws (b + 4) r
   group_fine ws b at by aggs c (rel s) r n e f =
       let out : Typing = typing (rel (group_attrs s by aggs)) (prim (Group s (places_in s by) (aggs_in s aggs)) (one_expr c) at) in
       let last : Result Typing TypeFault = given (list_all (λ a. sums_int s a.of) aggs) (mismatch at) out in
@@ -239,7 +239,7 @@ module _ {g : Env} (x : Inside g) (env : EnvIsGood x) (rs : List ℕ) where
       (op_of (env_in x).relations op (form_of (rel s) ∷ form_of (rel t) ∷ []) (of_table (kinds_of s) ∷ of_table (kinds_of s) ∷ []) (rel s) (rel s) (two_types (rel s) (rel t) (rel s) (rel s) refl same) refl (sets_op (env_in x).relations op (kinds_of s) k)) f.good f h)
   sets_fine ws ws' b b' op at c d _ _ r k e f h = absurd cc
 
-  join_fine : (ws ws' : List ℕ) (b b' at : ℕ) (c d : Expr) (s t : Shape) (r : Typing) → join_of at c d s t ≡ Ok r →
+  join_fine : (ws ws' : List ℕ) (b b' at : ℕ) (c d : Expr) (s t : Shape) (r : Typing) → join_type at c d s t ≡ Ok r →
       Fine x rs ws b (typing s c) → Fine x rs ws' b' (typing t d) → Fine x rs (ws ++ ws') (b + b' + 4) r
   join_fine ws ws' b b' at c d (rel s) (rel t) r e f h =
       let out : Typing = typing (rel (s ++ lacking s t)) (prim (join_op s t) (two_exprs c d) at) in
@@ -321,7 +321,7 @@ module _ {g : Env} (x : Inside g) (rs : List ℕ) where
       into x rs (n ∷ (ws ++ ws')) (b + b' + 2) (typing (rel t) (map_each n c d)) r k (map_fine ws ws' b b' n s t c d i f h)
   image_fine ws ws' b b' at n s c d _ r e i f h = absurd cc
 
-  pub walk_fine : (ws ws' : List ℕ) (b b' : ℕ) (walk : Walk) (at n : ℕ) (s : List Attr) (v w r : Typing) → v.type ≡ rel s → walk_row walk at n v w ≡ Ok r → IsSlot (scope x) n (of_tuple (kinds_of s)) →
+  pub walk_fine : (ws ws' : List ℕ) (b b' : ℕ) (walk : WalkKind) (at n : ℕ) (s : List Attr) (v w r : Typing) → v.type ≡ rel s → walk_row walk at n v w ≡ Ok r → IsSlot (scope x) n (of_tuple (kinds_of s)) →
       Fine x rs ws b v → Fine x (n ∷ rs) ws' b' w → Fine x rs (n ∷ (ws ++ ws')) (b + b' + 2) r
   walk_fine ws ws' b b' Keeping at n s v w r k e i f h =
       let g = given_true (is_bool w.type) (mismatch at) (typing v.type (select n v.core w.core)) r e in

@@ -13,9 +13,8 @@ ghost use Rattle.rel_pages.specs.Stored.{empty_state};
 ghost use Rattle.hera_top.specs.declared.refusal.Refusal.{Refusal};
 ghost use Rattle.hera_top.specs.Outcome.{Outcome, prints, ran, refused, ComesTo, IsRead};
 
-use hera_accepted::accepted_programs_are_sound;
 use hera_bind::laws::a_program_is_bound_to_its_own_relations;
-use hera_script::a_script_has_one_answer;
+use hera_script::{a_script_has_one_answer, accepted_programs_are_sound};
 
 /// A command comes to one outcome for a script: so each refusal stands for its cause alone, and what runs is the one
 /// program of the script. What `check` prints is `accepted` exactly for the scripts that are accepted.

@@ -11,20 +11,13 @@ use Rattle.hera_meaning.specs.Trees.{Expr, Command, set_slot, if_arms, while, fo
 use Rattle.hera_meaning.specs.Plain.{command_of, expr_of, block_in, arms_in}
 use Rattle.hera_syntax.specs.declared.tree.StmtTree.{StmtTree}
 use Rattle.hera_syntax.specs.declared.tree.ElseIf.{ElseIf}
-use Rattle.hera_syntax.specs.declared.tree.Block.{Block as Block_tree}
-use Rattle.hera_syntax.specs.declared.tree.StmtTree.TheViews as view
-use Rattle.hera_syntax.specs.declared.expr.Expr.{Expr as Expr_tree}
-use Rattle.hera_syntax.specs.declared.token.Token.{Token}
-use Rattle.hera_rules.proofs.ReadActLaws.{act_of-If, act_of-While, act_of-Foreach}
-use Rattle.std.specs.Prelude.{Vec}
-use Rattle.std.specs.declared.alloc.Global.{Global}
 use Rattle.hera_rules.specs.declared.words.Word.{Word}
 use Rattle.hera_rules.specs.declared.env.Local.{Local}
 use Rattle.hera_rules.specs.declared.fault.TypeFault.{TypeFault}
 use Rattle.hera_rules.specs.Environments.{Env}
 use Rattle.hera_rules.specs.Phrases.{Phrase, Type_phrase, Act, declaring, Acts, no_act, act, Branches, no_branch, branch, choosing, looping, visiting}
-use Rattle.hera_rules.specs.Read.{expr_phrase, word_of}
-use Rattle.hera_rules.specs.ReadActs.{act_of, acts_in, block_acts, branches_in, last_in}
+use Rattle.hera_rules.specs.Read.{expr_phrase}
+use Rattle.hera_rules.specs.ReadActs.{act_of, acts_in, block_acts, branches_in}
 use Rattle.hera_rules.specs.Rules.{Typing, variable_row}
 use Rattle.hera_rules.specs.Typing.{slots_of}
 use Rattle.hera_rules.specs.Checked.{and_then, check}
@@ -218,18 +211,6 @@ pub act_row : (g : Env) (r : Option Shape) (ls : List Local) (n : ℕ) (now : Li
     check_act g r ls n a ≡ stays ls row → now ≡ ls → Gives command_of v row → ActGives v now g r ls n a
 act_row g r ls n now (Ok s) a row w k h = w ∙ ap (λ x. stays ls x) h ∙ ap (λ ls. Ok (done ls (command_of s))) (sym k)
 act_row g r ls n now (Err f) a row w k h = λ ne. w ∙ ap (λ x. stays ls x) (h ne)
-
--- ---- statements as they are read
-
-pub choose_act : (w b : Token) (e : Expr_tree) (block : Block_tree) (es : Vec ElseIf Global) (last : Option Block_tree) {s : StmtTree} → s ≡ view.If w b e block es last →
-    act_of s ≡ choosing (branch w.at (expr_phrase e) (block_acts block) (branches_in es.items)) (last_in last)
-choose_act w b e block es last h = ap act_of h ∙ act_of-If w b e block es last
-
-pub loop_act : (w b : Token) (e : Expr_tree) (block : Block_tree) {s : StmtTree} → s ≡ view.While w b e block → act_of s ≡ looping w.at (expr_phrase e) (block_acts block)
-loop_act w b e block h = ap act_of h ∙ act_of-While w b e block
-
-pub visit_act : (w b n : Token) (e : Expr_tree) (block : Block_tree) {s : StmtTree} → s ≡ view.Foreach w b n e block → act_of s ≡ visiting w.at (word_of n) (expr_phrase e) (block_acts block)
-visit_act w b n e block h = ap act_of h ∙ act_of-Foreach w b n e block
 
 -- ---- an `if`, read part by part
 

@@ -28,6 +28,9 @@ armed_of a = record { cond = expr_of a.cond; block = commands_in a.block.items }
 abbrev pub armed_in : List Arm → List Armed
 armed_in arms = map armed_of arms
 
+abbrev pub all_armed : Vec Arm Global → List Armed
+all_armed arms = armed_in arms.items
+
 -- the statement has this core, and leaves these locals; want of memory says nothing
 abbrev pub ActGives : Result Stmt TypeFault → List Local → Env → Option Shape → List Local → ℕ → Act → Type 0
 ActGives (Ok s) now g r ls n a = check_act g r ls n a ≡ Ok (done now (command_of s))

@@ -4,18 +4,19 @@ ghost use Rattle.std.specs.Prelude.{◌≡◌, ◌+◌, [], OnOk};
 ghost use Rattle.hera_meaning.specs.Plain.{block_in, command_of, expr_of};
 ghost use Rattle.hera_meaning.specs.Trees as trees;
 ghost use Rattle.hera_rules.specs.Agrees.{Gives, Keeps};
-ghost use Rattle.hera_rules.specs.CheckedActs.{check_acts};
+ghost use Rattle.hera_rules.specs.CheckedActs.{check_acts, check_branches};
 ghost use Rattle.hera_rules.specs.Environments.{env_of};
-ghost use Rattle.hera_rules.specs.Read.{expr_phrase};
-ghost use Rattle.hera_rules.specs.ReadActs.{act_of, block_acts};
-ghost use Rattle.hera_rules.specs.Statements.{slots_of_act, slots_of_acts};
+ghost use Rattle.hera_rules.specs.Phrases.{branch, choosing, looping, visiting};
+ghost use Rattle.hera_rules.specs.Read.{expr_phrase, word_of};
+ghost use Rattle.hera_rules.specs.ReadActs.{act_of, block_acts, branches_in, last_in};
+ghost use Rattle.hera_rules.specs.Statements.{slots_of_act, slots_of_acts, slots_of_branches};
 ghost use Rattle.hera_rules.specs.Typing.{slots_of};
-ghost use Rattle.hera_types.specs.Scopes.{ActGives, Extends, arm_row, armed_of, commands_of};
+ghost use Rattle.hera_types.specs.Scopes.{ActGives, Extends, all_armed, arm_row, armed_of, commands_of};
 
 use crate::statements::{apply, assign, claim, declare, give_back, perform, print};
 use hera_meaning::{Arm, Shape, Stmt};
-use hera_rules::{Globals, Scope, TypeFault};
-use hera_syntax::{Block, Expr, StmtTree};
+use hera_rules::{Globals, LocalScope, TypeFault};
+use hera_syntax::{Block, ElseIf, Expr, StmtTree, Token};
 use hera_types_exprs::{Waiting, expr, leave, push_local, take_slot};
 use hera_types_parts::{into_core, put};
 use hera_types_rows::{cond_row_of, effect_row_of, variable_row_of};
@@ -28,7 +29,7 @@ pub fn block(
     alloc: Global,
     globals: &Globals,
     returned: &Option<Shape>,
-    scope: &mut Scope,
+    scope: &mut LocalScope,
     e: &Block,
 ) -> Result<Vec<Stmt>, TypeFault>
     ensures checks { Gives commands_of result (check_acts (env_of globals.now) returned.now scope.old.locals.items scope.old.next [] (block_acts e.now)) }
@@ -51,7 +52,7 @@ fn arm(
     alloc: Global,
     globals: &Globals,
     returned: &Option<Shape>,
-    scope: &mut Scope,
+    scope: &mut LocalScope,
     b: &Block,
     condition: &Expr,
     at: u32,
@@ -65,6 +66,127 @@ fn arm(
     Ok(Arm { cond, block: inner })
 }
 
+/// The conditions of an `if` with their blocks: the first, and those of each `else if`.
+#[cycle(acts)]
+#[tactic(auto, using(hera_rules::proofs::ReadActLaws::read_acts))]
+fn arms(
+    alloc: Global,
+    globals: &Globals,
+    returned: &Option<Shape>,
+    scope: &mut LocalScope,
+    at: u32,
+    condition: &Expr,
+    first: &Block,
+    else_ifs: &[ElseIf],
+) -> Result<Vec<Arm>, TypeFault>
+    ensures checks { Gives all_armed result (check_branches (env_of globals.now) returned.now scope.old.locals.items scope.old.next [] (branch at (expr_phrase condition.now) (block_acts first.now) (branches_in else_ifs.now))) }
+    ensures keeps { OnOk result (Keeps scope.old scope.new (slots_of_branches (branch at (expr_phrase condition.now) (block_acts first.now) (branches_in else_ifs.now)))) }
+{
+    let mut all = Vec::new(alloc);
+    let front = arm(alloc, globals, returned, scope, first, condition, at)?;
+    put(&mut all, front)?;
+    for next in else_ifs {
+        let more = arm(
+            alloc,
+            globals,
+            returned,
+            scope,
+            &next.block,
+            &next.condition,
+            next.word.at,
+        )?;
+        put(&mut all, more)?;
+    }
+    Ok(all)
+}
+
+/// An `if`: its arms, and then its last block, if any.
+#[cycle(acts)]
+#[tactic(auto, using(hera_rules::proofs::ReadActLaws::read_acts))]
+fn branches(
+    alloc: Global,
+    globals: &Globals,
+    returned: &Option<Shape>,
+    scope: &mut LocalScope,
+    at: u32,
+    condition: &Expr,
+    first: &Block,
+    else_ifs: &[ElseIf],
+    last: &Option<Block>,
+) -> Result<Stmt, TypeFault>
+    ensures checks { ActGives result scope.new.locals.items (env_of globals.now) returned.now scope.old.locals.items scope.old.next (choosing (branch at (expr_phrase condition.now) (block_acts first.now) (branches_in else_ifs.now)) (last_in last.now)) }
+    ensures next { OnOk result (scope.new.next ≡ scope.old.next + slots_of_act (choosing (branch at (expr_phrase condition.now) (block_acts first.now) (branches_in else_ifs.now)) (last_in last.now))) }
+    ensures grows { OnOk result (Extends scope.old.locals.items scope.new.locals.items) }
+{
+    let all = arms(
+        alloc, globals, returned, scope, at, condition, first, else_ifs,
+    )?;
+    match last {
+        Some(inner) => {
+            let other = block(alloc, globals, returned, scope, inner)?;
+            Ok(Stmt::If(all, other))
+        }
+        None => Ok(Stmt::If(all, Vec::new(alloc))),
+    }
+}
+
+/// A `while`.
+#[cycle(acts)]
+#[tactic(auto, using(hera_rules::proofs::ReadActLaws::read_acts))]
+fn repeat(
+    alloc: Global,
+    globals: &Globals,
+    returned: &Option<Shape>,
+    scope: &mut LocalScope,
+    at: u32,
+    condition: &Expr,
+    inner: &Block,
+) -> Result<Stmt, TypeFault>
+    ensures checks { ActGives result scope.new.locals.items (env_of globals.now) returned.now scope.old.locals.items scope.old.next (looping at (expr_phrase condition.now) (block_acts inner.now)) }
+    ensures next { OnOk result (scope.new.next ≡ scope.old.next + slots_of_act (looping at (expr_phrase condition.now) (block_acts inner.now))) }
+    ensures grows { OnOk result (Extends scope.old.locals.items scope.new.locals.items) }
+{
+    let front = arm(alloc, globals, returned, scope, inner, condition, at)?;
+    Ok(while_of(front))
+}
+
+/// A `foreach`. Its variable is visible in its block alone.
+#[cycle(acts)]
+#[tactic(auto, using(hera_rules::proofs::ReadActLaws::read_acts))]
+fn visit(
+    alloc: Global,
+    globals: &Globals,
+    returned: &Option<Shape>,
+    scope: &mut LocalScope,
+    at: u32,
+    name: &Token,
+    over: &Expr,
+    inner: &Block,
+) -> Result<Stmt, TypeFault>
+    ensures checks { ActGives result scope.new.locals.items (env_of globals.now) returned.now scope.old.locals.items scope.old.next (visiting at (word_of name.now) (expr_phrase over.now) (block_acts inner.now)) }
+    ensures next { OnOk result (scope.new.next ≡ scope.old.next + slots_of_act (visiting at (word_of name.now) (expr_phrase over.now) (block_acts inner.now))) }
+    ensures grows { OnOk result (Extends scope.old.locals.items scope.new.locals.items) }
+{
+    let depth = scope.locals.len();
+    let slot = take_slot(scope)?;
+    let of = expr(alloc, globals, scope, over)?;
+    let range = Waiting { typed: of };
+    let local = variable_row_of(
+        globals,
+        &scope.locals,
+        alloc,
+        name,
+        at,
+        slot,
+        &range.typed.shape,
+    )?;
+    push_local(scope, local)?;
+    let body = block(alloc, globals, returned, scope, inner)?;
+    leave(scope, depth);
+    let typed = range.into_typed();
+    Ok(Stmt::Foreach(slot, into_core(typed), body))
+}
+
 /// A statement.
 #[cycle(acts)]
 #[tactic(auto, using(hera_rules::proofs::ReadActLaws::read_acts))]
@@ -72,7 +194,7 @@ fn statement(
     alloc: Global,
     globals: &Globals,
     returned: &Option<Shape>,
-    scope: &mut Scope,
+    scope: &mut LocalScope,
     e: &StmtTree,
 ) -> Result<Stmt, TypeFault>
     ensures checks { ActGives result scope.new.locals.items (env_of globals.now) returned.now scope.old.locals.items scope.old.next (act_of e.now) }
@@ -87,76 +209,29 @@ fn statement(
             else_ifs,
             last,
             ..
-        } => {
-            let mut arms = Vec::new(alloc);
-            let front = arm(alloc, globals, returned, scope, first, condition, word.at)?;
-            put(&mut arms, front)?;
-            for next in else_ifs {
-                let more = arm(
-                    alloc,
-                    globals,
-                    returned,
-                    scope,
-                    &next.block,
-                    &next.condition,
-                    next.word.at,
-                )?;
-                put(&mut arms, more)?;
-            }
-            match last {
-                Some(inner) => {
-                    let other = block(alloc, globals, returned, scope, inner)?;
-                    Ok(Stmt::If(arms, other))
-                }
-                None => Ok(Stmt::If(arms, Vec::new(alloc))),
-            }
-        }
+        } => branches(
+            alloc, globals, returned, scope, word.at, condition, first, else_ifs, last,
+        ),
         StmtTree::While {
             word,
             condition,
             block: inner,
             ..
-        } => {
-            let front = arm(alloc, globals, returned, scope, inner, condition, word.at)?;
-            Ok(while_of(front))
-        }
+        } => repeat(alloc, globals, returned, scope, word.at, condition, inner),
         StmtTree::Foreach {
             word,
             name,
             over,
             block: inner,
             ..
-        } => {
-            let depth = scope.locals.len();
-            let slot = take_slot(scope)?;
-            let of = expr(alloc, globals, scope, over)?;
-            let range = Waiting { typed: of };
-            let local = variable_row_of(
-                globals,
-                &scope.locals,
-                alloc,
-                name,
-                word.at,
-                slot,
-                &range.typed.shape,
-            )?;
-            push_local(scope, local)?;
-            let body = block(alloc, globals, returned, scope, inner)?;
-            leave(scope, depth);
-            let typed = range.into_typed();
-            Ok(Stmt::Foreach(slot, into_core(typed), body))
-        }
+        } => visit(alloc, globals, returned, scope, word.at, name, over, inner),
         StmtTree::Declare {
             type_tree,
             name,
             value,
         } => declare(alloc, globals, returned, scope, type_tree, name, value),
         StmtTree::Assign { name, value } => assign(alloc, globals, returned, scope, name, value),
-        StmtTree::Call {
-            name,
-            args: list,
-            ..
-        } => perform(alloc, globals, returned, scope, name, list),
+        StmtTree::Call { name, args, .. } => perform(alloc, globals, returned, scope, name, args),
         StmtTree::Print { word, value } => print(alloc, globals, returned, scope, word.at, value),
         StmtTree::Apply { word, value } => apply(alloc, globals, returned, scope, word.at, value),
         StmtTree::Assert { word, value } => claim(alloc, globals, returned, scope, word.at, value),

@@ -13,7 +13,7 @@ ghost use Rattle.hera_rules.specs.Typing.{slots_of_all};
 ghost use Rattle.hera_types.specs.Scopes.{ActGives, Extends};
 
 use hera_meaning::{Shape, Stmt};
-use hera_rules::{Globals, Scope, TypeFault, Typed};
+use hera_rules::{Globals, LocalScope, TypeFault, Typed};
 use hera_syntax::{Args, Expr, Token, TypeTree};
 use hera_types_exprs::{Waiting, args, expr, push_local, take_slot};
 use hera_types_parts::into_core;
@@ -28,7 +28,7 @@ pub fn declare(
     alloc: Global,
     globals: &Globals,
     returned: &Option<Shape>,
-    scope: &mut Scope,
+    scope: &mut LocalScope,
     type_tree: &TypeTree,
     name: &Token,
     value: &Expr,
@@ -60,7 +60,7 @@ pub fn assign(
     alloc: Global,
     globals: &Globals,
     returned: &Option<Shape>,
-    scope: &mut Scope,
+    scope: &mut LocalScope,
     name: &Token,
     value: &Expr,
 ) -> Result<Stmt, TypeFault>
@@ -77,7 +77,7 @@ pub fn perform(
     alloc: Global,
     globals: &Globals,
     returned: &Option<Shape>,
-    scope: &mut Scope,
+    scope: &mut LocalScope,
     name: &Token,
     list: &Option<Args>,
 ) -> Result<Stmt, TypeFault>
@@ -94,7 +94,7 @@ pub fn print(
     alloc: Global,
     globals: &Globals,
     returned: &Option<Shape>,
-    scope: &mut Scope,
+    scope: &mut LocalScope,
     at: u32,
     value: &Expr,
 ) -> Result<Stmt, TypeFault>
@@ -111,7 +111,7 @@ pub fn apply(
     alloc: Global,
     globals: &Globals,
     returned: &Option<Shape>,
-    scope: &mut Scope,
+    scope: &mut LocalScope,
     at: u32,
     value: &Expr,
 ) -> Result<Stmt, TypeFault>
@@ -128,7 +128,7 @@ pub fn claim(
     alloc: Global,
     globals: &Globals,
     returned: &Option<Shape>,
-    scope: &mut Scope,
+    scope: &mut LocalScope,
     at: u32,
     value: &Expr,
 ) -> Result<Stmt, TypeFault>
@@ -145,7 +145,7 @@ pub fn give_back(
     alloc: Global,
     globals: &Globals,
     returned: &Option<Shape>,
-    scope: &mut Scope,
+    scope: &mut LocalScope,
     word: &Token,
     value: &Option<Expr>,
 ) -> Result<Stmt, TypeFault>
@@ -164,7 +164,7 @@ fn give_value(
     alloc: Global,
     globals: &Globals,
     returned: &Option<Shape>,
-    scope: &mut Scope,
+    scope: &mut LocalScope,
     at: u32,
     value: &Expr,
 ) -> Result<Stmt, TypeFault>
@@ -180,7 +180,7 @@ fn give_value(
 fn some_values(
     alloc: Global,
     globals: &Globals,
-    scope: &mut Scope,
+    scope: &mut LocalScope,
     list: &Option<Args>,
 ) -> Result<Vec<Typed>, TypeFault>
     ensures checks { Gives list_of result (check_all (env_of globals.now) scope.old.locals.items scope.old.next [] (some_args list.now)) }

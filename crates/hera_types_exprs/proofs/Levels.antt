@@ -4,29 +4,23 @@ use Rattle.std.proofs.Math.Seq.{take-append_seam}
 use Rattle.std.proofs.Math.ListN.{drop_of_length-le}
 use Rattle.std.specs.Prelude.{Result, Ok, Err}
 use Rattle.hera_meaning.specs.declared.trees.Shape.{Shape}
-use Rattle.hera_syntax.specs.declared.expr.WhenTail.{WhenTail, out-WhenTail}
-use Rattle.hera_syntax.specs.declared.expr.OrTail.{OrTail, out-OrTail}
-use Rattle.hera_syntax.specs.declared.expr.AndTail.{AndTail, out-AndTail}
-use Rattle.hera_syntax.specs.declared.expr.SumTail.{SumTail, out-SumTail}
-use Rattle.hera_syntax.specs.declared.expr.TermTail.{TermTail, out-TermTail}
-use Rattle.hera_syntax.specs.declared.expr.SmashTail.{SmashTail, out-SmashTail}
-use Rattle.hera_syntax.specs.declared.expr.MergeTail.{MergeTail}
+use Rattle.hera_syntax.specs.declared.expr.Level.{Level}
+use Rattle.hera_syntax.specs.declared.expr.Tail.{Tail}
 use Rattle.hera_syntax.specs.declared.expr.Expr.{Expr}
 use Rattle.hera_syntax.specs.declared.expr.Binding.{Binding, out-Binding}
 use Rattle.hera_syntax.specs.declared.expr.Atom.{Atom}
 use Rattle.hera_syntax.specs.declared.expr.Line.{Line}
 use Rattle.hera_rules.specs.declared.words.Word.{Word}
 use Rattle.hera_rules.specs.declared.words.Joint.{Joint}
-use Rattle.hera_rules.specs.declared.words.Joint.TheVariants.{When as by_when, And as by_and, Or as by_or}
 use Rattle.hera_rules.specs.declared.env.Local.{Local}
 use Rattle.hera_rules.specs.declared.fault.TypeFault.{TypeFault}
 use Rattle.hera_rules.specs.Environments.{Env}
 use Rattle.hera_rules.specs.Phrases.{Phrase, Phrases, no_phrase, phrase, Uses, no_use, uses}
-use Rattle.hera_rules.specs.Read.{chain_phrase, joint_of, expr_uses_in, or_uses_in, and_uses_in, sum_uses_in, term_uses_in, smash_uses_in, merge_uses_in, phrases_in, bindings_in, atoms_in, lines_in, expr_phrase, atom_phrase, line_phrase, or_phrase, and_phrase, cmp_phrase, term_phrase, smash_phrase, merge_phrase, prefix_of_tree}
+use Rattle.hera_rules.specs.Read.{chain_phrase, joint_at, expr_uses_in, phrases_in, bindings_in, atoms_in, lines_in, expr_phrase, operand_phrase, atom_phrase, line_phrase}
 use Rattle.hera_rules.specs.Rules.{Typing, typing, Step, joint_row, chain_core}
 use Rattle.hera_rules.specs.Typing.{slots_of, slots_of_uses}
 use Rattle.hera_rules.specs.Checked.{Chained, and_then, check, check_all, check_uses}
-use Rattle.hera_rules.proofs.ReadLaws.{expr_use-read, or_use-read, and_use-read, sum_use-read, term_use-read, smash_use-read, binding_phrase-read}
+use Rattle.hera_rules.proofs.ReadLaws.{binding_phrase-read}
 use Rattle.hera_rules.specs.declared.env.Typed.{Typed}
 use Rattle.hera_rules.specs.Agrees.{typing_of, typings_of}
 use Rattle.hera_types_parts.proofs.Giving.{next_at, none_at}
@@ -83,54 +77,12 @@ uses_break g ls n t is u e j = ap (λ us. check_uses g ls n t is us) u ∙ rw (e
 
 -- ---- what is left of a level's operands: one more, or none
 
-pub expr_more : (ts : List WhenTail) (i : ℕ) (x : WhenTail) → i < length ts → x ≡ get_or ts i x →
-    expr_uses_in (drop i ts) ≡ uses by_when (out-WhenTail x).op.at (or_phrase (out-WhenTail x).operand) (expr_uses_in (drop (i + 1) ts))
-expr_more ts i x h e = ap expr_uses_in (next_at ts i x h e) ∙ expr_use-read x (expr_uses_in (drop (i + 1) ts))
+pub expr_more : (level : Level) (ts : List Tail) (i : ℕ) (x : Tail) → i < length ts → x ≡ get_or ts i x →
+    expr_uses_in level (drop i ts) ≡ uses (joint_at level x.op.kind) x.op.at (operand_phrase x.operand) (expr_uses_in level (drop (i + 1) ts))
+expr_more level ts i x h e = ap (expr_uses_in level) (next_at ts i x h e)
 
-pub expr_none : (ts : List WhenTail) (i : ℕ) → length ts ≤ i → expr_uses_in (drop i ts) ≡ no_use
-expr_none ts i h = ap expr_uses_in (drop_of_length-le ts h)
-
-pub or_more : (ts : List OrTail) (i : ℕ) (x : OrTail) → i < length ts → x ≡ get_or ts i x →
-    or_uses_in (drop i ts) ≡ uses by_or (out-OrTail x).op.at (and_phrase (out-OrTail x).operand) (or_uses_in (drop (i + 1) ts))
-or_more ts i x h e = ap or_uses_in (next_at ts i x h e) ∙ or_use-read x (or_uses_in (drop (i + 1) ts))
-
-pub or_none : (ts : List OrTail) (i : ℕ) → length ts ≤ i → or_uses_in (drop i ts) ≡ no_use
-or_none ts i h = ap or_uses_in (drop_of_length-le ts h)
-
-pub and_more : (ts : List AndTail) (i : ℕ) (x : AndTail) → i < length ts → x ≡ get_or ts i x →
-    and_uses_in (drop i ts) ≡ uses by_and (out-AndTail x).op.at (cmp_phrase (out-AndTail x).operand) (and_uses_in (drop (i + 1) ts))
-and_more ts i x h e = ap and_uses_in (next_at ts i x h e) ∙ and_use-read x (and_uses_in (drop (i + 1) ts))
-
-pub and_none : (ts : List AndTail) (i : ℕ) → length ts ≤ i → and_uses_in (drop i ts) ≡ no_use
-and_none ts i h = ap and_uses_in (drop_of_length-le ts h)
-
-pub sum_more : (ts : List SumTail) (i : ℕ) (x : SumTail) → i < length ts → x ≡ get_or ts i x →
-    sum_uses_in (drop i ts) ≡ uses (joint_of (out-SumTail x).op.kind) (out-SumTail x).op.at (term_phrase (out-SumTail x).operand) (sum_uses_in (drop (i + 1) ts))
-sum_more ts i x h e = ap sum_uses_in (next_at ts i x h e) ∙ sum_use-read x (sum_uses_in (drop (i + 1) ts))
-
-pub sum_none : (ts : List SumTail) (i : ℕ) → length ts ≤ i → sum_uses_in (drop i ts) ≡ no_use
-sum_none ts i h = ap sum_uses_in (drop_of_length-le ts h)
-
-pub term_more : (ts : List TermTail) (i : ℕ) (x : TermTail) → i < length ts → x ≡ get_or ts i x →
-    term_uses_in (drop i ts) ≡ uses (joint_of (out-TermTail x).op.kind) (out-TermTail x).op.at (smash_phrase (out-TermTail x).operand) (term_uses_in (drop (i + 1) ts))
-term_more ts i x h e = ap term_uses_in (next_at ts i x h e) ∙ term_use-read x (term_uses_in (drop (i + 1) ts))
-
-pub term_none : (ts : List TermTail) (i : ℕ) → length ts ≤ i → term_uses_in (drop i ts) ≡ no_use
-term_none ts i h = ap term_uses_in (drop_of_length-le ts h)
-
-pub smash_more : (ts : List SmashTail) (i : ℕ) (x : SmashTail) → i < length ts → x ≡ get_or ts i x →
-    smash_uses_in (drop i ts) ≡ uses (joint_of (out-SmashTail x).op.kind) (out-SmashTail x).op.at (merge_phrase (out-SmashTail x).operand) (smash_uses_in (drop (i + 1) ts))
-smash_more ts i x h e = ap smash_uses_in (next_at ts i x h e) ∙ smash_use-read x (smash_uses_in (drop (i + 1) ts))
-
-pub smash_none : (ts : List SmashTail) (i : ℕ) → length ts ≤ i → smash_uses_in (drop i ts) ≡ no_use
-smash_none ts i h = ap smash_uses_in (drop_of_length-le ts h)
-
-pub merge_more : (ts : List MergeTail) (i : ℕ) (x : MergeTail) → i < length ts → x ≡ get_or ts i x →
-    merge_uses_in (drop i ts) ≡ uses (joint_of x.op.kind) x.op.at (prefix_of_tree x.operand) (merge_uses_in (drop (i + 1) ts))
-merge_more ts i x h e = ap merge_uses_in (next_at ts i x h e)
-
-pub merge_none : (ts : List MergeTail) (i : ℕ) → length ts ≤ i → merge_uses_in (drop i ts) ≡ no_use
-merge_none ts i h = ap merge_uses_in (drop_of_length-le ts h)
+pub expr_none : (level : Level) (ts : List Tail) (i : ℕ) → length ts ≤ i → expr_uses_in level (drop i ts) ≡ no_use
+expr_none level ts i h = ap (expr_uses_in level) (drop_of_length-le ts h)
 
 -- ---- phrases from the left
 

@@ -6,28 +6,22 @@ ghost use Rattle.hera_rules.specs.Checked.{check, check_all};
 ghost use Rattle.hera_rules.specs.Environments.{env_of};
 ghost use Rattle.hera_rules.specs.Phrases as phrases;
 ghost use Rattle.hera_rules.specs.Read.{
-  and_phrase,
   args_in,
   args_phrases,
   atom_phrase,
   atoms_phrases,
   bindings_phrases,
   bindings_words,
-  cmp_phrase,
   expr_phrase,
   line_phrase,
   lines_phrases,
-  merge_phrase,
-  or_phrase,
+  operand_phrase,
   pair_of,
   post_of,
   prefix_of_tree,
   prime_phrase,
-  smash_phrase,
   some_atoms,
   some_lines,
-  sum_phrase,
-  term_phrase,
   walk_of,
   word_of,
 };
@@ -38,13 +32,12 @@ use crate::forms::{
     bool_literal, fail_literal, int_literal, named_row_of, one_row_of, text_literal,
 };
 use crate::scopes::{Waiting, leave, push_local, take_slot};
-use hera_rules::{Globals, Joint, Scope, TypeFault, Typed};
+use hera_rules::{Globals, LocalScope, TypeFault, Typed};
 use hera_syntax::{
-    And, Args, Atom, Atoms, Bindings, Cmp, Expr, Line, Lines, Merge, Or, Post, Prefix, Prime,
-    Smash, Sum, Term, Token,
+    Args, Atom, Atoms, Bindings, Expr, Line, Lines, Operand, Post, Prefix, Prime, Token,
 };
 use hera_types_parts::{
-    joint_word, name_row_of, pair_word, prefix_word, put, sign_word, walk_word,
+    level_joint, name_row_of, pair_word, prefix_word, put, sign_word, walk_word,
 };
 use hera_types_rows::{
     Chain, atom_row_of, atoms_row_of, call_row_of, field_row_of, line_row_of, lines_row_of,
@@ -52,155 +45,53 @@ use hera_types_rows::{
 };
 use std::alloc::Global;
 
-/// An expression: its first operand, and then each `when` with its delta.
+/// An expression of one level: its first operand, and then each operator with its operand.
 #[cycle(check)]
 #[tactic(auto, using(crate::proofs::Steps::steps))]
 pub fn expr(
     alloc: Global,
     globals: &Globals,
-    scope: &mut Scope,
+    scope: &mut LocalScope,
     e: &Expr,
 ) -> Result<Typed, TypeFault>
     ensures checks { Gives typing_of result (check (env_of globals.now) scope.old.locals.items scope.old.next (expr_phrase e.now)) }
     ensures keeps { OnOk result (Keeps scope.old scope.new (slots_of (expr_phrase e.now))) }
 {
-    let first = or(alloc, globals, scope, &e.first)?;
+    let first = operand(alloc, globals, scope, &e.first)?;
     let mut chain = Chain::new(alloc, first);
     for tail in &e.rest {
-        let operand = or(alloc, globals, scope, &tail.operand)?;
-        let joint = Joint::When;
-        chain = chain.join(joint, tail.op.at, operand)?;
+        let right = operand(alloc, globals, scope, &tail.operand)?;
+        let joint = level_joint(e.level, &tail.op);
+        chain = chain.join(joint, tail.op.at, right)?;
     }
     chain.finish(alloc)
 }
 
-/// A chain of `||`: its first operand, and then each further one.
+/// An operand of a chain: an expression of the next level, or a prefix.
 #[cycle(check)]
 #[tactic(auto, using(crate::proofs::Steps::steps))]
-fn or(alloc: Global, globals: &Globals, scope: &mut Scope, e: &Or) -> Result<Typed, TypeFault>
-    ensures checks { Gives typing_of result (check (env_of globals.now) scope.old.locals.items scope.old.next (or_phrase e.now)) }
-    ensures keeps { OnOk result (Keeps scope.old scope.new (slots_of (or_phrase e.now))) }
+fn operand(
+    alloc: Global,
+    globals: &Globals,
+    scope: &mut LocalScope,
+    e: &Operand,
+) -> Result<Typed, TypeFault>
+    ensures checks { Gives typing_of result (check (env_of globals.now) scope.old.locals.items scope.old.next (operand_phrase e.now)) }
+    ensures keeps { OnOk result (Keeps scope.old scope.new (slots_of (operand_phrase e.now))) }
 {
-    let first = and(alloc, globals, scope, &e.first)?;
-    let mut chain = Chain::new(alloc, first);
-    for tail in &e.rest {
-        let operand = and(alloc, globals, scope, &tail.operand)?;
-        let joint = Joint::Or;
-        chain = chain.join(joint, tail.op.at, operand)?;
+    match e {
+        Operand::Inner(inner) => expr(alloc, globals, scope, inner),
+        Operand::Prefix(inner) => prefix(alloc, globals, scope, inner),
     }
-    chain.finish(alloc)
 }
 
-/// A chain of `&&`: its first operand, and then each further one.
-#[cycle(check)]
-#[tactic(auto, using(crate::proofs::Steps::steps))]
-fn and(alloc: Global, globals: &Globals, scope: &mut Scope, e: &And) -> Result<Typed, TypeFault>
-    ensures checks { Gives typing_of result (check (env_of globals.now) scope.old.locals.items scope.old.next (and_phrase e.now)) }
-    ensures keeps { OnOk result (Keeps scope.old scope.new (slots_of (and_phrase e.now))) }
-{
-    let first = cmp(alloc, globals, scope, &e.first)?;
-    let mut chain = Chain::new(alloc, first);
-    for tail in &e.rest {
-        let operand = cmp(alloc, globals, scope, &tail.operand)?;
-        let joint = Joint::And;
-        chain = chain.join(joint, tail.op.at, operand)?;
-    }
-    chain.finish(alloc)
-}
-
-/// A chain of `+` and `-`: its first operand, and then each operator with its operand.
-#[cycle(check)]
-#[tactic(auto, using(crate::proofs::Steps::steps))]
-fn sum(alloc: Global, globals: &Globals, scope: &mut Scope, e: &Sum) -> Result<Typed, TypeFault>
-    ensures checks { Gives typing_of result (check (env_of globals.now) scope.old.locals.items scope.old.next (sum_phrase e.now)) }
-    ensures keeps { OnOk result (Keeps scope.old scope.new (slots_of (sum_phrase e.now))) }
-{
-    let first = term(alloc, globals, scope, &e.first)?;
-    let mut chain = Chain::new(alloc, first);
-    for tail in &e.rest {
-        let operand = term(alloc, globals, scope, &tail.operand)?;
-        let joint = joint_word(&tail.op);
-        chain = chain.join(joint, tail.op.at, operand)?;
-    }
-    chain.finish(alloc)
-}
-
-/// A chain of `*`, `/` and `%`: its first operand, and then each operator with its operand.
-#[cycle(check)]
-#[tactic(auto, using(crate::proofs::Steps::steps))]
-fn term(alloc: Global, globals: &Globals, scope: &mut Scope, e: &Term) -> Result<Typed, TypeFault>
-    ensures checks { Gives typing_of result (check (env_of globals.now) scope.old.locals.items scope.old.next (term_phrase e.now)) }
-    ensures keeps { OnOk result (Keeps scope.old scope.new (slots_of (term_phrase e.now))) }
-{
-    let first = smash(alloc, globals, scope, &e.first)?;
-    let mut chain = Chain::new(alloc, first);
-    for tail in &e.rest {
-        let operand = smash(alloc, globals, scope, &tail.operand)?;
-        let joint = joint_word(&tail.op);
-        chain = chain.join(joint, tail.op.at, operand)?;
-    }
-    chain.finish(alloc)
-}
-
-/// A chain of `!`: its first operand, and then each operator with its operand.
-#[cycle(check)]
-#[tactic(auto, using(crate::proofs::Steps::steps))]
-fn smash(alloc: Global, globals: &Globals, scope: &mut Scope, e: &Smash) -> Result<Typed, TypeFault>
-    ensures checks { Gives typing_of result (check (env_of globals.now) scope.old.locals.items scope.old.next (smash_phrase e.now)) }
-    ensures keeps { OnOk result (Keeps scope.old scope.new (slots_of (smash_phrase e.now))) }
-{
-    let first = merge(alloc, globals, scope, &e.first)?;
-    let mut chain = Chain::new(alloc, first);
-    for tail in &e.rest {
-        let operand = merge(alloc, globals, scope, &tail.operand)?;
-        let joint = joint_word(&tail.op);
-        chain = chain.join(joint, tail.op.at, operand)?;
-    }
-    chain.finish(alloc)
-}
-
-/// A chain of `&`: its first operand, and then each operator with its operand.
-#[cycle(check)]
-#[tactic(auto, using(crate::proofs::Steps::steps))]
-fn merge(alloc: Global, globals: &Globals, scope: &mut Scope, e: &Merge) -> Result<Typed, TypeFault>
-    ensures checks { Gives typing_of result (check (env_of globals.now) scope.old.locals.items scope.old.next (merge_phrase e.now)) }
-    ensures keeps { OnOk result (Keeps scope.old scope.new (slots_of (merge_phrase e.now))) }
-{
-    let first = prefix(alloc, globals, scope, &e.first)?;
-    let mut chain = Chain::new(alloc, first);
-    for tail in &e.rest {
-        let operand = prefix(alloc, globals, scope, &tail.operand)?;
-        let joint = joint_word(&tail.op);
-        chain = chain.join(joint, tail.op.at, operand)?;
-    }
-    chain.finish(alloc)
-}
-
-/// A comparison, of at most two operands.
-#[cycle(check)]
-#[tactic(auto, using(crate::proofs::Steps::steps))]
-fn cmp(alloc: Global, globals: &Globals, scope: &mut Scope, e: &Cmp) -> Result<Typed, TypeFault>
-    ensures checks { Gives typing_of result (check (env_of globals.now) scope.old.locals.items scope.old.next (cmp_phrase e.now)) }
-    ensures keeps { OnOk result (Keeps scope.old scope.new (slots_of (cmp_phrase e.now))) }
-{
-    let first = sum(alloc, globals, scope, &e.first)?;
-    match &e.rest {
-        None => Ok(first),
-        Some(tail) => {
-            let operand = sum(alloc, globals, scope, &tail.operand)?;
-            let joint = joint_word(&tail.op);
-            let chain = Chain::new(alloc, first).join(joint, tail.op.at, operand)?;
-            chain.finish(alloc)
-        }
-    }
-}
 /// An operand with its prefix.
 #[cycle(check)]
 #[tactic(auto, using(crate::proofs::Steps::steps))]
 fn prefix(
     alloc: Global,
     globals: &Globals,
-    scope: &mut Scope,
+    scope: &mut LocalScope,
     e: &Prefix,
 ) -> Result<Typed, TypeFault>
     ensures checks { Gives typing_of result (check (env_of globals.now) scope.old.locals.items scope.old.next (prefix_of_tree e.now)) }
@@ -216,7 +107,7 @@ fn prefix(
 /// An operand with its attribute.
 #[cycle(check)]
 #[tactic(auto, using(crate::proofs::Steps::steps))]
-fn post(alloc: Global, globals: &Globals, scope: &mut Scope, e: &Post) -> Result<Typed, TypeFault>
+fn post(alloc: Global, globals: &Globals, scope: &mut LocalScope, e: &Post) -> Result<Typed, TypeFault>
     ensures checks { Gives typing_of result (check (env_of globals.now) scope.old.locals.items scope.old.next (post_of e.now)) }
     ensures keeps { OnOk result (Keeps scope.old scope.new (slots_of (post_of e.now))) }
 {
@@ -230,7 +121,7 @@ fn post(alloc: Global, globals: &Globals, scope: &mut Scope, e: &Post) -> Result
 /// An expression that no operator splits.
 #[cycle(check)]
 #[tactic(auto, using(crate::proofs::Steps::steps))]
-fn prime(alloc: Global, globals: &Globals, scope: &mut Scope, e: &Prime) -> Result<Typed, TypeFault>
+fn prime(alloc: Global, globals: &Globals, scope: &mut LocalScope, e: &Prime) -> Result<Typed, TypeFault>
     ensures checks { Gives typing_of result (check (env_of globals.now) scope.old.locals.items scope.old.next (prime_phrase e.now)) }
     ensures keeps { OnOk result (Keeps scope.old scope.new (slots_of (prime_phrase e.now))) }
 {
@@ -283,7 +174,7 @@ fn prime(alloc: Global, globals: &Globals, scope: &mut Scope, e: &Prime) -> Resu
 fn call(
     alloc: Global,
     globals: &Globals,
-    scope: &mut Scope,
+    scope: &mut LocalScope,
     name: &Token,
     list: &Option<Box<Args>>,
 ) -> Result<Typed, TypeFault>
@@ -305,7 +196,7 @@ fn call(
 fn row(
     alloc: Global,
     globals: &Globals,
-    scope: &mut Scope,
+    scope: &mut LocalScope,
     at: u32,
     list: &Bindings,
 ) -> Result<Typed, TypeFault>
@@ -322,7 +213,7 @@ fn row(
 fn delta(
     alloc: Global,
     globals: &Globals,
-    scope: &mut Scope,
+    scope: &mut LocalScope,
     at: u32,
     list: &Option<Box<Atoms>>,
 ) -> Result<Typed, TypeFault>
@@ -344,7 +235,7 @@ fn delta(
 fn rows(
     alloc: Global,
     globals: &Globals,
-    scope: &mut Scope,
+    scope: &mut LocalScope,
     name: &Token,
     at: u32,
     list: &Option<Box<Lines>>,
@@ -367,7 +258,7 @@ fn rows(
 fn walk(
     alloc: Global,
     globals: &Globals,
-    scope: &mut Scope,
+    scope: &mut LocalScope,
     word: &Token,
     name: &Token,
     over: &Expr,
@@ -402,7 +293,7 @@ fn walk(
 fn pair(
     alloc: Global,
     globals: &Globals,
-    scope: &mut Scope,
+    scope: &mut LocalScope,
     word: &Token,
     left: &Expr,
     right: &Expr,
@@ -423,7 +314,7 @@ fn pair(
 pub fn args(
     alloc: Global,
     globals: &Globals,
-    scope: &mut Scope,
+    scope: &mut LocalScope,
     e: &Args,
 ) -> Result<Vec<Typed>, TypeFault>
     ensures checks { Gives list_of result (check_all (env_of globals.now) scope.old.locals.items scope.old.next [] (args_phrases e.now)) }
@@ -445,7 +336,7 @@ pub fn args(
 fn bindings(
     alloc: Global,
     globals: &Globals,
-    scope: &mut Scope,
+    scope: &mut LocalScope,
     e: &Bindings,
 ) -> Result<Vec<Typed>, TypeFault>
     ensures checks { Gives list_of result (check_all (env_of globals.now) scope.old.locals.items scope.old.next [] (bindings_phrases e.now)) }
@@ -467,7 +358,7 @@ fn bindings(
 fn atoms(
     alloc: Global,
     globals: &Globals,
-    scope: &mut Scope,
+    scope: &mut LocalScope,
     e: &Atoms,
 ) -> Result<Vec<Typed>, TypeFault>
     ensures checks { Gives list_of result (check_all (env_of globals.now) scope.old.locals.items scope.old.next [] (atoms_phrases e.now)) }
@@ -486,7 +377,7 @@ fn atoms(
 /// An atom.
 #[cycle(check)]
 #[tactic(auto, using(crate::proofs::Steps::steps))]
-fn atom(alloc: Global, globals: &Globals, scope: &mut Scope, e: &Atom) -> Result<Typed, TypeFault>
+fn atom(alloc: Global, globals: &Globals, scope: &mut LocalScope, e: &Atom) -> Result<Typed, TypeFault>
     ensures checks { Gives typing_of result (check (env_of globals.now) scope.old.locals.items scope.old.next (atom_phrase e.now)) }
     ensures keeps { OnOk result (Keeps scope.old scope.new (slots_of (atom_phrase e.now))) }
 {
@@ -500,7 +391,7 @@ fn atom(alloc: Global, globals: &Globals, scope: &mut Scope, e: &Atom) -> Result
 fn lines(
     alloc: Global,
     globals: &Globals,
-    scope: &mut Scope,
+    scope: &mut LocalScope,
     e: &Lines,
     name: &Token,
 ) -> Result<Vec<Typed>, TypeFault>
@@ -523,7 +414,7 @@ fn lines(
 fn line(
     alloc: Global,
     globals: &Globals,
-    scope: &mut Scope,
+    scope: &mut LocalScope,
     e: &Line,
     name: &Token,
 ) -> Result<Typed, TypeFault>

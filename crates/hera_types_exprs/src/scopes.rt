@@ -4,11 +4,11 @@ ghost use Rattle.std.specs.Prelude.{◌≡◌, ◌++◌, ◌∷◌, [], IfOk, If
 ghost use Rattle.hera_rules.specs.Agrees.{Keeps};
 ghost use Rattle.hera_rules.specs.declared.fault.TypeFault.TheVariants as fault;
 
-use hera_rules::{Local, Scope, TypeFault, Typed};
+use hera_rules::{Local, LocalScope, TypeFault, Typed};
 use std::alloc::AllocError;
 
 /// The next slot.
-pub fn take_slot(scope: &mut Scope) -> Result<u32, TypeFault>
+pub fn take_slot(scope: &mut LocalScope) -> Result<u32, TypeFault>
     ensures slot { IfOk result (λ i. i ≡ scope.old.next) }
     ensures keeps { OnOk result (Keeps scope.old scope.new 1) }
     ensures memory { IfErr result (λ f. f ≡ fault.Memory) }
@@ -24,7 +24,7 @@ pub fn take_slot(scope: &mut Scope) -> Result<u32, TypeFault>
 }
 
 /// One visible local more.
-pub fn push_local(scope: &mut Scope, local: Local) -> Result<(), AllocError>
+pub fn push_local(scope: &mut LocalScope, local: Local) -> Result<(), AllocError>
     ensures locals { OnOk result (scope.new.locals.items ≡ scope.old.locals.items ++ local ∷ []) }
     ensures next { scope.new.next ≡ scope.old.next }
 {
@@ -33,7 +33,7 @@ pub fn push_local(scope: &mut Scope, local: Local) -> Result<(), AllocError>
 }
 
 /// Leaves the locals behind the first `depth`.
-pub fn leave(scope: &mut Scope, depth: usize)
+pub fn leave(scope: &mut LocalScope, depth: usize)
     ensures locals { scope.new.locals.items ≡ take depth scope.old.locals.items }
     ensures next { scope.new.next ≡ scope.old.next }
 {

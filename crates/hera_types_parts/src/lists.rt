@@ -51,7 +51,8 @@ pub fn binary(alloc: Global, op: Op, left: Core, right: Core, at: u32) -> Result
 pub fn into_core(value: Typed) -> Core
     ensures { result ≡ value.core }
 {
-    let Typed { shape: _, core } = value;
+    let Typed { shape, core } = value;
+    drop(shape);
     core
 }
 

@@ -1,15 +1,17 @@
 // What the tokens of a tree say.
 
-ghost use Rattle.hera_rules.specs.Read.{aggregate_of, aggregates_of, fold_of, joint_of, kind_word, measured_of, name_of, pair_of, part_of, prefix_of, renamed_all, renamed_of, sign_of, test_of, walk_of, word_of, words_of};
+ghost use Rattle.hera_rules.specs.Read.{aggregate_of, aggregates_of, fold_of, joint_at, joint_of, kind_word, measured_of, name_of, pair_of, part_of, prefix_of, renamed_all, renamed_of, sign_of, test_of, walk_of, word_of, words_of};
 ghost use Rattle.std.specs.Prelude.{IfErr, IfOk, ◌≡◌};
 ghost use Rattle.hera_rules.specs.declared.fault.TypeFault.TheVariants as fault;
 
 use crate::lists::put;
 use hera_meaning::{Kind, Name, Op, Sign, Text};
 use hera_rules::{
-    Aggregate, Fold, Joint, Measured, Pair, Prefix, Renamed, Test, TypeFault, Walk, Word,
+    Aggregate, Fold, Joint, Measured, Pair, Prefix, Renamed, Test, TypeFault, WalkKind, Word,
 };
-use hera_syntax::{AggTree, NamedAgg, NamedAggs, Names, Renaming, Renamings, Token, TokenKind};
+use hera_syntax::{
+    AggTree, Level, NamedAgg, NamedAggs, Names, Renaming, Renamings, Token, TokenKind,
+};
 use std::alloc::Global;
 
 /// The name of an identifier; no name of any other token.
@@ -122,8 +124,22 @@ pub fn aggregates(alloc: Global, trees: &NamedAggs) -> Result<Vec<Aggregate>, Ty
     Ok(all)
 }
 
+/// The operator of a link of a chain of this level.
+pub fn level_joint(level: Level, token: &Token) -> Joint
+    ensures { result ≡ joint_at level token.now.kind }
+{
+    match level {
+        Level::Whens => Joint::When,
+        Level::Ors => Joint::Or,
+        Level::Ands => Joint::And,
+        Level::Comparisons | Level::Sums | Level::Terms | Level::Smashes | Level::Merges => {
+            joint_word(token)
+        }
+    }
+}
+
 /// The operator of a chain's link: a punctuation, or the keyword `in`.
-pub fn joint_word(token: &Token) -> Joint
+fn joint_word(token: &Token) -> Joint
     ensures { result ≡ joint_of token.now.kind }
 {
     match &token.kind {
@@ -175,12 +191,12 @@ pub fn part_word(token: &Token) -> Sign
 }
 
 /// `select` or `map`.
-pub fn walk_word(token: &Token) -> Walk
+pub fn walk_word(token: &Token) -> WalkKind
     ensures { result ≡ walk_of token.now.kind }
 {
     match &token.kind {
-        TokenKind::Key(26) => Walk::Keeping,
-        _ => Walk::Mapping,
+        TokenKind::Key(26) => WalkKind::Keeping,
+        _ => WalkKind::Mapping,
     }
 }
 

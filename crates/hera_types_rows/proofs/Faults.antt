@@ -1,6 +1,6 @@
 -- The row of a group by its first fault, and the core of a chain by its first operator.
 use Rattle.std.proofs.Common.{◌≡◌, ◌≢◌, ℕ, List, [], ◌∷◌, refl, ap, Bool, true, false, cond}
-use Rattle.std.specs.Prelude.{Option, Some, None, Ok, slice_get}
+use Rattle.std.specs.Prelude.{Option, Some, None, Result, Ok, Err, IfOk, slice_get}
 use Rattle.std.specs.List.{list_all}
 use Rattle.hera_meaning.specs.declared.schemas.Attr.{Attr}
 use Rattle.hera_meaning.specs.declared.trees.Shape.TheVariants.{Rel as rel}
@@ -14,7 +14,7 @@ use Rattle.hera_rules.specs.declared.env.Item.{Item}
 use Rattle.hera_rules.specs.declared.fault.TypeFault.{TypeFault}
 use Rattle.hera_rules.specs.declared.fault.TypeFault.TheVariants.{Mismatch as mismatch}
 use Rattle.hera_rules.specs.Agrees.{steps_of}
-use Rattle.hera_rules.specs.Rules.{Typing, typing, Step, given, unless, either, stranger_in, measured_words, result_fault, sums_int, group_of, group_attrs, places_in, aggs_in, one_expr, chain_core, chain_by, links_from}
+use Rattle.hera_rules.specs.Rules.{Typing, typing, Step, given, unless, either, stranger_in, measured_words, result_fault, sums_int, group_type, group_attrs, places_in, aggs_in, one_expr, chain_core, chain_by, links_from}
 use Rattle.hera_types_rows.specs.Tests.{group_fault_in}
 
 abbrev pub group_typing : ℕ → List Word → List Aggregate → Expr → List Attr → Typing
@@ -27,8 +27,8 @@ three_then None None (Some g) l f x = refl
 three_then None None None true f x = refl
 three_then None None None false f x = refl
 
-pub group_of_is : (at : ℕ) (by : List Word) (aggs : List Aggregate) (e : Expr) (s : List Attr) → group_of at by aggs e (rel s) ≡ unless (group_fault_in at s by aggs) (Ok (group_typing at by aggs e s))
-group_of_is at by aggs e s = three_then (stranger_in s by) (stranger_in s (measured_words aggs)) (result_fault at by aggs) (list_all (λ a. sums_int s a.of) aggs) (mismatch at) (group_typing at by aggs e s)
+pub group_type_is : (at : ℕ) (by : List Word) (aggs : List Aggregate) (e : Expr) (s : List Attr) → group_type at by aggs e (rel s) ≡ unless (group_fault_in at s by aggs) (Ok (group_typing at by aggs e s))
+group_type_is at by aggs e s = three_then (stranger_in s by) (stranger_in s (measured_words aggs)) (result_fault at by aggs) (list_all (λ a. sums_int s a.of) aggs) (mismatch at) (group_typing at by aggs e s)
 
 -- a chain's core goes by its first operator
 pub chain_named : (e : Expr) (is : List Item) (i : Item) → slice_get is 0 ≡ Some i → chain_core e (steps_of is) ≡ chain_by i.joint e (steps_of is)
@@ -44,3 +44,8 @@ chain_other (Equality op) e is w a o = refl
 chain_other (Order op) e is w a o = refl
 chain_other Member e is w a o = refl
 chain_other (Deltas op) e is w a o = refl
+
+-- what is known of an answer, under a function
+pub ok_ap : {A B E : Type 0} (f : A → B) (r : Result A E) (a : A) → IfOk r (λ v. v ≡ a) → IfOk r (λ v. f v ≡ f a)
+ok_ap f (Ok v) a h = ap f h
+ok_ap f (Err e) a h = tt

@@ -27,7 +27,8 @@ fn link_of_item(item: Item) -> Link
 fn hypo_of_item(item: Item) -> Hypo
     ensures { result ≡ record { delta = item.arg; at = item.at } }
 {
-    let Item { joint: _, at, arg } = item;
+    let Item { joint, at, arg } = item;
+    drop(joint);
     Hypo { delta: arg, at }
 }
 
@@ -35,11 +36,8 @@ fn hypo_of_item(item: Item) -> Hypo
 fn arg_of_item(item: Item) -> Core
     ensures { result ≡ item.arg }
 {
-    let Item {
-        joint: _,
-        at: _,
-        arg,
-    } = item;
+    let Item { joint, at: _, arg } = item;
+    drop(joint);
     arg
 }
 

@@ -60,13 +60,26 @@ impl Chain {
             shape: right,
             core: arg,
         } = operand;
-        let shape = joint_row_of(&joint, at, shape, &right)?;
-        put(&mut items, Item { joint, at, arg })?;
-        Ok(Chain {
-            shape,
-            first,
-            items,
-        })
+        match joint_row_of(&joint, at, shape, &right) {
+            Ok(shape) => {
+                drop(right);
+                match put(&mut items, Item { joint, at, arg }) {
+                    Ok(()) => Ok(Chain {
+                        shape,
+                        first,
+                        items,
+                    }),
+                    Err(_) => {
+                        drop((shape, first, items));
+                        Err(TypeFault::Memory)
+                    }
+                }
+            }
+            Err(fault) => {
+                drop((first, items, joint, arg, right));
+                Err(fault)
+            }
+        }
     }
 
     /// The chain's type and core.

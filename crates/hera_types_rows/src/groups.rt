@@ -2,10 +2,10 @@
 
 ghost use Rattle.hera_meaning.specs.Forms.{agg_kind};
 ghost use Rattle.hera_meaning.specs.Plain.{expr_of};
-ghost use Rattle.hera_meaning.specs.Trees.{prim};
 ghost use Rattle.hera_rules.specs.Agrees.{Gives, typing_of};
-ghost use Rattle.hera_rules.specs.Rules.{agg_attr, agg_in, agg_words, aggs_in, either, group_attrs, group_row, measured_words, one_expr, places_in, repeat_in, result_fault, stranger_in, sums_int, typing, word_names};
+ghost use Rattle.hera_rules.specs.Rules.{agg_attr, agg_in, agg_words, aggs_in, either, group_attrs, group_row, measured_words, places_in, repeat_in, result_fault, stranger_in, sums_int, word_names};
 ghost use Rattle.hera_sets.specs.Rows.{holds, is_same};
+ghost use Rattle.hera_types_rows.specs.Operations.{over_one};
 ghost use Rattle.hera_types_rows.specs.Tests.{group_fault_in};
 ghost use Rattle.std.specs.List.{list_all, list_any};
 ghost use Rattle.std.specs.Prelude.{IfErr, IfOk, OnOk, map, ◌++◌, ◌≡◌};
@@ -13,11 +13,12 @@ ghost use Rattle.hera_meaning.specs.declared.trees.Op.TheVariants as ops;
 ghost use Rattle.hera_meaning.specs.declared.trees.Shape.TheVariants as shapes;
 ghost use Rattle.hera_rules.specs.declared.fault.TypeFault.TheVariants as fault;
 
-use hera_meaning::{Agg, Aggs, Attr, Core, Kind, Op, Schema, Shape};
+use crate::operations::{Operation, on_one};
+use hera_meaning::{Agg, Aggs, Attr, Kind, Op, Schema, Shape};
 use hera_rules::{Aggregate, Fold, Measured, TypeFault, Typed, Word};
 use hera_types_parts::{
-    add_attrs, into_core, is_name, kind_named, made, measured, place_named_or, place_of_name,
-    places_of, put, repeat_of, same_kind, stands_in, stranger_of, unary, word,
+    add_attrs, is_name, kind_named, made, measured, place_named_or, place_of_name, places_of, put,
+    repeat_of, same_kind, stands_in, stranger_of, word,
 };
 use std::alloc::{AllocError, Global};
 
@@ -165,18 +166,34 @@ pub fn group_row_of(
 ) -> Result<Typed, TypeFault>
     ensures { Gives typing_of result (group_row at by.items aggs.items (typing_of value)) }
 {
+    match grouping(alloc, at, &by, &aggs, &value) {
+        Ok(operation) => on_one(alloc, operation, value, at),
+        Err(fault) => {
+            drop(value);
+            Err(fault)
+        }
+    }
+}
+
+/// The operation of a `group`.
+fn grouping(
+    alloc: Global,
+    at: u32,
+    by: &[Word],
+    aggs: &[Aggregate],
+    value: &Typed,
+) -> Result<Operation, TypeFault>
+    ensures { Gives (over_one (expr_of value.now.core) at) result (group_row at by.now aggs.now (typing_of value.now)) }
+{
     let Shape::Rel(schema) = &value.shape else {
-        return match result_fault_of(at, &by, &aggs) {
+        return match result_fault_of(at, by, aggs) {
             Some(fault) => Err(fault),
             None => Err(TypeFault::Mismatch { at }),
         };
     };
-    match group_fault(at, schema, &by, &aggs) {
+    match group_fault(at, schema, by, aggs) {
         Some(fault) => Err(fault),
-        None => {
-            let own = schema.copy()?;
-            grouped(alloc, at, by, aggs, own, into_core(value))
-        }
+        None => grouped(alloc, by, aggs, schema),
     }
 }
 
@@ -199,27 +216,25 @@ fn group_fault(at: u32, schema: &Schema, by: &[Word], aggs: &[Aggregate]) -> Opt
     None
 }
 
-/// A group that breaks no rule.
+/// The operation of a group that breaks no rule.
 fn grouped(
     alloc: Global,
-    at: u32,
-    by: Vec<Word>,
-    aggs: Vec<Aggregate>,
-    schema: Schema,
-    core: Core,
-) -> Result<Typed, TypeFault>
-    ensures typed { IfOk result (λ v. typing_of v ≡ typing (shapes.Rel (group_attrs schema by.items aggs.items)) (prim (ops.Group schema (places_in schema by.items) (aggs_in schema aggs.items)) (one_expr (expr_of core)) at)) }
+    by: &[Word],
+    aggs: &[Aggregate],
+    schema: &Schema,
+) -> Result<Operation, TypeFault>
+    ensures operation { IfOk result (λ o. o ≡ record { op = ops.Group schema.now (places_in schema.now by.now) (aggs_in schema.now aggs.now); shape = shapes.Rel (group_attrs schema.now by.now aggs.now) }) }
     ensures refused { IfErr result (λ f. f ≡ fault.Memory) }
 {
-    let places = places_of(alloc, &schema, &by)?;
-    let all = aggs_of(alloc, &schema, &aggs)?;
+    let places = places_of(alloc, schema, by)?;
+    let all = aggs_of(alloc, schema, aggs)?;
     let mut attrs = Vec::new(alloc);
-    add_attrs(&mut attrs, &schema, &by)?;
-    add_aggs(&mut attrs, &schema, &aggs)?;
+    add_attrs(&mut attrs, schema, by)?;
+    add_aggs(&mut attrs, schema, aggs)?;
     let result = made(attrs)?;
-    let core = unary(alloc, Op::Group(schema, places, all), core, at)?;
-    Ok(Typed {
+    let own = schema.copy()?;
+    Ok(Operation {
+        op: Op::Group(own, places, all),
         shape: Shape::Rel(result),
-        core,
     })
 }

@@ -8,6 +8,7 @@ mod calls;
 mod chain_cores;
 mod chains;
 mod groups;
+mod operations;
 mod operands;
 mod renames;
 mod set_operators;

@@ -1,15 +1,19 @@
 // The rows of the table of typing, for phrases of one part or two.
 
+ghost use Rattle.hera_meaning.specs.Forms.{kinds_of};
+ghost use Rattle.hera_meaning.specs.Plain.{expr_of};
 ghost use Rattle.hera_rules.specs.Agrees.{Gives, typing_of};
 ghost use Rattle.hera_rules.specs.Environments.{env_of};
 ghost use Rattle.hera_rules.specs.Read.{word_of};
-ghost use Rattle.hera_rules.specs.Rules.{bulk_row, field_row, fold_row, given, is_bool, is_delta, is_int, is_member, is_text, joint_row, part_op, part_row, prefix_row, test_row, variable_row, walk_row};
+ghost use Rattle.hera_rules.specs.Rules.{bulk_row, field_row, fold_row, given, has_kinds, is_bool, is_delta, is_int, is_member, is_text, joint_row, part_op, part_row, prefix_row, test_row, variable_row, walk_row};
 ghost use Rattle.hera_sets.specs.Rows.{holds};
+ghost use Rattle.hera_types_rows.specs.Operations.{over_one};
 ghost use Rattle.std.specs.Prelude.{◌&&◌, ◌||◌, ◌≡◌};
 ghost use Rattle.hera_rules.specs.declared.fault.TypeFault.TheVariants as fault;
 
-use hera_meaning::{Core, Kind, Op, RelId, Shape, Sign};
-use hera_rules::{Fold, Globals, Joint, Local, Prefix, Test, TypeFault, Typed, Walk};
+use crate::operations::{Operation, on_one};
+use hera_meaning::{Core, Kind, Op, RelId, Schema, Shape, Sign};
+use hera_rules::{Fold, Globals, Joint, Local, Prefix, Test, TypeFault, Typed, WalkKind};
 use hera_syntax::Token;
 use hera_types_parts::{
     boxed, has_name, into_core, kind_of_place, name_bytes, name_copy, place_of_name, same_kinds,
@@ -21,17 +25,19 @@ use std::alloc::Global;
 pub fn prefix_row_of(alloc: Global, op: Prefix, at: u32, value: Typed) -> Result<Typed, TypeFault>
     ensures { Gives typing_of result (prefix_row op at (typing_of value)) }
 {
-    let Typed { shape, core } = value;
-    match (op, &shape) {
+    match (op, &value.shape) {
         (Prefix::Minus, Shape::Int) => Ok(Typed {
             shape: Shape::Int,
-            core: unary(alloc, Op::Neg, core, at)?,
+            core: unary(alloc, Op::Neg, into_core(value), at)?,
         }),
         (Prefix::Not, Shape::Bool) => Ok(Typed {
             shape: Shape::Bool,
-            core: unary(alloc, Op::Not, core, at)?,
+            core: unary(alloc, Op::Not, into_core(value), at)?,
         }),
-        _ => Err(TypeFault::Mismatch { at }),
+        _ => {
+            drop(value);
+            Err(TypeFault::Mismatch { at })
+        }
     }
 }
 
@@ -126,17 +132,29 @@ fn ordered(left: &Shape, right: &Shape) -> bool
 pub fn field_row_of(alloc: Global, token: &Token, value: Typed) -> Result<Typed, TypeFault>
     ensures { Gives typing_of result (field_row (word_of token.now) (typing_of value)) }
 {
-    let Typed { shape, core } = value;
-    let Shape::Tuple(schema) = shape else {
+    match field_of_tuple(alloc, token, &value) {
+        Ok(operation) => on_one(alloc, operation, value, token.at),
+        Err(fault) => {
+            drop(value);
+            Err(fault)
+        }
+    }
+}
+
+/// The operation of `.a`, and the type of what it gives.
+fn field_of_tuple(alloc: Global, token: &Token, value: &Typed) -> Result<Operation, TypeFault>
+    ensures { Gives (over_one (expr_of value.now.core) token.now.at) result (field_row (word_of token.now) (typing_of value.now)) }
+{
+    let Shape::Tuple(schema) = &value.shape else {
         return Err(TypeFault::Mismatch { at: token.at });
     };
-    match place_of_name(&schema, name_bytes(token)) {
+    match place_of_name(schema, name_bytes(token)) {
         Some(place) => {
-            let kind = kind_of_place(&schema, place);
-            let core = unary(alloc, Op::Field(schema, place), core, token.at)?;
-            Ok(Typed {
+            let kind = kind_of_place(schema, place);
+            let own = schema.copy()?;
+            Ok(Operation {
+                op: Op::Field(own, place),
                 shape: type_of_kind(kind),
-                core,
             })
         }
         None => Err(TypeFault::Unknown { at: token.at }),
@@ -176,7 +194,7 @@ pub fn variable_row_of(
 #[tactic(auto, using(hera_meaning::proofs::PlainLaws::plain))]
 pub fn walk_row_of(
     alloc: Global,
-    walk: Walk,
+    walk: WalkKind,
     at: u32,
     slot: u32,
     of: Typed,
@@ -192,14 +210,14 @@ pub fn walk_row_of(
     let over = boxed(alloc, of_core)?;
     let inner = boxed(alloc, core)?;
     match walk {
-        Walk::Keeping => match shape {
+        WalkKind::Keeping => match shape {
             Shape::Bool => Ok(Typed {
                 shape: of_shape,
                 core: Core::Select(slot, over, inner),
             }),
             _ => Err(TypeFault::Mismatch { at }),
         },
-        Walk::Mapping => match shape {
+        WalkKind::Mapping => match shape {
             Shape::Tuple(schema) => Ok(Typed {
                 shape: Shape::Rel(schema),
                 core: Core::Map(slot, over, inner),
@@ -213,21 +231,23 @@ pub fn walk_row_of(
 pub fn test_row_of(alloc: Global, test: Test, at: u32, value: Typed) -> Result<Typed, TypeFault>
     ensures { Gives typing_of result (test_row test at (typing_of value)) }
 {
-    let Typed { shape, core } = value;
-    match (test, &shape) {
+    match (test, &value.shape) {
         (Test::Count, Shape::Rel(_)) => Ok(Typed {
             shape: Shape::Int,
-            core: unary(alloc, Op::Count, core, at)?,
+            core: unary(alloc, Op::Count, into_core(value), at)?,
         }),
         (Test::Empty, Shape::Rel(_)) => Ok(Typed {
             shape: Shape::Bool,
-            core: unary(alloc, Op::Empty, core, at)?,
+            core: unary(alloc, Op::Empty, into_core(value), at)?,
         }),
         (Test::IsFail, Shape::Delta) => Ok(Typed {
             shape: Shape::Bool,
-            core: unary(alloc, Op::IsFail, core, at)?,
+            core: unary(alloc, Op::IsFail, into_core(value), at)?,
         }),
-        _ => Err(TypeFault::Mismatch { at }),
+        _ => {
+            drop(value);
+            Err(TypeFault::Mismatch { at })
+        }
     }
 }
 
@@ -241,29 +261,47 @@ pub fn fold_row_of(
 ) -> Result<Typed, TypeFault>
     ensures { Gives typing_of result (fold_row fold at (word_of token.now) (typing_of value)) }
 {
-    let Typed { shape, core } = value;
-    let Shape::Rel(schema) = shape else {
+    match folding(alloc, fold, at, token, &value) {
+        Ok(operation) => on_one(alloc, operation, value, at),
+        Err(fault) => {
+            drop(value);
+            Err(fault)
+        }
+    }
+}
+
+/// The operation of `sum`, `min` or `max`.
+fn folding(
+    alloc: Global,
+    fold: Fold,
+    at: u32,
+    token: &Token,
+    value: &Typed,
+) -> Result<Operation, TypeFault>
+    ensures { Gives (over_one (expr_of value.now.core) at) result (fold_row fold at (word_of token.now) (typing_of value.now)) }
+{
+    let Shape::Rel(schema) = &value.shape else {
         return Err(TypeFault::Mismatch { at });
     };
-    let Some(place) = place_of_name(&schema, name_bytes(token)) else {
+    let Some(place) = place_of_name(schema, name_bytes(token)) else {
         return Err(TypeFault::Unknown { at: token.at });
     };
-    let kind = kind_of_place(&schema, place);
+    let kind = kind_of_place(schema, place);
     match fold {
         Fold::Sum => match kind {
-            Kind::Int => Ok(Typed {
+            Kind::Int => Ok(Operation {
+                op: Op::Sum(schema.copy()?, place),
                 shape: Shape::Int,
-                core: unary(alloc, Op::Sum(schema, place), core, at)?,
             }),
             _ => Err(TypeFault::Mismatch { at }),
         },
-        Fold::Least => Ok(Typed {
+        Fold::Least => Ok(Operation {
+            op: Op::Min(schema.copy()?, place),
             shape: type_of_kind(kind),
-            core: unary(alloc, Op::Min(schema, place), core, at)?,
         }),
-        Fold::Greatest => Ok(Typed {
+        Fold::Greatest => Ok(Operation {
+            op: Op::Max(schema.copy()?, place),
             shape: type_of_kind(kind),
-            core: unary(alloc, Op::Max(schema, place), core, at)?,
         }),
     }
 }
@@ -280,20 +318,26 @@ pub fn bulk_row_of(
     ensures { Gives typing_of result (bulk_row (env_of globals.now) sign (word_of token.now) at (typing_of value)) }
 {
     let Some(rel) = globals.relations.find(name_bytes(token)) else {
+        drop(value);
         return Err(TypeFault::Unknown { at: token.at });
     };
-    let Typed { shape, core } = value;
+    if !rel_of_kinds(globals.relations.schema(rel), &value.shape) {
+        drop(value);
+        return Err(TypeFault::Mismatch { at });
+    }
+    Ok(Typed {
+        shape: Shape::Delta,
+        core: unary(alloc, Op::Bulk(sign, rel), into_core(value), at)?,
+    })
+}
+
+/// Whether the type is a rel of the schema's kinds in order.
+fn rel_of_kinds(schema: &Schema, shape: &Shape) -> bool
+    ensures { result ≡ has_kinds (kinds_of schema.now) shape.now }
+{
     match shape {
-        Shape::Rel(schema) => {
-            if !same_kinds(globals.relations.schema(rel), &schema) {
-                return Err(TypeFault::Mismatch { at });
-            }
-            Ok(Typed {
-                shape: Shape::Delta,
-                core: unary(alloc, Op::Bulk(sign, rel), core, at)?,
-            })
-        }
-        _ => Err(TypeFault::Mismatch { at }),
+        Shape::Rel(own) => same_kinds(schema, own),
+        _ => false,
     }
 }
 
@@ -308,6 +352,26 @@ pub fn part_row_of(
 ) -> Result<Typed, TypeFault>
     ensures { Gives typing_of result (part_row (env_of globals.now) sign (word_of token.now) at (typing_of value)) }
 {
+    match parting(alloc, globals, sign, token, at, &value) {
+        Ok(operation) => on_one(alloc, operation, value, at),
+        Err(fault) => {
+            drop(value);
+            Err(fault)
+        }
+    }
+}
+
+/// The operation of `ins` or `del`, and the type of what it gives.
+fn parting(
+    alloc: Global,
+    globals: &Globals,
+    sign: Sign,
+    token: &Token,
+    at: u32,
+    value: &Typed,
+) -> Result<Operation, TypeFault>
+    ensures { Gives (over_one (expr_of value.now.core) at) result (part_row (env_of globals.now) sign (word_of token.now) at (typing_of value.now)) }
+{
     let Some(rel) = globals.relations.find(name_bytes(token)) else {
         return Err(TypeFault::Unknown { at: token.at });
     };
@@ -315,10 +379,9 @@ pub fn part_row_of(
         return Err(TypeFault::Mismatch { at });
     }
     let schema = globals.relations.schema(rel).copy()?;
-    let core = unary(alloc, part_op_of(sign, rel), into_core(value), at)?;
-    Ok(Typed {
+    Ok(Operation {
+        op: part_op_of(sign, rel),
         shape: Shape::Rel(schema),
-        core,
     })
 }
 

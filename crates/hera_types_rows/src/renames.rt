@@ -1,7 +1,9 @@
 // Rename.
 
+ghost use Rattle.hera_meaning.specs.Plain.{expr_of};
+ghost use Rattle.hera_meaning.specs.declared.trees.Shape.TheVariants as shapes;
 ghost use Rattle.hera_rules.specs.Agrees.{Gives, typing_of};
-ghost use Rattle.hera_rules.specs.Rules.{kept_names, new_name, old_names, old_words, rename_repeat, rename_row, renamed_attr, stranger_in};
+ghost use Rattle.hera_rules.specs.Rules.{kept_names, new_name, old_names, old_words, rename_repeat, rename_row, renamed_attr, stranger_in, typing};
 ghost use Rattle.hera_sets.specs.Rows.{holds, is_same};
 ghost use Rattle.std.specs.List.{list_any};
 ghost use Rattle.std.specs.Option.{option_copied};
@@ -138,23 +140,40 @@ pub fn rename_row_of(
 ) -> Result<Typed, TypeFault>
     ensures { Gives typing_of result (rename_row at renamed.items (typing_of value)) }
 {
+    match renamed_schema(alloc, at, &renamed, &value) {
+        Ok(schema) => Ok(Typed {
+            shape: Shape::Rel(schema),
+            core: into_core(value),
+        }),
+        Err(fault) => {
+            drop(value);
+            Err(fault)
+        }
+    }
+}
+
+/// The schema of a `rename`.
+fn renamed_schema(
+    alloc: Global,
+    at: u32,
+    renamed: &[Renamed],
+    value: &Typed,
+) -> Result<Schema, TypeFault>
+    ensures { Gives (λ s. typing (shapes.Rel s) (expr_of value.now.core)) result (rename_row at renamed.now (typing_of value.now)) }
+{
     let Shape::Rel(schema) = &value.shape else {
-        return match rename_repeat_of(Vec::new(alloc), &renamed)? {
+        return match rename_repeat_of(Vec::new(alloc), renamed)? {
             Some(fault) => Err(fault),
             None => Err(TypeFault::Mismatch { at }),
         };
     };
-    if let Some(fault) = stranger_renamed(schema, &renamed) {
+    if let Some(fault) = stranger_renamed(schema, renamed) {
         return Err(fault);
     }
-    let kept = kept_of(alloc, schema, &renamed)?;
-    if let Some(fault) = rename_repeat_of(kept, &renamed)? {
+    let kept = kept_of(alloc, schema, renamed)?;
+    if let Some(fault) = rename_repeat_of(kept, renamed)? {
         return Err(fault);
     }
-    let attrs = renamed_attrs(alloc, schema, &renamed)?;
-    let result = made(attrs)?;
-    Ok(Typed {
-        shape: Shape::Rel(result),
-        core: into_core(value),
-    })
+    let attrs = renamed_attrs(alloc, schema, renamed)?;
+    made(attrs)
 }

@@ -3,10 +3,10 @@
 ghost use Rattle.hera_meaning.specs.Plain.{expr_of};
 ghost use Rattle.hera_meaning.specs.Relations.{has_name as has_attr_named, lacking};
 ghost use Rattle.hera_meaning.specs.Scalars.{is_same_kind};
-ghost use Rattle.hera_meaning.specs.Trees.{prim};
 ghost use Rattle.hera_rules.specs.Agrees.{Gives, typing_of};
-ghost use Rattle.hera_rules.specs.Rules.{attr_in, join_of, kinds_agree, one_expr, pair_row, places_in, project_row, repeat_in, sets_of, typing};
+ghost use Rattle.hera_rules.specs.Rules.{attr_in, join_type, kinds_agree, pair_row, places_in, project_row, repeat_in, sets_of};
 ghost use Rattle.hera_sets.specs.Rows.{is_same};
+ghost use Rattle.hera_types_rows.specs.Operations.{over_one, over_two};
 ghost use Rattle.hera_types_rows.specs.Tests.{are_same_rels};
 ghost use Rattle.std.specs.List.{list_all};
 ghost use Rattle.std.specs.Prelude.{IfErr, IfOk, OnOk, [], cond, map, not, unwrap_or, ◌++◌, ◌∷◌, ◌||◌, ◌≡◌};
@@ -14,11 +14,12 @@ ghost use Rattle.hera_meaning.specs.declared.trees.Op.TheVariants as ops;
 ghost use Rattle.hera_meaning.specs.declared.trees.Shape.TheVariants as shapes;
 ghost use Rattle.hera_rules.specs.declared.fault.TypeFault.TheVariants as fault;
 
-use hera_meaning::{Attr, Core, Op, Schema, Shape};
+use crate::operations::{Operation, on_one, on_two};
+use hera_meaning::{Attr, Op, Schema, Shape};
 use hera_rules::{Pair, TypeFault, Typed, Word};
 use hera_types_parts::{
     add_attrs, binary, into_core, is_name, made, place_of_name, places_of, put, repeat_of,
-    same_kind, same_schema, stranger_of, unary, words,
+    same_kind, same_schema, stranger_of,
 };
 use std::alloc::{AllocError, Global};
 
@@ -31,17 +32,34 @@ pub fn project_row_of(
 ) -> Result<Typed, TypeFault>
     ensures { Gives typing_of result (project_row at words.items (typing_of value)) }
 {
+    match projection(alloc, at, &words, &value) {
+        Ok(operation) => on_one(alloc, operation, value, at),
+        Err(fault) => {
+            drop(value);
+            Err(fault)
+        }
+    }
+}
+
+/// The operation of a `project`.
+fn projection(
+    alloc: Global,
+    at: u32,
+    words: &[Word],
+    value: &Typed,
+) -> Result<Operation, TypeFault>
+    ensures { Gives (over_one (expr_of value.now.core) at) result (project_row at words.now (typing_of value.now)) }
+{
     let Shape::Rel(schema) = &value.shape else {
-        return Err(project_fault(at, &words));
+        return Err(project_fault(at, words));
     };
-    if let Some(fault) = stranger_of(schema, &words) {
+    if let Some(fault) = stranger_of(schema, words) {
         return Err(fault);
     }
-    if let Some(fault) = repeat_of(&words) {
+    if let Some(fault) = repeat_of(words) {
         return Err(fault);
     }
-    let own = schema.copy()?;
-    projected(alloc, at, &words, own, into_core(value))
+    projected(alloc, words, schema)
 }
 
 /// The fault of a `project` over no rel.
@@ -54,25 +72,20 @@ fn project_fault(at: u32, words: &[Word]) -> TypeFault
     }
 }
 
-/// A `project` that breaks no rule.
-fn projected(
-    alloc: Global,
-    at: u32,
-    words: &[Word],
-    schema: Schema,
-    core: Core,
-) -> Result<Typed, TypeFault>
-    ensures typed { IfOk result (λ v. typing_of v ≡ typing (shapes.Rel (map (attr_in schema) words.now)) (prim (ops.Project schema (places_in schema words.now)) (one_expr (expr_of core)) at)) }
+/// The operation of a `project` that breaks no rule.
+fn projected(alloc: Global, words: &[Word], schema: &Schema) -> Result<Operation, TypeFault>
+    ensures shape { IfOk result (λ o. o.shape ≡ shapes.Rel (map (attr_in schema.now) words.now)) }
+    ensures op { IfOk result (λ o. o.op ≡ ops.Project schema.now (places_in schema.now words.now)) }
     ensures refused { IfErr result (λ f. f ≡ fault.Memory) }
 {
-    let places = places_of(alloc, &schema, words)?;
+    let places = places_of(alloc, schema, words)?;
     let mut attrs = Vec::new(alloc);
-    add_attrs(&mut attrs, &schema, words)?;
+    add_attrs(&mut attrs, schema, words)?;
     let result = made(attrs)?;
-    let whole = unary(alloc, Op::Project(schema, places), core, at)?;
-    Ok(Typed {
+    let own = schema.copy()?;
+    Ok(Operation {
+        op: Op::Project(own, places),
         shape: Shape::Rel(result),
-        core: whole,
     })
 }
 
@@ -116,11 +129,17 @@ fn sets_row_of(
     ensures { Gives typing_of result (sets_of op at (expr_of left.core) (expr_of right.core) left.shape right.shape) }
 {
     if !same_rels(&left.shape, &right.shape) {
+        drop((op, left, right));
         return Err(TypeFault::Mismatch { at });
     }
     let Typed { shape, core } = left;
-    let whole = binary(alloc, op, core, into_core(right), at)?;
-    Ok(Typed { shape, core: whole })
+    match binary(alloc, op, core, into_core(right), at) {
+        Ok(whole) => Ok(Typed { shape, core: whole }),
+        Err(_) => {
+            drop(shape);
+            Err(TypeFault::Memory)
+        }
+    }
 }
 
 /// Whether one of the attributes has this name.
@@ -197,44 +216,39 @@ fn attr_agrees(attr: &Attr, other: &Attr) -> bool
 
 /// `join`: common names of one kind, at most 16 in all.
 fn join_row_of(alloc: Global, at: u32, left: Typed, right: Typed) -> Result<Typed, TypeFault>
-    ensures { Gives typing_of result (join_of at (expr_of left.core) (expr_of right.core) left.shape right.shape) }
+    ensures { Gives typing_of result (join_type at (expr_of left.core) (expr_of right.core) left.shape right.shape) }
 {
-    let Typed { shape, core } = left;
-    let Shape::Rel(own) = shape else {
-        return Err(TypeFault::Mismatch { at });
-    };
-    let Typed {
-        shape: second,
-        core: operand,
-    } = right;
-    let Shape::Rel(other) = second else {
-        return Err(TypeFault::Mismatch { at });
-    };
-    schemas_joined(alloc, at, own, other, core, operand)
+    match joining(alloc, at, &left, &right) {
+        Ok(operation) => on_two(alloc, operation, left, right, at),
+        Err(fault) => {
+            drop((left, right));
+            Err(fault)
+        }
+    }
 }
 
-/// A `join` of rels of these schemas.
-fn schemas_joined(
-    alloc: Global,
-    at: u32,
-    own: Schema,
-    other: Schema,
-    left: Core,
-    right: Core,
-) -> Result<Typed, TypeFault>
-    ensures { Gives typing_of result (join_of at (expr_of left) (expr_of right) (shapes.Rel own) (shapes.Rel other)) }
+/// The operation of a `join`.
+fn joining(alloc: Global, at: u32, left: &Typed, right: &Typed) -> Result<Operation, TypeFault>
+    ensures { Gives (over_two (expr_of left.now.core) (expr_of right.now.core) at) result (join_type at (expr_of left.now.core) (expr_of right.now.core) left.now.shape right.now.shape) }
 {
-    let attrs = joined_attrs(alloc, &own, &other)?;
+    let Shape::Rel(own) = &left.shape else {
+        return Err(TypeFault::Mismatch { at });
+    };
+    let Shape::Rel(other) = &right.shape else {
+        return Err(TypeFault::Mismatch { at });
+    };
+    let attrs = joined_attrs(alloc, own, other)?;
     if attrs.len() > 16 {
         return Err(TypeFault::TooMany { at });
     }
-    if !agree(&own, &other) {
+    if !agree(own, other) {
         return Err(TypeFault::Mismatch { at });
     }
     let result = made(attrs)?;
-    let core = binary(alloc, Op::Join(own, other), left, right, at)?;
-    Ok(Typed {
+    let first = own.copy()?;
+    let second = other.copy()?;
+    Ok(Operation {
+        op: Op::Join(first, second),
         shape: Shape::Rel(result),
-        core,
     })
 }

@@ -45,9 +45,11 @@ pub fn assign_row_of(locals: &[Local], token: &Token, value: Typed) -> Result<St
     ensures { Gives command_of result (assign_row locals.now (word_of token.now) (typing_of value)) }
 {
     let Some(local) = find_local(name_bytes(token), locals) else {
+        drop(value);
         return Err(TypeFault::Unknown { at: token.at });
     };
     if !same_shape(&local.shape, &value.shape) {
+        drop(value);
         return Err(TypeFault::Mismatch { at: token.at });
     }
     Ok(Stmt::Set(local.slot, into_core(value)))
@@ -86,6 +88,7 @@ pub fn cond_row_of(at: u32, value: Typed) -> Result<Core, TypeFault>
     ensures { Gives expr_of result (cond_row at (typing_of value)) }
 {
     if !bool_shape(&value.shape) {
+        drop(value);
         return Err(TypeFault::Mismatch { at });
     }
     Ok(into_core(value))
@@ -96,7 +99,10 @@ pub fn effect_row_of(func: bool, at: u32, stmt: Stmt) -> Result<Stmt, TypeFault>
     ensures { Gives command_of result (effect_row func at (command_of stmt)) }
 {
     match func {
-        true => Err(TypeFault::Impure { at }),
+        true => {
+            drop(stmt);
+            Err(TypeFault::Impure { at })
+        }
         false => Ok(stmt),
     }
 }
@@ -107,6 +113,7 @@ pub fn print_row_of(func: bool, at: u32, value: Typed) -> Result<Stmt, TypeFault
     ensures { Gives command_of result (print_row func at (typing_of value)) }
 {
     if func {
+        drop(value);
         return Err(TypeFault::Impure { at });
     }
     let Typed { shape, core } = value;
@@ -119,9 +126,11 @@ pub fn apply_row_of(func: bool, at: u32, value: Typed) -> Result<Stmt, TypeFault
     ensures { Gives command_of result (apply_row func at (typing_of value)) }
 {
     if func {
+        drop(value);
         return Err(TypeFault::Impure { at });
     }
     if !delta_shape(&value.shape) {
+        drop(value);
         return Err(TypeFault::Mismatch { at });
     }
     Ok(Stmt::Apply(into_core(value), at))
@@ -133,6 +142,7 @@ pub fn assert_row_of(at: u32, value: Typed) -> Result<Stmt, TypeFault>
     ensures { Gives command_of result (assert_row at (typing_of value)) }
 {
     if !bool_shape(&value.shape) {
+        drop(value);
         return Err(TypeFault::Mismatch { at });
     }
     Ok(Stmt::Assert(into_core(value), at))
@@ -159,9 +169,11 @@ pub fn return_value_row_of(
     ensures { Gives command_of result (return_value_row returned.now at (typing_of value)) }
 {
     let Some(wanted) = returned else {
+        drop(value);
         return Err(TypeFault::Mismatch { at });
     };
     if !same_shape(wanted, &value.shape) {
+        drop(value);
         return Err(TypeFault::Mismatch { at });
     }
     Ok(Stmt::Return(Some(into_core(value))))

@@ -20,11 +20,14 @@ mod tests {
     use hera_causes::{Failed, Output, Piece};
     use std::test::Fail;
 
-    /// A file is written, changed and emptied, each with its sync.
-    fn change<W: Outside>(outside: &mut W) -> Result<(), Failed> {
-        write_and_sync(outside, FileId::Left, 0, b"ab")?;
-        write_and_sync(outside, FileId::Left, 0, b"x")?;
-        rewrite_and_sync(outside, FileId::Left, b"")
+    /// Each call once. The number is that of the bytes read.
+    fn walk<W: Outside>(outside: &mut W, front: &mut [u8]) -> Result<usize, Failed> {
+        write_and_sync(outside, FileId::Right, 0, b"hello")?;
+        rewrite_and_sync(outside, FileId::Select, &[1])?;
+        sync_all(outside)?;
+        say(outside, b"done\n")?;
+        outside.len(FileId::Left)?;
+        outside.read(FileId::Right, 1, front)
     }
 
     #[test]
@@ -32,15 +35,10 @@ mod tests {
         let alloc = rt.alloc();
         let pieces = [Piece::Take(1), Piece::Take(0)].to_vec(alloc)?;
         let mut outside = MemOutside::new(alloc, Vec::new(alloc), None, pieces);
-        write_and_sync(&mut outside, FileId::Right, 0, b"hello")?;
-        rewrite_and_sync(&mut outside, FileId::Select, &[1])?;
-        sync_all(&mut outside)?;
         let mut front = [0u8; 8];
-        assert_eq!(rt; outside.read(FileId::Right, 1, &mut front)?, 4);
-        assert_eq!(rt; &front[..4], b"ello".as_slice());
-        assert_eq!(rt; outside.len(FileId::Left)?, 0);
+        assert_eq!(rt; walk(&mut outside, &mut front), Ok(4));
+        assert_eq!(rt; front.as_slice(), b"ello\0\0\0\0".as_slice());
         assert_eq!(rt; outside.calls(), 10);
-        say(&mut outside, b"done\n")?;
         assert_eq!(rt; outside.bytes(), b"done\n".as_slice());
         let found = outside.crash(b'.');
         assert_eq!(rt; found.file(FileId::Right), b"hello".as_slice());
@@ -49,28 +47,35 @@ mod tests {
         Ok(())
     }
 
+    /// A file is written, changed and emptied, each with its sync.
+    fn change<W: Outside>(outside: &mut W) -> Result<(), Failed> {
+        write_and_sync(outside, FileId::Left, 0, b"ab")?;
+        write_and_sync(outside, FileId::Left, 0, b"x")?;
+        rewrite_and_sync(outside, FileId::Left, b"")
+    }
+
     #[test]
     fn a_crash_fills_what_no_sync_has_settled(rt: HostRuntime) -> Result<(), Fail> {
         let alloc = rt.alloc();
-        let table: [(u64, &[u8]); 8] = [
-            (0, b".."),
-            (1, b".."),
-            (2, b".b"),
-            (3, b".b"),
-            (4, b".."),
-            (5, b".."),
-            (6, b".."),
-            (7, b""),
+        let table: [(u64, u64, &[u8]); 9] = [
+            (0, 9, b".."),
+            (1, 9, b".."),
+            (2, 9, b".b"),
+            (3, 9, b".b"),
+            (4, 9, b".."),
+            (5, 9, b".."),
+            (6, 9, b".."),
+            (7, 2, b"ab"),
+            (7, 9, b""),
         ];
-        for (stop, left) in table {
-            let mut outside = MemOutside::new(alloc, Vec::new(alloc), Some(stop), Vec::new(alloc));
-            assert_eq!(rt; change(&mut outside).is_ok(), stop == 7, "stop {stop}");
+        for (stop, fails, left) in table {
+            let fails = [fails].to_vec(alloc)?;
+            let mut outside = MemOutside::new(alloc, fails, Some(stop), Vec::new(alloc));
+            let gone = change(&mut outside).is_ok();
+            assert_eq!(rt; gone, left.is_empty(), "stop {stop}");
             assert_eq!(rt; outside.emit(b"!").is_ok(), stop == 7, "stop {stop}");
             assert_eq!(rt; outside.crash(b'.').file(FileId::Left), left, "stop {stop}");
         }
-        let mut failing = MemOutside::new(alloc, [2].to_vec(alloc)?, None, Vec::new(alloc));
-        assert!(rt; change(&mut failing).is_err());
-        assert_eq!(rt; failing.crash(b'.').file(FileId::Left), b"ab".as_slice());
         Ok(())
     }
 }

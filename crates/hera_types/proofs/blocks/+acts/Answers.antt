@@ -1,4 +1,4 @@
-use Rattle.std.proofs.Common.{◌≡◌, ◌+◌, sym, ap, ◌∙◌, refl, arith, drop, [], ◌∷◌, ◌++◌}
+use Rattle.std.proofs.Common.{◌≡◌, ◌+◌, sym, ap, ◌∙◌, refl, arith, [], ◌∷◌, ◌++◌}
 use Rattle.std.specs.Prelude.{Ok}
 use Rattle.hera_meaning.specs.declared.trees.Stmt.TheVariants.{Commit, Rollback}
 use Rattle.hera_meaning.specs.declared.trees.Stmt.TheViews as stmt_view
@@ -9,18 +9,18 @@ use Rattle.hera_rules.proofs.ReadActLaws.{act_of-Commit, act_of-Rollback}
 use Rattle.hera_rules.specs.declared.env.Typed.{Typed}
 use Rattle.hera_rules.specs.Agrees.{typing_of}
 use Rattle.hera_rules.specs.Environments.{env_of}
-use Rattle.hera_rules.specs.Phrases.{Branches, no_branch, branch, choosing, no_act, committing, rolling_back}
+use Rattle.hera_rules.specs.Phrases.{Branches, branch, choosing, looping, visiting, no_act, committing, rolling_back}
 use Rattle.hera_rules.specs.Read.{expr_phrase, word_of}
 use Rattle.hera_rules.specs.ReadActs.{act_of, acts_in, block_acts, branches_in, last_in}
 use Rattle.hera_rules.specs.Rules.{variable_row}
 use Rattle.hera_rules.specs.Typing.{slots_of}
 use Rattle.hera_rules.specs.Checked.{check}
 use Rattle.hera_rules.specs.Commands.{done, block_from, effect_row}
-use Rattle.hera_rules.specs.Statements.{slots_of_act, slots_of_acts, slots_of_branches}
-use Rattle.hera_rules.specs.CheckedActs.{stays, check_act, check_acts, check_branches}
+use Rattle.hera_rules.specs.Statements.{slots_of_acts, slots_of_branches}
+use Rattle.hera_rules.specs.CheckedActs.{stays, check_act, check_acts}
 use Rattle.hera_types_parts.proofs.Giving.{gives_err}
-use Rattle.hera_types.specs.Scopes.{commands_of, commands_in, armed_in}
-use Rattle.hera_types.proofs.Block_lemmas.{act_row, act_err, arm_at, arms_begin, if_done, while_done, choose_act, loop_act, visit_act, extends_none, extends_one, extends_on, cut_back, block_of_commands, acts_more, acts_none, branches_more, branches_none, commands_more, armed_more, acts_turn, acts_stop, acts_end, branches_turn, branches_stop, branches_end, choose_arm_breaks, choose_last_breaks, loop_breaks, visit_operand, visit_variable, visit_body, visit_done}
+use Rattle.hera_types.specs.Scopes.{commands_of, commands_in, armed_in, all_armed}
+use Rattle.hera_types.proofs.Block_lemmas.{act_row, act_err, arm_at, arms_begin, if_done, while_done, extends_none, extends_one, extends_on, cut_back, block_of_commands, acts_more, acts_none, branches_more, branches_none, commands_more, armed_more, acts_turn, acts_stop, acts_end, branches_turn, branches_stop, branches_end, choose_arm_breaks, choose_last_breaks, loop_breaks, visit_operand, visit_variable, visit_body, visit_done}
 use Rattle.hera_types.proofs.blocks.+acts.Goals as goal
 
 pub block-loop-stmt-preserved : goal.block-loop-stmt-preserved
@@ -63,294 +63,241 @@ block-returns-clause-keeps t c =
       next = omega (arith, inv.slots, whole, none, c.leave.ensures.next);
     }
 
-pub statement-loop-next-init : goal.statement-loop-next-init
-statement-loop-next-init t c = record { checked = refl; locals = c.in_ok-front-in-If.ensures.keeps.locals; slots = refl }
+pub arms-loop-next-init : goal.arms-loop-next-init
+arms-loop-next-init t c = record { checked = refl; locals = c.in_ok-front.ensures.keeps.locals; slots = refl }
 
-pub statement-loop-next-preserved : goal.statement-loop-next-preserved
-statement-loop-next-preserved t c =
+pub arms-loop-next-preserved : goal.arms-loop-next-preserved
+arms-loop-next-preserved t c =
     let g = env_of c.args.globals.now in
     let r = c.args.returned.now in
     let ls = c.args.scope.now.locals.items in
-    let n = c.args.scope.now.next in
     let inv = c.loop-next.invariant in
     let x = c.next-item.result in
-    let more = branches_more c.deref-next-items.result.now c.loop-next.next-index x c.loop-next-test.true c.next-item.is in
-    let a = c.in_ok-more-in-If.ensures in
+    let more = branches_more c.args.else_ifs.now c.loop-next.next-index x c.loop-next-test.true c.next-item.is in
+    let a = c.in_ok-more.ensures in
     record {
-      checked = inv.checked ∙ branches_turn g r ls c.loop-next.scope.next (armed_in c.loop-next.arms.items) more
-          (arm_at g r c.loop-next.scope.next x.word.at (expr_phrase x.condition) (block_acts x.block) inv.locals a.checks) a.keeps.next (armed_more c.loop-next.arms.items c.in_ok-more-in-If.more c.in_ok-put-in-If-2.ensures);
+      checked = inv.checked ∙ branches_turn g r ls c.loop-next.scope.next (armed_in c.loop-next.all.items) more
+          (arm_at g r c.loop-next.scope.next x.word.at (expr_phrase x.condition) (block_acts x.block) inv.locals a.checks) a.keeps.next (armed_more c.loop-next.all.items c.in_ok-more.more c.in_ok-put-2.ensures);
       locals = a.keeps.locals ∙ inv.locals;
       slots = omega (arith, inv.slots, a.keeps.next, ap slots_of_branches more);
     }
 
-pub statement-returns-in_err-front-in-If-clause-checks : goal.statement-returns-in_err-front-in-If-clause-checks
-statement-returns-in_err-front-in-If-clause-checks t c =
-    let g = env_of c.args.globals.now in
-    let r = c.args.returned.now in
-    let ls = c.args.scope.now.locals.items in
-    let n = c.args.scope.now.next in
-    let rest = branches_in c.in-If.else_ifs.items in
-    let whole : Branches = branch c.in-If.word.at (expr_phrase c.in-If.condition) (block_acts c.in-If.first) rest in
-    let read : act_of c.args.e.now ≡ choosing whole (last_in c.in-If.last) = choose_act c.in-If.word _ c.in-If.condition c.in-If.first c.in-If.else_ifs c.in-If.last c.in-If.is in
-    let same : whole ≡ branch c.in-If.word.at (expr_phrase c.in-If.condition) (block_acts c.in-If.first) rest = refl in
-    act_err g r ls n (act_of c.args.e.now) _ _ c.from_residual.ensures.1 (λ ne. choose_arm_breaks g r ls n read (branches_stop g r ls n [] same (c.in_err-front-in-If.ensures.checks ne)))
+pub arms-returns-in_err-front-clause-checks : goal.arms-returns-in_err-front-clause-checks
+arms-returns-in_err-front-clause-checks t c =
+    let rest = branches_in c.args.else_ifs.now in
+    let whole : Branches = branch c.args.at (expr_phrase c.args.condition.now) (block_acts c.args.first.now) rest in
+    let same : whole ≡ branch c.args.at (expr_phrase c.args.condition.now) (block_acts c.args.first.now) rest = refl in
+    gives_err all_armed _ c.from_residual.ensures.1
+    (λ ne. branches_stop (env_of c.args.globals.now) c.args.returned.now c.args.scope.now.locals.items c.args.scope.now.next [] same (c.in_err-front.ensures.checks ne))
 
-pub statement-returns-in_err-more-in-If-clause-checks : goal.statement-returns-in_err-more-in-If-clause-checks
-statement-returns-in_err-more-in-If-clause-checks t c =
+pub arms-returns-in_err-more-clause-checks : goal.arms-returns-in_err-more-clause-checks
+arms-returns-in_err-more-clause-checks t c =
     let g = env_of c.args.globals.now in
     let r = c.args.returned.now in
     let ls = c.args.scope.now.locals.items in
-    let n = c.args.scope.now.next in
-    let rest = branches_in c.in-If.else_ifs.items in
-    let whole : Branches = branch c.in-If.word.at (expr_phrase c.in-If.condition) (block_acts c.in-If.first) rest in
-    let read : act_of c.args.e.now ≡ choosing whole (last_in c.in-If.last) = choose_act c.in-If.word _ c.in-If.condition c.in-If.first c.in-If.else_ifs c.in-If.last c.in-If.is in
     let inv = c.loop-next.invariant in
-    let xs = c.deref-next-items.result.now in
-    let front = c.in_ok-front-in-If in
-    let all = c.loop-next.arms.items in
-    let begun : check_branches g r ls n [] whole ≡ check_branches g r ls c.loop-next.scope.next (armed_in all) (branches_in (drop c.loop-next.next-index xs)) =
-    arms_begin g r ls n c.in-If.word.at (expr_phrase c.in-If.condition) (block_acts c.in-If.first) rest front.front front.ensures.checks front.ensures.keeps.next c.new-arms.ensures.items c.in_ok-put-in-If.ensures
-    ∙ ap (λ ys. check_branches g r ls c.arm.new.scope.next (armed_in c.put.new.items.items) (branches_in ys)) (sym c.deref-next-items.ensures.value) ∙ inv.checked in
+    let xs = c.args.else_ifs.now in
+    let front = c.in_ok-front in
     let x = c.next-item.result in
     let more = branches_more xs c.loop-next.next-index x c.loop-next-test.true c.next-item.is in
-    act_err g r ls n (act_of c.args.e.now) _ _ c.from_residual-in_err-more-in-If.ensures.1 (λ ne. choose_arm_breaks g r ls n read
-    (begun ∙ branches_stop g r ls c.loop-next.scope.next (armed_in all) more
-    (arm_at g r c.loop-next.scope.next x.word.at (expr_phrase x.condition) (block_acts x.block) inv.locals (c.in_err-more-in-If.ensures.checks ne))))
+    gives_err all_armed _ c.from_residual-in_err-more.ensures.1 (λ ne.
+    arms_begin g r ls c.args.scope.now.next c.args.at (expr_phrase c.args.condition.now) (block_acts c.args.first.now) (branches_in xs)
+    front.front front.ensures.checks front.ensures.keeps.next c.new-all.ensures.items c.in_ok-put.ensures
+    ∙ inv.checked ∙ branches_stop g r ls c.loop-next.scope.next (armed_in c.loop-next.all.items) more
+    (arm_at g r c.loop-next.scope.next x.word.at (expr_phrase x.condition) (block_acts x.block) inv.locals (c.in_err-more.ensures.checks ne)))
 
-pub statement-returns-in_err-other-in-Some-clause-checks : goal.statement-returns-in_err-other-in-Some-clause-checks
-statement-returns-in_err-other-in-Some-clause-checks t c =
+pub arms-returns-clause-checks : goal.arms-returns-clause-checks
+arms-returns-clause-checks t c =
+    let g = env_of c.args.globals.now in
+    let r = c.args.returned.now in
+    let ls = c.args.scope.now.locals.items in
+    let xs = c.args.else_ifs.now in
+    let front = c.in_ok-front in
+    arms_begin g r ls c.args.scope.now.next c.args.at (expr_phrase c.args.condition.now) (block_acts c.args.first.now) (branches_in xs)
+    front.front front.ensures.checks front.ensures.keeps.next c.new-all.ensures.items c.in_ok-put.ensures
+    ∙ c.loop-next.invariant.checked
+    ∙ branches_end g r ls c.loop-next.scope.next (armed_in c.loop-next.all.items) (branches_none xs c.loop-next.next-index c.loop-next-test.false)
+
+pub arms-returns-clause-keeps : goal.arms-returns-clause-keeps
+arms-returns-clause-keeps t c =
+    let inv = c.loop-next.invariant in
+    let none = ap slots_of_branches (branches_none c.args.else_ifs.now c.loop-next.next-index c.loop-next-test.false) in
+    record {
+      locals = inv.locals;
+      next = omega (arith, inv.slots, none, c.in_ok-front.ensures.keeps.next);
+    }
+
+pub branches-returns-in_err-all-clause-checks : goal.branches-returns-in_err-all-clause-checks
+branches-returns-in_err-all-clause-checks t c =
+    let whole : Branches = branch c.args.at (expr_phrase c.args.condition.now) (block_acts c.args.first.now) (branches_in c.args.else_ifs.now) in
+    let last = last_in c.args.last.now in
+    let same : choosing whole last ≡ choosing whole last = refl in
     let g = env_of c.args.globals.now in
     let r = c.args.returned.now in
     let ls = c.args.scope.now.locals.items in
     let n = c.args.scope.now.next in
-    let rest = branches_in c.in-If.else_ifs.items in
-    let whole : Branches = branch c.in-If.word.at (expr_phrase c.in-If.condition) (block_acts c.in-If.first) rest in
-    let read : act_of c.args.e.now ≡ choosing whole (last_in c.in-If.last) = choose_act c.in-If.word _ c.in-If.condition c.in-If.first c.in-If.else_ifs c.in-If.last c.in-If.is in
-    let inv = c.loop-next.invariant in
-    let xs = c.deref-next-items.result.now in
-    let front = c.in_ok-front-in-If in
-    let all = c.loop-next.arms.items in
-    let begun : check_branches g r ls n [] whole ≡ check_branches g r ls c.loop-next.scope.next (armed_in all) (branches_in (drop c.loop-next.next-index xs)) =
-    arms_begin g r ls n c.in-If.word.at (expr_phrase c.in-If.condition) (block_acts c.in-If.first) rest front.front front.ensures.checks front.ensures.keeps.next c.new-arms.ensures.items c.in_ok-put-in-If.ensures
-    ∙ ap (λ ys. check_branches g r ls c.arm.new.scope.next (armed_in c.put.new.items.items) (branches_in ys)) (sym c.deref-next-items.ensures.value) ∙ inv.checked in
-    let none : branches_in (drop c.loop-next.next-index xs) ≡ no_branch = branches_none xs c.loop-next.next-index c.loop-next-test.false in
-    let arms : check_branches g r ls n [] whole ≡ Ok (armed_in all) = begun ∙ branches_end g r ls c.loop-next.scope.next (armed_in all) none in
-    let slots = ap (λ ys. slots_of_branches (branches_in ys)) c.deref-next-items.ensures.value in
-    let count : c.loop-next.scope.next ≡ n + slots_of_branches whole = omega (arith, inv.slots, ap slots_of_branches none, slots, front.ensures.keeps.next) in
-    let inner = c.in-Some.inner in
-    let last : act_of c.args.e.now ≡ choosing whole (block_acts inner) = read ∙ ap (λ l. choosing whole (last_in l)) c.in-Some.is in
-    act_err g r ls n (act_of c.args.e.now) _ _ c.from_residual-in_err-other-in-Some.ensures.1 (λ ne. choose_last_breaks g r ls n last arms count
-    (ap (λ ls. check_acts g r ls c.loop-next.scope.next [] (block_acts inner)) (sym inv.locals) ∙ c.in_err-other-in-Some.ensures.checks ne))
+    act_err g r ls n (choosing whole last) _ _ c.from_residual.ensures.1 (λ ne. choose_arm_breaks g r ls n same (c.in_err-all.ensures.checks ne))
 
-pub statement-returns-in_ok-other-in-Some-clause-checks : goal.statement-returns-in_ok-other-in-Some-clause-checks
-statement-returns-in_ok-other-in-Some-clause-checks t c =
+pub branches-returns-in_err-other-in-Some-clause-checks : goal.branches-returns-in_err-other-in-Some-clause-checks
+branches-returns-in_err-other-in-Some-clause-checks t c =
     let g = env_of c.args.globals.now in
     let r = c.args.returned.now in
     let ls = c.args.scope.now.locals.items in
     let n = c.args.scope.now.next in
-    let rest = branches_in c.in-If.else_ifs.items in
-    let whole : Branches = branch c.in-If.word.at (expr_phrase c.in-If.condition) (block_acts c.in-If.first) rest in
-    let read : act_of c.args.e.now ≡ choosing whole (last_in c.in-If.last) = choose_act c.in-If.word _ c.in-If.condition c.in-If.first c.in-If.else_ifs c.in-If.last c.in-If.is in
-    let inv = c.loop-next.invariant in
-    let xs = c.deref-next-items.result.now in
-    let front = c.in_ok-front-in-If in
-    let all = c.loop-next.arms.items in
-    let begun : check_branches g r ls n [] whole ≡ check_branches g r ls c.loop-next.scope.next (armed_in all) (branches_in (drop c.loop-next.next-index xs)) =
-    arms_begin g r ls n c.in-If.word.at (expr_phrase c.in-If.condition) (block_acts c.in-If.first) rest front.front front.ensures.checks front.ensures.keeps.next c.new-arms.ensures.items c.in_ok-put-in-If.ensures
-    ∙ ap (λ ys. check_branches g r ls c.arm.new.scope.next (armed_in c.put.new.items.items) (branches_in ys)) (sym c.deref-next-items.ensures.value) ∙ inv.checked in
-    let none : branches_in (drop c.loop-next.next-index xs) ≡ no_branch = branches_none xs c.loop-next.next-index c.loop-next-test.false in
-    let arms : check_branches g r ls n [] whole ≡ Ok (armed_in all) = begun ∙ branches_end g r ls c.loop-next.scope.next (armed_in all) none in
-    let slots = ap (λ ys. slots_of_branches (branches_in ys)) c.deref-next-items.ensures.value in
-    let count : c.loop-next.scope.next ≡ n + slots_of_branches whole = omega (arith, inv.slots, ap slots_of_branches none, slots, front.ensures.keeps.next) in
+    let whole : Branches = branch c.args.at (expr_phrase c.args.condition.now) (block_acts c.args.first.now) (branches_in c.args.else_ifs.now) in
     let inner = c.in-Some.inner in
-    let last : act_of c.args.e.now ≡ choosing whole (block_acts inner) = read ∙ ap (λ l. choosing whole (last_in l)) c.in-Some.is in
+    let last : choosing whole (last_in c.args.last.now) ≡ choosing whole (block_acts inner) = ap (λ l. choosing whole (last_in l)) c.in-Some.is in
+    let kept = c.in_ok-all.ensures.keeps in
+    act_err g r ls n (choosing whole (last_in c.args.last.now)) _ _ c.from_residual-in_err-other-in-Some.ensures.1 (λ ne. choose_last_breaks g r ls n last c.in_ok-all.ensures.checks kept.next
+    (ap (λ ls. check_acts g r ls c.arms.new.scope.next [] (block_acts inner)) (sym kept.locals) ∙ c.in_err-other-in-Some.ensures.checks ne))
+
+pub branches-returns-in_ok-other-in-Some-clause-checks : goal.branches-returns-in_ok-other-in-Some-clause-checks
+branches-returns-in_ok-other-in-Some-clause-checks t c =
+    let g = env_of c.args.globals.now in
+    let r = c.args.returned.now in
+    let ls = c.args.scope.now.locals.items in
+    let n = c.args.scope.now.next in
+    let whole : Branches = branch c.args.at (expr_phrase c.args.condition.now) (block_acts c.args.first.now) (branches_in c.args.else_ifs.now) in
+    let inner = c.in-Some.inner in
+    let last : choosing whole (last_in c.args.last.now) ≡ choosing whole (block_acts inner) = ap (λ l. choosing whole (last_in l)) c.in-Some.is in
+    let all = c.in_ok-all in
+    let kept = all.ensures.keeps in
     let other = c.in_ok-other-in-Some in
-    if_done g r ls n all other.other.items c.block.new.scope.locals.items (stmt_view.If c.loop-next.arms other.other) last arms count
-    (ap (λ ls. check_acts g r ls c.loop-next.scope.next [] (block_acts inner)) (sym inv.locals) ∙ other.ensures.checks)
-    (other.ensures.keeps.locals ∙ inv.locals) (command_of-If c.loop-next.arms other.other)
+    if_done g r ls n all.all.items other.other.items c.block.new.scope.locals.items (stmt_view.If all.all other.other) last all.ensures.checks kept.next
+    (ap (λ ls. check_acts g r ls c.arms.new.scope.next [] (block_acts inner)) (sym kept.locals) ∙ other.ensures.checks)
+    (other.ensures.keeps.locals ∙ kept.locals) (command_of-If all.all other.other)
 
-pub statement-returns-in_ok-other-in-Some-clause-next : goal.statement-returns-in_ok-other-in-Some-clause-next
-statement-returns-in_ok-other-in-Some-clause-next t c =
+pub branches-returns-in_ok-other-in-Some-clause-next : goal.branches-returns-in_ok-other-in-Some-clause-next
+branches-returns-in_ok-other-in-Some-clause-next t c =
+    let last = ap (λ l. slots_of_acts (last_in l)) c.in-Some.is in
+    omega (arith, last, c.in_ok-all.ensures.keeps.next, c.in_ok-other-in-Some.ensures.keeps.next)
+
+pub branches-returns-in_ok-other-in-Some-clause-grows : goal.branches-returns-in_ok-other-in-Some-clause-grows
+branches-returns-in_ok-other-in-Some-clause-grows t c = extends_none (c.in_ok-other-in-Some.ensures.keeps.locals ∙ c.in_ok-all.ensures.keeps.locals)
+
+pub branches-returns-in-None-clause-checks : goal.branches-returns-in-None-clause-checks
+branches-returns-in-None-clause-checks t c =
     let g = env_of c.args.globals.now in
     let r = c.args.returned.now in
     let ls = c.args.scope.now.locals.items in
     let n = c.args.scope.now.next in
-    let rest = branches_in c.in-If.else_ifs.items in
-    let whole : Branches = branch c.in-If.word.at (expr_phrase c.in-If.condition) (block_acts c.in-If.first) rest in
-    let read : act_of c.args.e.now ≡ choosing whole (last_in c.in-If.last) = choose_act c.in-If.word _ c.in-If.condition c.in-If.first c.in-If.else_ifs c.in-If.last c.in-If.is in
-    let inv = c.loop-next.invariant in
-    let xs = c.deref-next-items.result.now in
-    let front = c.in_ok-front-in-If in
-    let all = c.loop-next.arms.items in
-    let begun : check_branches g r ls n [] whole ≡ check_branches g r ls c.loop-next.scope.next (armed_in all) (branches_in (drop c.loop-next.next-index xs)) =
-    arms_begin g r ls n c.in-If.word.at (expr_phrase c.in-If.condition) (block_acts c.in-If.first) rest front.front front.ensures.checks front.ensures.keeps.next c.new-arms.ensures.items c.in_ok-put-in-If.ensures
-    ∙ ap (λ ys. check_branches g r ls c.arm.new.scope.next (armed_in c.put.new.items.items) (branches_in ys)) (sym c.deref-next-items.ensures.value) ∙ inv.checked in
-    let none : branches_in (drop c.loop-next.next-index xs) ≡ no_branch = branches_none xs c.loop-next.next-index c.loop-next-test.false in
-    let arms : check_branches g r ls n [] whole ≡ Ok (armed_in all) = begun ∙ branches_end g r ls c.loop-next.scope.next (armed_in all) none in
-    let slots = ap (λ ys. slots_of_branches (branches_in ys)) c.deref-next-items.ensures.value in
-    let count : c.loop-next.scope.next ≡ n + slots_of_branches whole = omega (arith, inv.slots, ap slots_of_branches none, slots, front.ensures.keeps.next) in
-    let inner = c.in-Some.inner in
-    let last : act_of c.args.e.now ≡ choosing whole (block_acts inner) = read ∙ ap (λ l. choosing whole (last_in l)) c.in-Some.is in
-    omega (arith, ap slots_of_act last, count, c.in_ok-other-in-Some.ensures.keeps.next)
-
-pub statement-returns-in_ok-other-in-Some-clause-grows : goal.statement-returns-in_ok-other-in-Some-clause-grows
-statement-returns-in_ok-other-in-Some-clause-grows t c = extends_none (c.in_ok-other-in-Some.ensures.keeps.locals ∙ c.loop-next.invariant.locals)
-
-pub statement-returns-in-None-clause-checks : goal.statement-returns-in-None-clause-checks
-statement-returns-in-None-clause-checks t c =
-    let g = env_of c.args.globals.now in
-    let r = c.args.returned.now in
-    let ls = c.args.scope.now.locals.items in
-    let n = c.args.scope.now.next in
-    let rest = branches_in c.in-If.else_ifs.items in
-    let whole : Branches = branch c.in-If.word.at (expr_phrase c.in-If.condition) (block_acts c.in-If.first) rest in
-    let read : act_of c.args.e.now ≡ choosing whole (last_in c.in-If.last) = choose_act c.in-If.word _ c.in-If.condition c.in-If.first c.in-If.else_ifs c.in-If.last c.in-If.is in
-    let inv = c.loop-next.invariant in
-    let xs = c.deref-next-items.result.now in
-    let front = c.in_ok-front-in-If in
-    let all = c.loop-next.arms.items in
-    let begun : check_branches g r ls n [] whole ≡ check_branches g r ls c.loop-next.scope.next (armed_in all) (branches_in (drop c.loop-next.next-index xs)) =
-    arms_begin g r ls n c.in-If.word.at (expr_phrase c.in-If.condition) (block_acts c.in-If.first) rest front.front front.ensures.checks front.ensures.keeps.next c.new-arms.ensures.items c.in_ok-put-in-If.ensures
-    ∙ ap (λ ys. check_branches g r ls c.arm.new.scope.next (armed_in c.put.new.items.items) (branches_in ys)) (sym c.deref-next-items.ensures.value) ∙ inv.checked in
-    let none : branches_in (drop c.loop-next.next-index xs) ≡ no_branch = branches_none xs c.loop-next.next-index c.loop-next-test.false in
-    let arms : check_branches g r ls n [] whole ≡ Ok (armed_in all) = begun ∙ branches_end g r ls c.loop-next.scope.next (armed_in all) none in
-    let slots = ap (λ ys. slots_of_branches (branches_in ys)) c.deref-next-items.ensures.value in
-    let count : c.loop-next.scope.next ≡ n + slots_of_branches whole = omega (arith, inv.slots, ap slots_of_branches none, slots, front.ensures.keeps.next) in
-    let last : act_of c.args.e.now ≡ choosing whole no_act = read ∙ ap (λ l. choosing whole (last_in l)) c.in-None.is in
+    let whole : Branches = branch c.args.at (expr_phrase c.args.condition.now) (block_acts c.args.first.now) (branches_in c.args.else_ifs.now) in
+    let last : choosing whole (last_in c.args.last.now) ≡ choosing whole no_act = ap (λ l. choosing whole (last_in l)) c.in-None.is in
+    let all = c.in_ok-all in
+    let kept = all.ensures.keeps in
     let empty = c.new.result in
-    if_done g r ls n all empty.items c.loop-next.scope.locals.items (stmt_view.If c.loop-next.arms empty) last arms count
-    (ap (λ ss. Ok (commands_in ss)) (sym c.new.ensures.items)) inv.locals (command_of-If c.loop-next.arms empty)
+    if_done g r ls n all.all.items empty.items c.arms.new.scope.locals.items (stmt_view.If all.all empty) last all.ensures.checks kept.next
+    (ap (λ ss. Ok (commands_in ss)) (sym c.new.ensures.items)) kept.locals (command_of-If all.all empty)
 
-pub statement-returns-in-None-clause-next : goal.statement-returns-in-None-clause-next
-statement-returns-in-None-clause-next t c =
+pub branches-returns-in-None-clause-next : goal.branches-returns-in-None-clause-next
+branches-returns-in-None-clause-next t c =
+    let last = ap (λ l. slots_of_acts (last_in l)) c.in-None.is in
+    omega (arith, last, c.in_ok-all.ensures.keeps.next)
+
+pub branches-returns-in-None-clause-grows : goal.branches-returns-in-None-clause-grows
+branches-returns-in-None-clause-grows t c = extends_none c.in_ok-all.ensures.keeps.locals
+
+pub repeat-returns-in_err-front-clause-checks : goal.repeat-returns-in_err-front-clause-checks
+repeat-returns-in_err-front-clause-checks t c =
     let g = env_of c.args.globals.now in
     let r = c.args.returned.now in
     let ls = c.args.scope.now.locals.items in
     let n = c.args.scope.now.next in
-    let rest = branches_in c.in-If.else_ifs.items in
-    let whole : Branches = branch c.in-If.word.at (expr_phrase c.in-If.condition) (block_acts c.in-If.first) rest in
-    let read : act_of c.args.e.now ≡ choosing whole (last_in c.in-If.last) = choose_act c.in-If.word _ c.in-If.condition c.in-If.first c.in-If.else_ifs c.in-If.last c.in-If.is in
-    let inv = c.loop-next.invariant in
-    let xs = c.deref-next-items.result.now in
-    let front = c.in_ok-front-in-If in
-    let all = c.loop-next.arms.items in
-    let begun : check_branches g r ls n [] whole ≡ check_branches g r ls c.loop-next.scope.next (armed_in all) (branches_in (drop c.loop-next.next-index xs)) =
-    arms_begin g r ls n c.in-If.word.at (expr_phrase c.in-If.condition) (block_acts c.in-If.first) rest front.front front.ensures.checks front.ensures.keeps.next c.new-arms.ensures.items c.in_ok-put-in-If.ensures
-    ∙ ap (λ ys. check_branches g r ls c.arm.new.scope.next (armed_in c.put.new.items.items) (branches_in ys)) (sym c.deref-next-items.ensures.value) ∙ inv.checked in
-    let none : branches_in (drop c.loop-next.next-index xs) ≡ no_branch = branches_none xs c.loop-next.next-index c.loop-next-test.false in
-    let arms : check_branches g r ls n [] whole ≡ Ok (armed_in all) = begun ∙ branches_end g r ls c.loop-next.scope.next (armed_in all) none in
-    let slots = ap (λ ys. slots_of_branches (branches_in ys)) c.deref-next-items.ensures.value in
-    let count : c.loop-next.scope.next ≡ n + slots_of_branches whole = omega (arith, inv.slots, ap slots_of_branches none, slots, front.ensures.keeps.next) in
-    let last : act_of c.args.e.now ≡ choosing whole no_act = read ∙ ap (λ l. choosing whole (last_in l)) c.in-None.is in
-    omega (arith, ap slots_of_act last, count)
+    let loop = looping c.args.at (expr_phrase c.args.condition.now) (block_acts c.args.inner.now) in
+    let same : loop ≡ looping c.args.at (expr_phrase c.args.condition.now) (block_acts c.args.inner.now) = refl in
+    act_err g r ls n loop _ _ c.from_residual.ensures.1 (λ ne. loop_breaks g r ls n same (c.in_err-front.ensures.checks ne))
 
-pub statement-returns-in-None-clause-grows : goal.statement-returns-in-None-clause-grows
-statement-returns-in-None-clause-grows t c = extends_none c.loop-next.invariant.locals
-
-pub statement-returns-in_err-front-in-While-clause-checks : goal.statement-returns-in_err-front-in-While-clause-checks
-statement-returns-in_err-front-in-While-clause-checks t c =
+pub repeat-returns-clause-checks : goal.repeat-returns-clause-checks
+repeat-returns-clause-checks t c =
     let g = env_of c.args.globals.now in
     let r = c.args.returned.now in
     let ls = c.args.scope.now.locals.items in
     let n = c.args.scope.now.next in
-    let read = loop_act c.in-While.word _ c.in-While.condition c.in-While.inner c.in-While.is in
-    act_err g r ls n (act_of c.args.e.now) _ _ c.from_residual-in_err-front-in-While.ensures.1 (λ ne. loop_breaks g r ls n read (c.in_err-front-in-While.ensures.checks ne))
+    let loop = looping c.args.at (expr_phrase c.args.condition.now) (block_acts c.args.inner.now) in
+    let same : loop ≡ looping c.args.at (expr_phrase c.args.condition.now) (block_acts c.args.inner.now) = refl in
+    let front = c.in_ok-front in
+    while_done g r ls n front.front c.arm.new.scope.locals.items c.while_of.result same front.ensures.checks front.ensures.keeps.locals c.while_of.ensures
 
-pub statement-returns-in_ok-front-in-While-clause-checks : goal.statement-returns-in_ok-front-in-While-clause-checks
-statement-returns-in_ok-front-in-While-clause-checks t c =
+pub repeat-returns-clause-grows : goal.repeat-returns-clause-grows
+repeat-returns-clause-grows t c = extends_none c.in_ok-front.ensures.keeps.locals
+
+pub visit-returns-in_err-of-clause-checks : goal.visit-returns-in_err-of-clause-checks
+visit-returns-in_err-of-clause-checks t c =
     let g = env_of c.args.globals.now in
     let r = c.args.returned.now in
     let ls = c.args.scope.now.locals.items in
     let n = c.args.scope.now.next in
-    let read = loop_act c.in-While.word _ c.in-While.condition c.in-While.inner c.in-While.is in
-    let front = c.in_ok-front-in-While in
-    while_done g r ls n front.front c.arm-in-While.new.scope.locals.items c.while_of.result read front.ensures.checks front.ensures.keeps.locals c.while_of.ensures
-
-pub statement-returns-in_ok-front-in-While-clause-next : goal.statement-returns-in_ok-front-in-While-clause-next
-statement-returns-in_ok-front-in-While-clause-next t c =
-    let read = loop_act c.in-While.word _ c.in-While.condition c.in-While.inner c.in-While.is in
-    omega (arith, ap slots_of_act read, c.in_ok-front-in-While.ensures.keeps.next)
-
-pub statement-returns-in_ok-front-in-While-clause-grows : goal.statement-returns-in_ok-front-in-While-clause-grows
-statement-returns-in_ok-front-in-While-clause-grows t c = extends_none c.in_ok-front-in-While.ensures.keeps.locals
-
-pub statement-returns-in_err-of-in-Foreach-clause-checks : goal.statement-returns-in_err-of-in-Foreach-clause-checks
-statement-returns-in_err-of-in-Foreach-clause-checks t c =
-    let g = env_of c.args.globals.now in
-    let r = c.args.returned.now in
-    let ls = c.args.scope.now.locals.items in
-    let n = c.args.scope.now.next in
-    let read = visit_act c.in-Foreach.word _ c.in-Foreach.name c.in-Foreach.over c.in-Foreach.inner c.in-Foreach.is in
-    let p = expr_phrase c.in-Foreach.over in
-    let slot = c.in_ok-slot-in-Foreach in
+    let read : visiting c.args.at (word_of c.args.name.now) (expr_phrase c.args.over.now) (block_acts c.args.inner.now) ≡ visiting c.args.at (word_of c.args.name.now) (expr_phrase c.args.over.now) (block_acts c.args.inner.now) = refl in
+    let p = expr_phrase c.args.over.now in
+    let slot = c.in_ok-slot in
     let took = slot.ensures.keeps in
-    act_err g r ls n (act_of c.args.e.now) _ _ c.from_residual-in_err-of-in-Foreach.ensures.1 (λ ne. visit_operand g r ls n read
-    (ap (λ ls. check g ls (n + 1) p) (sym took.locals) ∙ ap (λ m. check g c.take_slot.new.scope.locals.items m p) (sym took.next) ∙ c.in_err-of-in-Foreach.ensures.checks ne))
+    act_err g r ls n _ _ _ c.from_residual-in_err-of.ensures.1 (λ ne. visit_operand g r ls n read
+    (ap (λ ls. check g ls (n + 1) p) (sym took.locals) ∙ ap (λ m. check g c.take_slot.new.scope.locals.items m p) (sym took.next) ∙ c.in_err-of.ensures.checks ne))
 
-pub statement-returns-in_err-local-in-Foreach-clause-checks : goal.statement-returns-in_err-local-in-Foreach-clause-checks
-statement-returns-in_err-local-in-Foreach-clause-checks t c =
+pub visit-returns-in_err-local-clause-checks : goal.visit-returns-in_err-local-clause-checks
+visit-returns-in_err-local-clause-checks t c =
     let g = env_of c.args.globals.now in
     let r = c.args.returned.now in
     let ls = c.args.scope.now.locals.items in
     let n = c.args.scope.now.next in
-    let read = visit_act c.in-Foreach.word _ c.in-Foreach.name c.in-Foreach.over c.in-Foreach.inner c.in-Foreach.is in
-    let p = expr_phrase c.in-Foreach.over in
-    let slot = c.in_ok-slot-in-Foreach in
+    let read : visiting c.args.at (word_of c.args.name.now) (expr_phrase c.args.over.now) (block_acts c.args.inner.now) ≡ visiting c.args.at (word_of c.args.name.now) (expr_phrase c.args.over.now) (block_acts c.args.inner.now) = refl in
+    let p = expr_phrase c.args.over.now in
+    let slot = c.in_ok-slot in
     let took = slot.ensures.keeps in
-    let typed : check g ls (n + 1) p ≡ Ok (typing_of c.in_ok-of-in-Foreach.of) =
-    ap (λ ls. check g ls (n + 1) p) (sym took.locals) ∙ ap (λ m. check g c.take_slot.new.scope.locals.items m p) (sym took.next) ∙ c.in_ok-of-in-Foreach.ensures.checks in
-    let of = c.in_ok-of-in-Foreach in
+    let typed : check g ls (n + 1) p ≡ Ok (typing_of c.in_ok-of.of) =
+    ap (λ ls. check g ls (n + 1) p) (sym took.locals) ∙ ap (λ m. check g c.take_slot.new.scope.locals.items m p) (sym took.next) ∙ c.in_ok-of.ensures.checks in
+    let of = c.in_ok-of in
     let same = of.ensures.keeps.locals ∙ took.locals in
-    act_err g r ls n (act_of c.args.e.now) _ _ c.from_residual-in_err-local-in-Foreach.ensures.1 (λ ne. visit_variable g r ls n read typed
-    (ap (λ ls. variable_row g ls (word_of c.in-Foreach.name) c.in-Foreach.word.at n of.of.shape) (sym (c.deref.ensures.value ∙ same))
-    ∙ ap (λ i. variable_row g c.deref.result.now (word_of c.in-Foreach.name) c.in-Foreach.word.at i of.of.shape) (sym slot.ensures.slot) ∙ c.in_err-local-in-Foreach.ensures ne))
+    act_err g r ls n _ _ _ c.from_residual-in_err-local.ensures.1 (λ ne. visit_variable g r ls n read typed
+    (ap (λ ls. variable_row g ls (word_of c.args.name.now) c.args.at n of.of.shape) (sym (c.deref.ensures.value ∙ same))
+    ∙ ap (λ i. variable_row g c.deref.result.now (word_of c.args.name.now) c.args.at i of.of.shape) (sym slot.ensures.slot) ∙ c.in_err-local.ensures ne))
 
-pub statement-returns-in_err-body-in-Foreach-clause-checks : goal.statement-returns-in_err-body-in-Foreach-clause-checks
-statement-returns-in_err-body-in-Foreach-clause-checks t c =
+pub visit-returns-in_err-body-clause-checks : goal.visit-returns-in_err-body-clause-checks
+visit-returns-in_err-body-clause-checks t c =
     let g = env_of c.args.globals.now in
     let r = c.args.returned.now in
     let ls = c.args.scope.now.locals.items in
     let n = c.args.scope.now.next in
-    let read = visit_act c.in-Foreach.word _ c.in-Foreach.name c.in-Foreach.over c.in-Foreach.inner c.in-Foreach.is in
-    let p = expr_phrase c.in-Foreach.over in
-    let slot = c.in_ok-slot-in-Foreach in
+    let read : visiting c.args.at (word_of c.args.name.now) (expr_phrase c.args.over.now) (block_acts c.args.inner.now) ≡ visiting c.args.at (word_of c.args.name.now) (expr_phrase c.args.over.now) (block_acts c.args.inner.now) = refl in
+    let p = expr_phrase c.args.over.now in
+    let slot = c.in_ok-slot in
     let took = slot.ensures.keeps in
-    let typed : check g ls (n + 1) p ≡ Ok (typing_of c.in_ok-of-in-Foreach.of) =
-    ap (λ ls. check g ls (n + 1) p) (sym took.locals) ∙ ap (λ m. check g c.take_slot.new.scope.locals.items m p) (sym took.next) ∙ c.in_ok-of-in-Foreach.ensures.checks in
-    let of = c.in_ok-of-in-Foreach in
+    let typed : check g ls (n + 1) p ≡ Ok (typing_of c.in_ok-of.of) =
+    ap (λ ls. check g ls (n + 1) p) (sym took.locals) ∙ ap (λ m. check g c.take_slot.new.scope.locals.items m p) (sym took.next) ∙ c.in_ok-of.ensures.checks in
+    let of = c.in_ok-of in
     let same = of.ensures.keeps.locals ∙ took.locals in
-    let variable : variable_row g ls (word_of c.in-Foreach.name) c.in-Foreach.word.at n of.of.shape ≡ Ok c.in_ok-local-in-Foreach.local =
-    ap (λ ls. variable_row g ls (word_of c.in-Foreach.name) c.in-Foreach.word.at n of.of.shape) (sym (c.deref.ensures.value ∙ same))
-    ∙ ap (λ i. variable_row g c.deref.result.now (word_of c.in-Foreach.name) c.in-Foreach.word.at i of.of.shape) (sym slot.ensures.slot) ∙ c.in_ok-local-in-Foreach.ensures in
-    let local = c.in_ok-local-in-Foreach.local in
-    let pushed : ls ++ local ∷ [] ≡ c.push_local.new.scope.locals.items = ap (λ ls. ls ++ local ∷ []) (sym same) ∙ sym c.in_ok-push_local-in-Foreach.ensures.locals in
-    let count : c.push_local.new.scope.next ≡ n + 1 + slots_of p = omega (arith, took.next, of.ensures.keeps.next, c.in_ok-push_local-in-Foreach.ensures.next) in
-    let acts = block_acts c.in-Foreach.inner in
-    act_err g r ls n (act_of c.args.e.now) _ _ c.from_residual-in_err-body-in-Foreach.ensures.1 (λ ne. visit_body g r ls n read typed variable count
-    (ap (λ ls. check_acts g r ls c.push_local.new.scope.next [] acts) pushed ∙ c.in_err-body-in-Foreach.ensures.checks ne))
+    let variable : variable_row g ls (word_of c.args.name.now) c.args.at n of.of.shape ≡ Ok c.in_ok-local.local =
+    ap (λ ls. variable_row g ls (word_of c.args.name.now) c.args.at n of.of.shape) (sym (c.deref.ensures.value ∙ same))
+    ∙ ap (λ i. variable_row g c.deref.result.now (word_of c.args.name.now) c.args.at i of.of.shape) (sym slot.ensures.slot) ∙ c.in_ok-local.ensures in
+    let local = c.in_ok-local.local in
+    let pushed : ls ++ local ∷ [] ≡ c.push_local.new.scope.locals.items = ap (λ ls. ls ++ local ∷ []) (sym same) ∙ sym c.in_ok-push_local.ensures.locals in
+    let count : c.push_local.new.scope.next ≡ n + 1 + slots_of p = omega (arith, took.next, of.ensures.keeps.next, c.in_ok-push_local.ensures.next) in
+    let acts = block_acts c.args.inner.now in
+    act_err g r ls n _ _ _ c.from_residual-in_err-body.ensures.1 (λ ne. visit_body g r ls n read typed variable count
+    (ap (λ ls. check_acts g r ls c.push_local.new.scope.next [] acts) pushed ∙ c.in_err-body.ensures.checks ne))
 
-pub statement-returns-in_ok-body-in-Foreach-clause-checks : goal.statement-returns-in_ok-body-in-Foreach-clause-checks
-statement-returns-in_ok-body-in-Foreach-clause-checks t c =
+pub visit-returns-clause-checks : goal.visit-returns-clause-checks
+visit-returns-clause-checks t c =
     let g = env_of c.args.globals.now in
     let r = c.args.returned.now in
     let ls = c.args.scope.now.locals.items in
     let n = c.args.scope.now.next in
-    let read = visit_act c.in-Foreach.word _ c.in-Foreach.name c.in-Foreach.over c.in-Foreach.inner c.in-Foreach.is in
-    let p = expr_phrase c.in-Foreach.over in
-    let slot = c.in_ok-slot-in-Foreach in
+    let read : visiting c.args.at (word_of c.args.name.now) (expr_phrase c.args.over.now) (block_acts c.args.inner.now) ≡ visiting c.args.at (word_of c.args.name.now) (expr_phrase c.args.over.now) (block_acts c.args.inner.now) = refl in
+    let p = expr_phrase c.args.over.now in
+    let slot = c.in_ok-slot in
     let took = slot.ensures.keeps in
-    let typed : check g ls (n + 1) p ≡ Ok (typing_of c.in_ok-of-in-Foreach.of) =
-    ap (λ ls. check g ls (n + 1) p) (sym took.locals) ∙ ap (λ m. check g c.take_slot.new.scope.locals.items m p) (sym took.next) ∙ c.in_ok-of-in-Foreach.ensures.checks in
-    let of = c.in_ok-of-in-Foreach in
+    let typed : check g ls (n + 1) p ≡ Ok (typing_of c.in_ok-of.of) =
+    ap (λ ls. check g ls (n + 1) p) (sym took.locals) ∙ ap (λ m. check g c.take_slot.new.scope.locals.items m p) (sym took.next) ∙ c.in_ok-of.ensures.checks in
+    let of = c.in_ok-of in
     let same = of.ensures.keeps.locals ∙ took.locals in
-    let variable : variable_row g ls (word_of c.in-Foreach.name) c.in-Foreach.word.at n of.of.shape ≡ Ok c.in_ok-local-in-Foreach.local =
-    ap (λ ls. variable_row g ls (word_of c.in-Foreach.name) c.in-Foreach.word.at n of.of.shape) (sym (c.deref.ensures.value ∙ same))
-    ∙ ap (λ i. variable_row g c.deref.result.now (word_of c.in-Foreach.name) c.in-Foreach.word.at i of.of.shape) (sym slot.ensures.slot) ∙ c.in_ok-local-in-Foreach.ensures in
-    let local = c.in_ok-local-in-Foreach.local in
-    let pushed : ls ++ local ∷ [] ≡ c.push_local.new.scope.locals.items = ap (λ ls. ls ++ local ∷ []) (sym same) ∙ sym c.in_ok-push_local-in-Foreach.ensures.locals in
-    let count : c.push_local.new.scope.next ≡ n + 1 + slots_of p = omega (arith, took.next, of.ensures.keeps.next, c.in_ok-push_local-in-Foreach.ensures.next) in
-    let acts = block_acts c.in-Foreach.inner in
-    let body = c.in_ok-body-in-Foreach in
+    let variable : variable_row g ls (word_of c.args.name.now) c.args.at n of.of.shape ≡ Ok c.in_ok-local.local =
+    ap (λ ls. variable_row g ls (word_of c.args.name.now) c.args.at n of.of.shape) (sym (c.deref.ensures.value ∙ same))
+    ∙ ap (λ i. variable_row g c.deref.result.now (word_of c.args.name.now) c.args.at i of.of.shape) (sym slot.ensures.slot) ∙ c.in_ok-local.ensures in
+    let local = c.in_ok-local.local in
+    let pushed : ls ++ local ∷ [] ≡ c.push_local.new.scope.locals.items = ap (λ ls. ls ++ local ∷ []) (sym same) ∙ sym c.in_ok-push_local.ensures.locals in
+    let count : c.push_local.new.scope.next ≡ n + 1 + slots_of p = omega (arith, took.next, of.ensures.keeps.next, c.in_ok-push_local.ensures.next) in
+    let acts = block_acts c.args.inner.now in
+    let body = c.in_ok-body in
     let left : c.leave.new.scope.locals.items ≡ ls = c.leave.ensures.locals ∙ cut_back (extends_one local (body.ensures.keeps.locals ∙ sym pushed)) (c.len-depth.ensures ∙ c.args.scope.now.locals.ok.0) in
     let core : foreach n (expr_of of.of.core) (block_from (commands_in body.body.items)) ≡ command_of (stmt_view.Foreach slot.slot c.into_core.result body.body) =
     ap (λ i. foreach i (expr_of of.of.core) (block_from (commands_in body.body.items))) (sym slot.ensures.slot)
@@ -359,22 +306,17 @@ statement-returns-in_ok-body-in-Foreach-clause-checks t c =
     visit_done g r ls n read typed variable count (ap (λ ls. check_acts g r ls c.push_local.new.scope.next [] acts) pushed ∙ body.ensures.checks)
     ∙ ap (λ ls. Ok (done ls (foreach n (expr_of of.of.core) (block_from (commands_in body.body.items))))) (sym left) ∙ ap (λ s. Ok (done c.leave.new.scope.locals.items s)) core
 
-pub statement-returns-in_ok-body-in-Foreach-clause-next : goal.statement-returns-in_ok-body-in-Foreach-clause-next
-statement-returns-in_ok-body-in-Foreach-clause-next t c =
-    let n = c.args.scope.now.next in
-    let read = visit_act c.in-Foreach.word _ c.in-Foreach.name c.in-Foreach.over c.in-Foreach.inner c.in-Foreach.is in
-    let p = expr_phrase c.in-Foreach.over in
-    let slot = c.in_ok-slot-in-Foreach in
-    let took = slot.ensures.keeps in
-    omega (arith, ap slots_of_act read, took.next, c.in_ok-of-in-Foreach.ensures.keeps.next, c.in_ok-push_local-in-Foreach.ensures.next, c.in_ok-body-in-Foreach.ensures.keeps.next, c.leave.ensures.next)
+pub visit-returns-clause-next : goal.visit-returns-clause-next
+visit-returns-clause-next t c =
+    omega (arith, c.in_ok-slot.ensures.keeps.next, c.in_ok-of.ensures.keeps.next, c.in_ok-push_local.ensures.next, c.in_ok-body.ensures.keeps.next, c.leave.ensures.next)
 
-pub statement-returns-in_ok-body-in-Foreach-clause-grows : goal.statement-returns-in_ok-body-in-Foreach-clause-grows
-statement-returns-in_ok-body-in-Foreach-clause-grows t c =
+pub visit-returns-clause-grows : goal.visit-returns-clause-grows
+visit-returns-clause-grows t c =
     let ls = c.args.scope.now.locals.items in
-    let same = c.in_ok-of-in-Foreach.ensures.keeps.locals ∙ c.in_ok-slot-in-Foreach.ensures.keeps.locals in
-    let local = c.in_ok-local-in-Foreach.local in
-    let pushed : ls ++ local ∷ [] ≡ c.push_local.new.scope.locals.items = ap (λ ls. ls ++ local ∷ []) (sym same) ∙ sym c.in_ok-push_local-in-Foreach.ensures.locals in
-    extends_none (c.leave.ensures.locals ∙ cut_back (extends_one local (c.in_ok-body-in-Foreach.ensures.keeps.locals ∙ sym pushed)) (c.len-depth.ensures ∙ c.args.scope.now.locals.ok.0))
+    let same = c.in_ok-of.ensures.keeps.locals ∙ c.in_ok-slot.ensures.keeps.locals in
+    let local = c.in_ok-local.local in
+    let pushed : ls ++ local ∷ [] ≡ c.push_local.new.scope.locals.items = ap (λ ls. ls ++ local ∷ []) (sym same) ∙ sym c.in_ok-push_local.ensures.locals in
+    extends_none (c.leave.ensures.locals ∙ cut_back (extends_one local (c.in_ok-body.ensures.keeps.locals ∙ sym pushed)) (c.len-depth.ensures ∙ c.args.scope.now.locals.ok.0))
 
 pub statement-returns-in-Commit-clause-checks : goal.statement-returns-in-Commit-clause-checks
 statement-returns-in-Commit-clause-checks t c =

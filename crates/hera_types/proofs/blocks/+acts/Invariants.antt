@@ -1,10 +1,41 @@
-use Rattle.std.proofs.Common.{◌≡◌, ◌+◌, [], drop}
+use Rattle.std.proofs.Common.{◌≡◌, ℕ, ◌+◌, ◌*◌, [], drop}
+use Rattle.std.specs.Prelude.{max, Option, Some, None}
+use denote.Param.Weighed.{most}
+use Rattle.hera_syntax.specs.declared.tree.Block.{Block}
+use Rattle.hera_syntax.proofs.tree.Block.TheLaws.{the_size}
+use Rattle.hera_syntax.proofs.tree.ElseIf.TheLaws.{the_size as else_if_size}
 use Rattle.hera_rules.specs.Environments.{env_of}
 use Rattle.hera_rules.specs.ReadActs.{acts_in, branches_in}
 use Rattle.hera_rules.specs.Statements.{slots_of_acts, slots_of_branches}
 use Rattle.hera_rules.specs.CheckedActs.{check_acts, check_branches}
 use Rattle.hera_types.specs.Scopes.{Extends, commands_in, armed_in}
 use Rattle.hera_types.proofs.blocks.+acts.Given as goal
+
+abbrev last_size : Option Block → ℕ
+last_size None = 0
+last_size (Some b) = the_size b
+
+-- each call goes down the tree, or hands it on as it is to a function that stands below
+abbrev pub decreases-block : goal.decreases-block
+decreases-block l = 4 * goal.size-block l
+
+abbrev pub decreases-statement : goal.decreases-statement
+decreases-statement l = 4 * goal.size-statement l
+
+abbrev pub decreases-arm : goal.decreases-arm
+decreases-arm l = 4 * goal.size-arm l + 1
+
+abbrev pub decreases-visit : goal.decreases-visit
+decreases-visit l = 4 * the_size l.inner.now + 1
+
+abbrev pub decreases-repeat : goal.decreases-repeat
+decreases-repeat l = 4 * the_size l.inner.now + 2
+
+abbrev pub decreases-arms : goal.decreases-arms
+decreases-arms l = 4 * max (the_size l.first.now) (most else_if_size l.else_ifs.now) + 2
+
+abbrev pub decreases-branches : goal.decreases-branches
+decreases-branches l = 4 * max (the_size l.first.now) (max (most else_if_size l.else_ifs.now) (last_size l.last.now)) + 3
 
 abbrev pub invariant-block-loop-stmt : goal.invariant-block-loop-stmt
 invariant-block-loop-stmt l = record {
@@ -14,10 +45,10 @@ invariant-block-loop-stmt l = record {
   slots : l.scope.next + slots_of_acts (acts_in (drop l.stmt-index l.stmt-items)) ≡ l.fn.scope.next + slots_of_acts (acts_in l.stmt-items);
 }
 
-abbrev pub invariant-statement-loop-next : goal.invariant-statement-loop-next
-invariant-statement-loop-next l = record {
-  checked : check_branches (env_of l.globals) l.returned l.fn.scope.locals.items l.initial.scope.next (armed_in l.initial.arms.items) (branches_in l.next-items)
-      ≡ check_branches (env_of l.globals) l.returned l.fn.scope.locals.items l.scope.next (armed_in l.arms.items) (branches_in (drop l.next-index l.next-items));
+abbrev pub invariant-arms-loop-next : goal.invariant-arms-loop-next
+invariant-arms-loop-next l = record {
+  checked : check_branches (env_of l.globals) l.returned l.fn.scope.locals.items l.initial.scope.next (armed_in l.initial.all.items) (branches_in l.else_ifs)
+      ≡ check_branches (env_of l.globals) l.returned l.fn.scope.locals.items l.scope.next (armed_in l.all.items) (branches_in (drop l.next-index l.else_ifs));
   locals : l.scope.locals.items ≡ l.fn.scope.locals.items;
-  slots : l.scope.next + slots_of_branches (branches_in (drop l.next-index l.next-items)) ≡ l.initial.scope.next + slots_of_branches (branches_in l.next-items);
+  slots : l.scope.next + slots_of_branches (branches_in (drop l.next-index l.else_ifs)) ≡ l.initial.scope.next + slots_of_branches (branches_in l.else_ifs);
 }
