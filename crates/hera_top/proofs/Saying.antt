@@ -90,3 +90,7 @@ same_answers hosts read command b c n m status v is before now answers =
     subst (λ (x : Command). Answers hosts x c m status v) same
     (subst (λ (x : Seen). Answers hosts read x m status v) before
     (subst (λ (x : Seen). Answers hosts read b x status v) now answers))
+
+-- the status, as a number that is handed on
+pub numbered : (hosts : List Host) (command : Command) (before now : Seen) (status number : ℕ) (v : Passage) → number ≡ status → Answers hosts command before now status v → Answers hosts command before now number v
+numbered hosts command before now status number v is answers = subst (λ (n : ℕ). Answers hosts command before now n v) (sym is) answers

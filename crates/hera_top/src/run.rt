@@ -115,7 +115,7 @@ fn last_line(alloc: Global, end: End) -> Result<Line, AllocError>
 {
     match end {
         End::Done | End::Stuck => Ok(Line::new(Vec::new(alloc))),
-        End::Trap(name, at) => end_line(alloc, trap_label(name), u64::from(at)),
+        End::Trap(name, at) => Ok(end_line(alloc, trap_label(name), u64::from(at))?),
         End::Spent => Ok(Line::new(b"turns spent\n".to_vec(alloc)?)),
     }
 }
@@ -158,7 +158,8 @@ fn steps<W: Outside>(
                 say(outside, commit_line(alloc, commits.len())?.as_bytes())?;
             }
             Event::Ended(end) => {
-                say(outside, last_line(alloc, end)?.bytes())?;
+                let line = last_line(alloc, end)?;
+                say(outside, line.bytes())?;
                 return Ok(end);
             }
         }

@@ -31,7 +31,7 @@ steps-init g c =
 
 pub returns-in_err-step-clause-cut : goal.returns-in_err-step-clause-cut
 returns-in_err-step-clause-cut g c =
-    MatchResult-from_err c.from_residual-in_err-step.result _ _ c.from_residual-in_err-step.ensures.0
+    MatchResult-from_err c.from_residual.result _ _ c.from_residual.ensures.0
     (λ _. along_part c.args.code.now c.args.relations.now (specs_of c.args.hosts.now) c.args.base.now.state c.args.turns _ _ c.steps.invariant.bytes c.steps.commits.items c.steps.machine c.steps.invariant.along c.steps.invariant.said)
 
 pub steps-preserved-in-Quiet : goal.steps-preserved-in-Quiet
@@ -170,9 +170,9 @@ steps-smaller g c =
     comes_nearer c.args.code.now c.args.relations.now (specs_of c.args.hosts.now) c.args.base.now.state c.args.turns m n c.in_ok-step.field-0 events.Commit c.steps.invariant.along.code_is c.requires.forward c.in_ok-step.ensures.nearer c.in-Commit.is in
     subst (λ (x : Standing). left (length c.args.code.now.instrs) x.state < left (length c.args.code.now.instrs) m.state) (sym c.take_pending.ensures.taken) lower.less_left
 
-pub returns-in_err-last_line-in-Ended-clause-cut : goal.returns-in_err-last_line-in-Ended-clause-cut
-returns-in_err-last_line-in-Ended-clause-cut g c =
-    MatchResult-from_err c.from_residual-in_err-last_line-in-Ended.result _ _ c.from_residual-in_err-last_line-in-Ended.ensures.0
+pub returns-in_err-line-in-Ended-clause-cut : goal.returns-in_err-line-in-Ended-clause-cut
+returns-in_err-line-in-Ended-clause-cut g c =
+    MatchResult-from_err c.from_residual-in_err-line-in-Ended.result _ _ c.from_residual-in_err-line-in-Ended.ensures.0
     (λ _. along_part c.args.code.now c.args.relations.now (specs_of c.args.hosts.now) c.args.base.now.state c.args.turns _ _ c.steps.invariant.bytes c.steps.commits.items c.steps.machine c.steps.invariant.along c.steps.invariant.said)
 
 pub returns-in_err-say-in-Ended-clause-cut : goal.returns-in_err-say-in-Ended-clause-cut
@@ -185,7 +185,7 @@ returns-in_err-say-in-Ended-clause-cut g c =
     c.deref.ensures.value c.in-Ended.is (ens.steps i.along.works) in
     let ends = along_end c.args.code.now c.args.relations.now (specs_of c.args.hosts.now) c.args.base.now.state c.args.turns i.bytes c.steps.commits.items m n c.in-Ended.end i.along told in
     MatchResult-from_err c.from_residual-in_err-say-in-Ended.result _ _ c.from_residual-in_err-say-in-Ended.ensures.0
-    (λ _. ends_cut c.args.code.now c.args.relations.now (specs_of c.args.hosts.now) c.args.base.now.state c.args.turns _ _ _ i.bytes c.steps.commits.items c.in-Ended.end ends i.said (same_part _ _ _ _ (c.bytes-in-Ended.ensures ∙ c.in_ok-last_line-in-Ended.ensures) c.in_err-say-in-Ended.ensures.part))
+    (λ _. ends_cut c.args.code.now c.args.relations.now (specs_of c.args.hosts.now) c.args.base.now.state c.args.turns _ _ _ i.bytes c.steps.commits.items c.in-Ended.end ends i.said (same_part _ _ _ _ (c.bytes-in-Ended.ensures ∙ c.in_ok-line-in-Ended.ensures) c.in_err-say-in-Ended.ensures.part))
 
 pub returns-in_err-say-in-Ended-clause-any_moment : goal.returns-in_err-say-in-Ended-clause-any_moment
 returns-in_err-say-in-Ended-clause-any_moment g c =
@@ -196,7 +196,7 @@ returns-in_err-say-in-Ended-clause-any_moment g c =
     let told = stepped c.args.code.now c.args.relations.now (specs_of c.args.hosts.now) c.args.base.now.state c.args.turns m n c.steps.commits.items c.deref.result.now c.in_ok-step.field-0 (events.Ended c.in-Ended.end)
     c.deref.ensures.value c.in-Ended.is (ens.steps i.along.works) in
     let ends = along_end c.args.code.now c.args.relations.now (specs_of c.args.hosts.now) c.args.base.now.state c.args.turns i.bytes c.steps.commits.items m n c.in-Ended.end i.along told in
-    λ t. leaves-on _ _ (i.any_moment t) (c.say-in-Ended.ensures.any_moment t) (image_end c.args.code.now c.args.relations.now (specs_of c.args.hosts.now) c.args.base.now.state c.args.turns (g.W.Outside.disk c.args.outside.now) (g.W.Outside.disk c.steps.outside) (g.W.Output.emitted c.args.outside.now) (g.W.Output.emitted c.steps.outside) i.bytes c.bytes-in-Ended.result.now c.steps.commits.items c.in-Ended.end ends i.said (i.files t) (c.bytes-in-Ended.ensures ∙ c.in_ok-last_line-in-Ended.ensures))
+    λ t. leaves-on _ _ (i.any_moment t) (c.say-in-Ended.ensures.any_moment t) (image_end c.args.code.now c.args.relations.now (specs_of c.args.hosts.now) c.args.base.now.state c.args.turns (g.W.Outside.disk c.args.outside.now) (g.W.Outside.disk c.steps.outside) (g.W.Output.emitted c.args.outside.now) (g.W.Output.emitted c.steps.outside) i.bytes c.bytes-in-Ended.result.now c.steps.commits.items c.in-Ended.end ends i.said (i.files t) (c.bytes-in-Ended.ensures ∙ c.in_ok-line-in-Ended.ensures))
 
 pub returns-in-Ended-clause-whole : goal.returns-in-Ended-clause-whole
 returns-in-Ended-clause-whole g c =
@@ -207,7 +207,7 @@ returns-in-Ended-clause-whole g c =
     let told = stepped c.args.code.now c.args.relations.now (specs_of c.args.hosts.now) c.args.base.now.state c.args.turns m n c.steps.commits.items c.deref.result.now c.in_ok-step.field-0 (events.Ended c.in-Ended.end)
     c.deref.ensures.value c.in-Ended.is (ens.steps i.along.works) in
     let ends = along_end c.args.code.now c.args.relations.now (specs_of c.args.hosts.now) c.args.base.now.state c.args.turns i.bytes c.steps.commits.items m n c.in-Ended.end i.along told in
-    ends_said c.args.code.now c.args.relations.now (specs_of c.args.hosts.now) c.args.base.now.state c.args.turns _ _ _ i.bytes c.steps.commits.items c.in-Ended.end ends i.said (same_said _ _ _ _ (c.bytes-in-Ended.ensures ∙ c.in_ok-last_line-in-Ended.ensures) c.in_ok-say-in-Ended.ensures.whole)
+    ends_said c.args.code.now c.args.relations.now (specs_of c.args.hosts.now) c.args.base.now.state c.args.turns _ _ _ i.bytes c.steps.commits.items c.in-Ended.end ends i.said (same_said _ _ _ _ (c.bytes-in-Ended.ensures ∙ c.in_ok-line-in-Ended.ensures) c.in_ok-say-in-Ended.ensures.whole)
 
 pub returns-in-Ended-clause-any_moment : goal.returns-in-Ended-clause-any_moment
 returns-in-Ended-clause-any_moment g c =
@@ -218,4 +218,4 @@ returns-in-Ended-clause-any_moment g c =
     let told = stepped c.args.code.now c.args.relations.now (specs_of c.args.hosts.now) c.args.base.now.state c.args.turns m n c.steps.commits.items c.deref.result.now c.in_ok-step.field-0 (events.Ended c.in-Ended.end)
     c.deref.ensures.value c.in-Ended.is (ens.steps i.along.works) in
     let ends = along_end c.args.code.now c.args.relations.now (specs_of c.args.hosts.now) c.args.base.now.state c.args.turns i.bytes c.steps.commits.items m n c.in-Ended.end i.along told in
-    λ t. leaves-on _ _ (i.any_moment t) (c.say-in-Ended.ensures.any_moment t) (image_end c.args.code.now c.args.relations.now (specs_of c.args.hosts.now) c.args.base.now.state c.args.turns (g.W.Outside.disk c.args.outside.now) (g.W.Outside.disk c.steps.outside) (g.W.Output.emitted c.args.outside.now) (g.W.Output.emitted c.steps.outside) i.bytes c.bytes-in-Ended.result.now c.steps.commits.items c.in-Ended.end ends i.said (i.files t) (c.bytes-in-Ended.ensures ∙ c.in_ok-last_line-in-Ended.ensures))
+    λ t. leaves-on _ _ (i.any_moment t) (c.say-in-Ended.ensures.any_moment t) (image_end c.args.code.now c.args.relations.now (specs_of c.args.hosts.now) c.args.base.now.state c.args.turns (g.W.Outside.disk c.args.outside.now) (g.W.Outside.disk c.steps.outside) (g.W.Output.emitted c.args.outside.now) (g.W.Output.emitted c.steps.outside) i.bytes c.bytes-in-Ended.result.now c.steps.commits.items c.in-Ended.end ends i.said (i.files t) (c.bytes-in-Ended.ensures ∙ c.in_ok-line-in-Ended.ensures))

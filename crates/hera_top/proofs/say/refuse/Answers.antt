@@ -5,10 +5,10 @@ use Rattle.hera_top.specs.Outcome.{refused, line_of}
 use Rattle.hera_top.proofs.say.refuse.Goals as goal
 
 pub returns-in-Usage-clause-said : goal.returns-in-Usage-clause-said
-returns-in-Usage-clause-said g c = c.say_all.ensures.said (refused c.args.refusal) (ap line_of c.in-Usage.is) (sym c.status-status.ensures)
+returns-in-Usage-clause-said g c = c.say_all.ensures.said (refused c.args.refusal) (ap line_of c.in-Usage.is) (sym c.status-status.ensures.number)
 
 pub returns-in-Unread-clause-said : goal.returns-in-Unread-clause-said
-returns-in-Unread-clause-said g c = c.say_all-in-Unread.ensures.said (refused c.args.refusal) (ap line_of c.in-Unread.is) (sym c.status-status.ensures)
+returns-in-Unread-clause-said g c = c.say_all-in-Unread.ensures.said (refused c.args.refusal) (ap line_of c.in-Unread.is) (sym c.status-status.ensures.number)
 
 pub returns-in-Ok-clause-said : goal.returns-in-Ok-clause-said
-returns-in-Ok-clause-said g c = c.say_all-in-Ok.ensures.said (refused c.args.refusal) (ap line_of c.in-Script.is ∙ sym (c.bytes.ensures ∙ c.in-Ok.ensures ∙ ap (λ (name : List ℕ). end_text name c.from.result) c.label.ensures ∙ ap (λ (n : ℕ). end_text (label_of c.in-Script.cause) n) c.from.ensures)) (sym c.status-status.ensures)
+returns-in-Ok-clause-said g c = c.say_all-in-Ok.ensures.said (refused c.args.refusal) (ap line_of c.in-Script.is ∙ sym (c.bytes.ensures ∙ c.in-Ok.ensures ∙ ap (λ (name : List ℕ). end_text name c.from.result) c.label.ensures ∙ ap (λ (n : ℕ). end_text (label_of c.in-Script.cause) n) c.from.ensures)) (sym c.status-status.ensures.number)
