@@ -6,13 +6,15 @@
 
 ghost use Rattle.std.specs.Prelude.{◌≡◌, IfOk, length};
 
+mod file_outside;
 mod file_source;
+mod folder;
 mod standard_output;
 
+use file_outside::FileOutside;
 use file_source::FileSource;
 use hera_host::HostTable;
 use hera_top::{files_of, hera};
-use standard_output::StandardOutput;
 use std::alloc::{AllocError, Global};
 use std::fs::Files;
 use std::io;
@@ -61,7 +63,7 @@ fn status<R: Env + Files + Print + AllocGlobal + Drop>(rt: &R) -> Result<u8, All
         rt.alloc(),
         &words,
         &mut sources,
-        &mut StandardOutput::new(rt),
+        &mut FileOutside::new(rt, None),
         &HostTable::new(rt.alloc()),
     ))
 }
