@@ -11,7 +11,9 @@ mod fault;
 mod laws;
 mod words;
 
-pub use env::{FuncSig, Globals, Item, Local, Locals, ProcSig, Relations, LocalScope, Typed};
+pub use env::{FuncSig, Globals, Item, Local, LocalScope, Locals, ProcSig, Relations, Typed};
 pub use fault::TypeFault;
 pub use laws::typing_is_exact;
-pub use words::{Aggregate, Field, Fold, Joint, Measured, Pair, Prefix, Renamed, Test, WalkKind, Word};
+pub use words::{
+    Aggregate, Field, Fold, Joint, Measured, Pair, Prefix, Renamed, Test, WalkKind, Word,
+};

@@ -1,11 +1,12 @@
 -- What typing statements leaves of the scope.
-use Rattle.std.specs.Prelude.{◌≡◌, ◌≢◌, ℕ, ◌+◌, ◌++◌, List, [], map, Option, Result, Ok, Err, Vec}
+use Rattle.std.specs.Prelude.{◌≡◌, ◌≢◌, ℕ, ◌+◌, ◌++◌, List, [], map, Option, Result, Ok, Err, Vec, Bool, true, false}
 use Rattle.std.specs.declared.alloc.Global.{Global}
 use Rattle.hera_meaning.specs.declared.trees.Stmt.{Stmt}
 use Rattle.hera_meaning.specs.declared.trees.Arm.{Arm}
 use Rattle.hera_meaning.specs.declared.trees.Shape.{Shape}
 use Rattle.hera_meaning.specs.Trees.{Command}
 use Rattle.hera_meaning.specs.Plain.{command_of, expr_of}
+use Rattle.hera_syntax.specs.declared.tree.StmtTree.{StmtTree, If', While', Foreach'}
 use Rattle.hera_rules.specs.declared.env.Local.{Local}
 use Rattle.hera_rules.specs.declared.fault.TypeFault.{TypeFault}
 use Rattle.hera_rules.specs.declared.fault.TypeFault.TheVariants.{Memory as memory}
@@ -15,6 +16,13 @@ use Rattle.hera_rules.specs.Checked.{and_then, check}
 use Rattle.hera_rules.specs.Typing.{slots_of}
 use Rattle.hera_rules.specs.Commands.{done, Armed, cond_row}
 use Rattle.hera_rules.specs.CheckedActs.{check_act, check_acts}
+
+-- whether a block is written in the statement
+abbrev pub has_block : StmtTree → Bool
+has_block (If' word bracket e brace shape stmts shape' elses last) = true
+has_block (While' word bracket e brace shape stmts) = true
+has_block (Foreach' word bracket n e brace shape stmts) = true
+has_block _ = false
 
 abbrev pub commands_in : List Stmt → List Command
 commands_in ss = map command_of ss

@@ -1,6 +1,6 @@
 // Cores of blocks of statements.
 
-ghost use Rattle.std.specs.Prelude.{◌≡◌, ◌+◌, [], OnOk};
+ghost use Rattle.std.specs.Prelude.{◌≡◌, ◌+◌, [], OnOk, true};
 ghost use Rattle.hera_meaning.specs.Plain.{block_in, command_of, expr_of};
 ghost use Rattle.hera_meaning.specs.Trees as trees;
 ghost use Rattle.hera_rules.specs.Agrees.{Gives, Keeps};
@@ -11,7 +11,7 @@ ghost use Rattle.hera_rules.specs.Read.{expr_phrase, word_of};
 ghost use Rattle.hera_rules.specs.ReadActs.{act_of, block_acts, branches_in, last_in};
 ghost use Rattle.hera_rules.specs.Statements.{slots_of_act, slots_of_acts, slots_of_branches};
 ghost use Rattle.hera_rules.specs.Typing.{slots_of};
-ghost use Rattle.hera_types.specs.Scopes.{ActGives, Extends, all_armed, arm_row, armed_of, commands_of};
+ghost use Rattle.hera_types.specs.Scopes.{ActGives, Extends, all_armed, arm_row, armed_of, commands_of, has_block};
 
 use crate::statements::{apply, assign, claim, declare, give_back, perform, print};
 use hera_meaning::{Arm, Shape, Stmt};
@@ -202,6 +202,41 @@ fn statement(
     ensures grows { OnOk result (Extends scope.old.locals.items scope.new.locals.items) }
 {
     match e {
+        StmtTree::If { .. } | StmtTree::While { .. } | StmtTree::Foreach { .. } => {
+            nested(alloc, globals, returned, scope, e)
+        }
+        StmtTree::Declare {
+            type_tree,
+            name,
+            value,
+        } => declare(alloc, globals, returned, scope, type_tree, name, value),
+        StmtTree::Assign { name, value } => assign(alloc, globals, returned, scope, name, value),
+        StmtTree::Call { name, args, .. } => perform(alloc, globals, returned, scope, name, args),
+        StmtTree::Print { word, value } => print(alloc, globals, returned, scope, word.at, value),
+        StmtTree::Apply { word, value } => apply(alloc, globals, returned, scope, word.at, value),
+        StmtTree::Assert { word, value } => claim(alloc, globals, returned, scope, word.at, value),
+        StmtTree::Commit(word) => effect_row_of(returned.is_some(), word.at, Stmt::Commit),
+        StmtTree::Rollback(word) => effect_row_of(returned.is_some(), word.at, Stmt::Rollback),
+        StmtTree::Return { word, value } => give_back(alloc, globals, returned, scope, word, value),
+    }
+}
+
+/// A statement with a block in it.
+#[cycle(acts)]
+#[tactic(auto, using(hera_rules::proofs::ReadActLaws::read_acts))]
+fn nested(
+    alloc: Global,
+    globals: &Globals,
+    returned: &Option<Shape>,
+    scope: &mut LocalScope,
+    e: &StmtTree,
+) -> Result<Stmt, TypeFault>
+    requires { has_block e.now ≡ true }
+    ensures checks { ActGives result scope.new.locals.items (env_of globals.now) returned.now scope.old.locals.items scope.old.next (act_of e.now) }
+    ensures next { OnOk result (scope.new.next ≡ scope.old.next + slots_of_act (act_of e.now)) }
+    ensures grows { OnOk result (Extends scope.old.locals.items scope.new.locals.items) }
+{
+    match e {
         StmtTree::If {
             word,
             condition,
@@ -225,19 +260,7 @@ fn statement(
             block: inner,
             ..
         } => visit(alloc, globals, returned, scope, word.at, name, over, inner),
-        StmtTree::Declare {
-            type_tree,
-            name,
-            value,
-        } => declare(alloc, globals, returned, scope, type_tree, name, value),
-        StmtTree::Assign { name, value } => assign(alloc, globals, returned, scope, name, value),
-        StmtTree::Call { name, args, .. } => perform(alloc, globals, returned, scope, name, args),
-        StmtTree::Print { word, value } => print(alloc, globals, returned, scope, word.at, value),
-        StmtTree::Apply { word, value } => apply(alloc, globals, returned, scope, word.at, value),
-        StmtTree::Assert { word, value } => claim(alloc, globals, returned, scope, word.at, value),
-        StmtTree::Commit(word) => effect_row_of(returned.is_some(), word.at, Stmt::Commit),
-        StmtTree::Rollback(word) => effect_row_of(returned.is_some(), word.at, Stmt::Rollback),
-        StmtTree::Return { word, value } => give_back(alloc, globals, returned, scope, word, value),
+        _ => unreachable!(),
     }
 }
 

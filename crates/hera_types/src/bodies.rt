@@ -11,7 +11,7 @@ ghost use Rattle.hera_types.specs.Passes.{bodies_of, body_row, func_body_row};
 
 use crate::blocks::block;
 use hera_meaning::{Arm, Body, Shape, Stmt};
-use hera_rules::{FuncSig, Globals, Local, ProcSig, LocalScope, TypeFault};
+use hera_rules::{FuncSig, Globals, Local, LocalScope, ProcSig, TypeFault};
 use hera_syntax::{Block, Func, Main, Proc};
 use hera_types_parts::{number_of, put};
 use std::alloc::{AllocError, Global};

@@ -42,12 +42,7 @@ pub fn project_row_of(
 }
 
 /// The operation of a `project`.
-fn projection(
-    alloc: Global,
-    at: u32,
-    words: &[Word],
-    value: &Typed,
-) -> Result<Operation, TypeFault>
+fn projection(alloc: Global, at: u32, words: &[Word], value: &Typed) -> Result<Operation, TypeFault>
     ensures { Gives (over_one (expr_of value.now.core) at) result (project_row at words.now (typing_of value.now)) }
 {
     let Shape::Rel(schema) = &value.shape else {

@@ -20,7 +20,10 @@ abbrev pub decreases-block : goal.decreases-block
 decreases-block l = 4 * goal.size-block l
 
 abbrev pub decreases-statement : goal.decreases-statement
-decreases-statement l = 4 * goal.size-statement l
+decreases-statement l = 4 * goal.size-statement l + 1
+
+abbrev pub decreases-nested : goal.decreases-nested
+decreases-nested l = 4 * goal.size-nested l
 
 abbrev pub decreases-arm : goal.decreases-arm
 decreases-arm l = 4 * goal.size-arm l + 1
