@@ -1,7 +1,9 @@
 //! Layers.
-ghost use Rattle.std.specs.Prelude.{◌≡◌, [], ◌∷◌, OnOk, MatchOption, drop};
+ghost use Rattle.std.specs.Prelude.{◌≡◌, [], ◌∷◌, OnOk, OnErr, MatchOption, drop, length};
 ghost use Rattle.hera_frames.specs.Applied.{applied_layers};
 
+use crate::Stack;
+use crate::values::let_go;
 use crate::views::apply_all;
 use delta_atoms::Delta;
 use hera_meaning::RelId;
@@ -12,17 +14,16 @@ use std::marker::Model;
 /// The deltas under which a machine reads, seen with the newest first.
 #[derive(Drop)]
 pub struct Layers {
-    items: Vec<Delta>,
+    items: Stack<Delta>,
 }
 
 impl Model for Layers {
     ghost use Rattle.std.specs.Prelude.{List};
     ghost use Rattle.hera_meaning.specs.Deltas.{Delta};
-    ghost use Rattle.hera_prims.specs.Newest.{newest};
 
     ghost Value = { List Delta };
 
-    ghost view = { λ s. newest (λ d. d) s.items.items };
+    ghost view = { λ s. s.items };
 }
 
 impl Layers {
@@ -31,21 +32,27 @@ impl Layers {
         ensures { result ≡ [] }
     {
         Layers {
-            items: Vec::new(alloc),
+            items: Stack::new(alloc),
         }
     }
 
     /// Puts a layer upon the others.
-    #[tactic(auto, using(hera_prims::proofs::Stacks::newest_push))]
     pub fn push(&mut self, delta: Delta) -> Result<(), AllocError>
-        ensures { OnOk result (self.new ≡ delta ∷ self.old) }
+        ensures ok { OnOk result (self.new ≡ delta ∷ self.old) }
+        ensures err { OnErr result (self.new ≡ self.old) }
     {
         self.items.push(delta)?;
         Ok(())
     }
 
+    /// How many layers there are.
+    pub fn len(&self) -> usize
+        ensures { result ≡ length self.now }
+    {
+        self.items.len()
+    }
+
     /// Takes the newest layer off. It takes no memory.
-    #[tactic(auto, using(hera_prims::proofs::Stacks::newest_push))]
     pub fn pop(&mut self) -> Option<Delta>
         ensures { MatchOption result ((self.old ≡ []) × (self.new ≡ [])) (λ d. self.old ≡ d ∷ self.new) }
     {
@@ -70,9 +77,6 @@ impl Layers {
     pub fn apply_to(&self, rows: &mut RowSet, rel: RelId) -> Result<(), AllocError>
         ensures { OnOk result (rows.new ≡ applied_layers rel.0 rows.old self.now) }
     {
-        apply_all(rows, rel, &self.items)
+        apply_all(rows, rel, self.items.oldest_first())
     }
 }
-
-/// Lets a delta go.
-fn let_go(_delta: Delta) {}

@@ -4,7 +4,7 @@ ghost use Rattle.std.specs.Option.{option_map, is_some};
 ghost use Rattle.hera_meaning.specs.Worlds.{set_local, locals_from};
 ghost use Rattle.delta_atoms.specs.Plain.{value_of};
 
-use crate::values::{discard, int_zero};
+use crate::values::{int_zero, let_go};
 use delta_atoms::{Value, copy_value};
 use hera_prims::Args;
 use std::alloc::{AllocError, Global};
@@ -64,10 +64,10 @@ impl Locals {
         ensures put { self.new ≡ set_local self.old i (value_of v) }
     {
         if i < self.items.len() {
-            discard(replace(&mut self.items[i], v));
+            let_go(replace(&mut self.items[i], v));
             true
         } else {
-            discard(v);
+            let_go(v);
             false
         }
     }

@@ -4,6 +4,7 @@ ghost use Rattle.std.specs.Option.{option_map};
 ghost use Rattle.hera_code.specs.Machine.{taken};
 ghost use Rattle.delta_atoms.specs.Plain.{value_of};
 
+use crate::Stack;
 use delta_atoms::Value;
 use hera_prims::Args;
 use std::alloc::{AllocError, Global};
@@ -13,18 +14,17 @@ use std::mem::replace;
 /// Operands, seen with the newest first.
 #[derive(Drop)]
 pub struct Operands {
-    items: Vec<Value>,
+    items: Stack<Value>,
 }
 
 impl Model for Operands {
-    ghost use Rattle.std.specs.Prelude.{List};
+    ghost use Rattle.std.specs.Prelude.{List, map};
     ghost use Rattle.hera_meaning.specs.Values as plain;
     ghost use Rattle.delta_atoms.specs.Plain.{value_of};
-    ghost use Rattle.hera_prims.specs.Newest.{newest};
 
     ghost Value = { List plain.Value };
 
-    ghost view = { λ s. newest value_of s.items.items };
+    ghost view = { λ s. map value_of s.items };
 }
 
 impl Operands {
@@ -33,12 +33,11 @@ impl Operands {
         ensures { result ≡ [] }
     {
         Operands {
-            items: Vec::new(alloc),
+            items: Stack::new(alloc),
         }
     }
 
     /// Puts an operand upon the others.
-    #[tactic(auto, using(hera_prims::proofs::Stacks::newest_push))]
     pub fn push(&mut self, v: Value) -> Result<(), AllocError>
         ensures { OnOk result (self.new ≡ value_of v ∷ self.old) }
     {
@@ -47,7 +46,6 @@ impl Operands {
     }
 
     /// Takes the newest operand off. It takes no memory.
-    #[tactic(auto, using(hera_prims::proofs::Stacks::newest_push))]
     pub fn pop(&mut self) -> Option<Value>
         ensures { MatchOption result (self.old ≡ []) (λ v. self.old ≡ value_of v ∷ self.new) }
     {
@@ -74,7 +72,7 @@ impl Operands {
         ensures all { result ≡ self.old }
         ensures none { self.new ≡ [] }
     {
-        if self.items.is_empty() {
+        if self.items.len() == 0 {
             Operands::new(alloc)
         } else {
             replace(self, Operands::new(alloc))

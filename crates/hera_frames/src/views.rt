@@ -12,6 +12,7 @@ use std::alloc::AllocError;
 fn put_all(rows: &mut RowSet, more: &RowSet) -> Result<(), AllocError>
     ensures { OnOk result (rows.new ≡ union_of rows.old more.now) }
 {
+    // for the proof alone: the rows ascend
     let _len = rows.len();
     for i in 0..more.len() {
         let _new = rows.insert(more.row(i))?;

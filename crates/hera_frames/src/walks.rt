@@ -1,5 +1,5 @@
 //! Walks.
-ghost use Rattle.std.specs.Prelude.{◌≡◌, [], ◌∷◌, None, OnOk, IfOk, MatchOption};
+ghost use Rattle.std.specs.Prelude.{◌≡◌, [], None, OnOk, IfOk, MatchOption};
 ghost use Rattle.hera_sets.specs.Rows.{put};
 ghost use Rattle.hera_code.specs.Machine.{with_current};
 ghost use Rattle.hera_frames.specs.Walking.{IsAtEnd, IsAtRow};
@@ -89,49 +89,5 @@ impl Walk {
             gathered,
         } = self;
         gathered
-    }
-}
-
-/// Walks, seen with the newest first.
-#[derive(Drop)]
-pub struct Walks {
-    items: Vec<Walk>,
-}
-
-impl Model for Walks {
-    ghost use Rattle.std.specs.Prelude.{List};
-    ghost use Rattle.hera_code.specs.Machine as machine;
-    ghost use Rattle.hera_prims.specs.Newest.{newest};
-
-    ghost Value = { List machine.Walk };
-
-    ghost view = { λ s. newest (λ w. w) s.items.items };
-}
-
-impl Walks {
-    /// No walks. It takes no memory.
-    pub fn new(alloc: Global) -> Walks
-        ensures { result ≡ [] }
-    {
-        Walks {
-            items: Vec::new(alloc),
-        }
-    }
-
-    /// Puts a walk upon the others.
-    #[tactic(auto, using(hera_prims::proofs::Stacks::newest_push))]
-    pub fn push(&mut self, walk: Walk) -> Result<(), AllocError>
-        ensures { OnOk result (self.new ≡ walk ∷ self.old) }
-    {
-        self.items.push(walk)?;
-        Ok(())
-    }
-
-    /// Takes the newest walk off. It takes no memory.
-    #[tactic(auto, using(hera_prims::proofs::Stacks::newest_push))]
-    pub fn pop(&mut self) -> Option<Walk>
-        ensures { MatchOption result (self.old ≡ []) (λ w. self.old ≡ w ∷ self.new) }
-    {
-        self.items.pop()
     }
 }

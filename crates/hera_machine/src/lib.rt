@@ -11,6 +11,3 @@ mod running;
 
 pub use events::{End, Event, Status};
 pub use machine::Machine;
-
-#[cfg(test)]
-mod tests;

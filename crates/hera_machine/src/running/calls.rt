@@ -1,0 +1,90 @@
+//! Calls of bodies, and the ways back to the frame that waits.
+ghost use Rattle.std.specs.Prelude.{◌≡◌, ◌+◌, ◌<◌, ◌^◌, [], ◌∷◌, IfOk, slice_get, if◌then◌else◌};
+ghost use Rattle.hera_code.specs.Machine.{quiet, ends, stuck, on_top, calls_body, goes_back};
+ghost use Rattle.hera_machine.specs.Telling.{step_of};
+
+use super::{Running, stuck};
+use crate::events::{End, Told};
+use hera_code::Code;
+use hera_frames::{Frame, Locals, Stack};
+use std::alloc::AllocError;
+use std::mem::replace;
+
+impl Running {
+    pub(super) fn call(&mut self, code: &Code, k: u32) -> Result<Told, AllocError>
+        requires { self.old.at + 1 < 2 ^ 64 }
+        ensures { IfOk result (λ told. step_of told self.new ≡ calls_body (slice_get code.now.bodies k) self.old) }
+    {
+        let Some(body) = code.bodies.get(k as usize) else {
+            return stuck();
+        };
+        if body.params > body.slots {
+            return stuck();
+        }
+        let Some(args) = self.operands.take(self.alloc, body.params as usize)? else {
+            return stuck();
+        };
+        if self.turns == 0 {
+            return Ok(Told::Ended(End::Spent));
+        }
+        let locals = Locals::start(self.alloc, args, body.slots)?;
+        let frame = Frame {
+            at: self.at + 1,
+            operands: self.operands.take_all(self.alloc),
+            locals: replace(&mut self.locals, locals),
+            walks: replace(&mut self.walks, Stack::new(self.alloc)),
+            own: self.own,
+        };
+        self.callers.push(frame)?;
+        self.own = 0;
+        self.at = body.at as usize;
+        self.turns -= 1;
+        Ok(Told::Quiet)
+    }
+
+    /// Goes back to the frame that waits, if there is one.
+    fn go_back(&mut self) -> bool
+        ensures { goes_back self.old.callers [] self.old ≡ (if result then quiet self.new else ends stuck) }
+    {
+        let Some(frame) = self.callers.pop() else {
+            return false;
+        };
+        let Frame {
+            at,
+            operands,
+            locals,
+            walks,
+            own,
+        } = frame;
+        self.layers.drop_newest(self.own);
+        self.at = at;
+        self.operands = operands;
+        self.locals = locals;
+        self.walks = walks;
+        self.own = own;
+        true
+    }
+
+    pub(super) fn ret(&mut self) -> Result<Told, AllocError>
+        ensures { IfOk result (λ told. step_of told self.new ≡ goes_back self.old.callers [] self.old) }
+    {
+        if self.go_back() {
+            Ok(Told::Quiet)
+        } else {
+            stuck()
+        }
+    }
+
+    pub(super) fn ret_val(&mut self) -> Result<Told, AllocError>
+        ensures { IfOk result (λ told. step_of told self.new ≡ on_top self.old.operands (λ v vs. goes_back self.old.callers (v ∷ []) self.old)) }
+    {
+        let Some(v) = self.operands.pop() else {
+            return stuck();
+        };
+        if !self.go_back() {
+            return stuck();
+        }
+        self.operands.push(v)?;
+        Ok(Told::Quiet)
+    }
+}

@@ -1,0 +1,59 @@
+//! Jumps: an address past the code's end leaves the run stuck, and a jump back spends a turn.
+ghost use Rattle.std.specs.Prelude.{◌≡◌, ◌+◌, ◌<◌, ◌^◌, IfOk};
+ghost use Rattle.hera_code.specs.Machine.{quiet, on_with, on_top, needs_address, goes_to, spends, by_bool};
+ghost use Rattle.hera_machine.specs.Telling.{step_of};
+
+use super::{Running, stuck};
+use crate::events::{End, Told};
+use hera_code::Code;
+use hera_frames::bool_of;
+use std::alloc::AllocError;
+
+impl Running {
+    pub(super) fn jump(&mut self, code: &Code, a: u32) -> Result<Told, AllocError>
+        ensures { IfOk result (λ told. step_of told self.new ≡ goes_to code.now a self.old) }
+    {
+        if (a as usize) >= code.instrs.len() {
+            return stuck();
+        }
+        self.at = a as usize;
+        Ok(Told::Quiet)
+    }
+
+    pub(super) fn unless(&mut self, code: &Code, a: u32) -> Result<Told, AllocError>
+        requires { self.old.at + 1 < 2 ^ 64 }
+        ensures { IfOk result (λ told. step_of told self.new ≡ on_top self.old.operands (λ v vs. needs_address code.now a (by_bool v (quiet (on_with vs self.old)) (quiet (record self.old { at = a; operands = vs }))))) }
+    {
+        let Some(v) = self.operands.pop() else {
+            return stuck();
+        };
+        if (a as usize) >= code.instrs.len() {
+            return stuck();
+        }
+        match bool_of(&v) {
+            None => stuck(),
+            Some(true) => {
+                self.at += 1;
+                Ok(Told::Quiet)
+            }
+            Some(false) => {
+                self.at = a as usize;
+                Ok(Told::Quiet)
+            }
+        }
+    }
+
+    pub(super) fn back(&mut self, code: &Code, a: u32) -> Result<Told, AllocError>
+        ensures { IfOk result (λ told. step_of told self.new ≡ needs_address code.now a (spends self.old.turns (λ n. quiet (record self.old { at = a; turns = n })))) }
+    {
+        if (a as usize) >= code.instrs.len() {
+            return stuck();
+        }
+        if self.turns == 0 {
+            return Ok(Told::Ended(End::Spent));
+        }
+        self.turns -= 1;
+        self.at = a as usize;
+        Ok(Told::Quiet)
+    }
+}
