@@ -5,4 +5,5 @@ pub mod Beginnings
 pub mod Whole
 pub mod Steps
 pub mod Choices
+pub mod Levels
 pub mod OneFault

@@ -82,6 +82,15 @@ pub rows_more : {A : Type 0} (f : A → List Mark) (ms : List Mark) (xs : List A
 rows_more f ms xs x g h e =
     as_marks (ap (λ r. ms ++ flat_map f r) e ∙ (ap (λ r. ms ++ r) (flat_map_last f xs x) ∙ sym (append_assoc ms (flat_map f xs) (f x)))) (join g h)
 
+-- the items of a list that is read: its first one, and those behind it
+pub items_start : {A T : Type 0} (g : A → List Mark) (f : T → List Mark) (m : List Mark) {P qs : List Part} {a b : List Token} {first given : A} {xs : List T} →
+    Gives P a (m ++ g first) qs b → given ≡ first → xs ≡ [] → Gives P a (m ++ g given ++ flat_map f xs) qs b
+items_start g f m {xs = xs} r e k = as_marks (ap (λ x. m ++ g x ++ flat_map f xs) e) (rows_start f r k)
+
+pub items_more : {A T : Type 0} (g : A → List Mark) (f : T → List Mark) (m : List Mark) (xs : List T) (x : T) {P qs rs : List Part} {a b c : List Token} {first given : A} {ys : List T} →
+    Gives P a (m ++ g first ++ flat_map f xs) qs b → Gives qs b (f x) rs c → given ≡ first → ys ≡ xs ++ x ∷ [] → Gives P a (m ++ g given ++ flat_map f ys) rs c
+items_more g f m xs x {first = first} {ys = ys} r h e k = as_marks (ap (λ y. m ++ g y ++ flat_map f ys) e) (rows_more f (m ++ g first) xs x r h k)
+
 -- the parser's place moves past a token
 there : (codes : List Terminal) (ts : List Token) (i : ℕ) → stands codes (next_terminal (drop i ts)) ≡ true → i < length ts
 there codes ts i h = ⊎_elim (λ l. l) (λ g. absurd (let none : stands codes (next_terminal (drop i ts)) ≡ false = ap (λ x. stands codes (next_terminal x)) (drop_all i ts g) in cc)) (cases_lt i (length ts))

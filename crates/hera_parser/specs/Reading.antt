@@ -199,6 +199,11 @@ pub data Runs : List Part → List Token → List Mark → End → Type 0 where
 pub record Tells (s : Production) (k : ℕ) (tokens : List Token) : Type 0 where
   pub number : choice s (next_terminal tokens) ≡ k
 
+-- the next of these tokens begins none of these alternatives
+abbrev pub BeginsNone : List (List Part) → List Token → Type 0
+BeginsNone [] tokens = Unit {0}
+BeginsNone (q ∷ qs) tokens = (stands (starts q) (next_terminal tokens) ≡ false) × BeginsNone qs tokens
+
 -- Reading ps from old is as reading qs from new, whatever follows, and what lies between has this outline.
 pub record Gives (ps : List Part) (old : List Token) (ms : List Mark) (qs : List Part) (new : List Token) : Type 0 where
   pub goes : (rest : List Part) (ns : List Mark) (e : End) → Runs (qs ++ rest) new ns e → Runs (ps ++ rest) old (ms ++ ns) e

@@ -1,173 +1,110 @@
 // Expressions.
 
-ghost use Rattle.std.specs.Prelude.{◌<◌, ◌≤◌, [], ◌∷◌, length, IfOk, OnOk, IsErrOf};
-ghost use Rattle.hera_syntax.specs.Grammar.{phrase};
+ghost use Rattle.std.specs.Prelude.{◌≡◌, ◌<◌, ◌≤◌, [], ◌∷◌, length, take, IfOk, OnOk, IsErrOf};
+ghost use Rattle.hera_syntax.specs.Grammar.{alternatives, keep, phrase};
 ghost use Rattle.hera_syntax.specs.Grammar as phrases;
-ghost use Rattle.hera_syntax.specs.Outline.{and_outline, args_outline, atom_outline, atoms_outline, binding_outline, bindings_outline, cmp_outline, expr_outline, line_outline, lines_outline, merge_outline, or_outline, post_outline, prefix_outline, prime_outline, smash_outline, some_args_outline, some_atoms_outline, some_lines_outline, sum_outline, term_outline};
-ghost use Rattle.hera_parser.specs.Reading.{Tells, Gives, Sticks};
+ghost use Rattle.hera_syntax.specs.Operators.{operand_of, operators_of};
+ghost use Rattle.hera_syntax.specs.Outline.{args_outline, atom_outline, atoms_outline, binding_outline, bindings_outline, expr_outline, line_outline, lines_outline, operand_outline, post_outline, prefix_outline, prime_outline, production_of, some_args_outline, tail_outline};
+ghost use Rattle.hera_parser.specs.Reading.{BeginsNone, Tells, Gives, Sticks};
 
-use crate::parser::{Parser, Stop};
+use crate::parser::{Items, Parser, Stop};
 use crate::terminals::{
-    AND_OPS, BRACE, BULK, BY, CLOSE_BRACE, CLOSE_PAREN, CLOSE_SQUARE, CMP_OPS, COLON, COMMA,
-    EQUALS, EXPR_STARTS, FAIL, FALSE, FOLD_WORDS, GROUP, IN, INT, MEASURE_WORDS, MERGE_OPS, NAME,
-    OR_OPS, PAIR_WORDS, PAREN, PART_WORDS, PREFIX_OPS, PROJECT, RENAME, ROWS, SEMICOLON, SIGNS,
-    SMASH_OPS, SQUARE, SUM_OPS, TERM_OPS, TEXT, TRUE, WALK_WORDS, WHEN,
+    BRACE, BULK, BY, CLOSE_BRACE, CLOSE_PAREN, CLOSE_SQUARE, CMP_OPS, COLON, COMMA, EQUALS,
+    EXPR_STARTS, FAIL, FALSE, FOLD_WORDS, GROUP, IN, INT, MEASURE_WORDS, NAME, PAIR_WORDS, PAREN,
+    PART_WORDS, PREFIX_OPS, PROJECT, RENAME, ROWS, SEMICOLON, SIGNS, SQUARE, TEXT, TRUE,
+    WALK_WORDS,
 };
 use hera_syntax::{
-    And, AndTail, Args, Atom, Atoms, Binding, Bindings, Cmp, Expr, Line, Lines, Merge, MergeTail,
-    Or, OrTail, Post, Prefix, Prime, Smash, SmashTail, Sum, SumTail, Term, TermTail, WhenTail,
+    Args, Atom, Atoms, Binding, Bindings, Expr, Level, Line, Lines, Operand, Post, Prefix, Prime,
+    Tail,
 };
 use std::alloc::Global;
 
 impl<'a> Parser<'a> {
-    /// `or ('when' or)*`
-    #[cycle(expr)]
+    /// An expression.
     pub fn expr(&mut self, alloc: Global) -> Result<Expr, Stop>
-        ensures reads { IfOk result (λ tree. Gives (phrase (phrases.level phrases.whens) ∷ []) self.old (expr_outline tree) [] self.new) }
-        ensures sticks { IsErrOf result Stop.Syntax → Sticks (phrase (phrases.level phrases.whens) ∷ []) self.old self.new }
+        ensures reads { IfOk result (λ tree. Gives (phrase phrases.expr ∷ []) self.old (expr_outline tree) [] self.new) }
+        ensures sticks { IsErrOf result Stop.Syntax → Sticks (phrase phrases.expr ∷ []) self.old self.new }
         ensures shorter { OnOk result (length self.new < length self.old) }
     {
-        let first = self.or_level(alloc)?;
-        let mut rest = Vec::new(alloc);
-        'rest: while self.next_is(WHEN) {
-            let op = self.expect(WHEN)?;
-            let operand = self.or_level(alloc)?;
-            let copy = op.copy()?;
-            let tail = WhenTail::new(copy, operand);
-            rest.push(tail)?;
-        }
-        Ok(Expr::new(first, rest))
+        self.level(alloc, Level::Whens)
     }
 
-    /// `and ('||' and)*`
+    /// An expression of a level.
     #[cycle(expr)]
-    fn or_level(&mut self, alloc: Global) -> Result<Or, Stop>
-        ensures reads { IfOk result (λ tree. Gives (phrase (phrases.level phrases.ors) ∷ []) self.old (or_outline tree) [] self.new) }
-        ensures sticks { IsErrOf result Stop.Syntax → Sticks (phrase (phrases.level phrases.ors) ∷ []) self.old self.new }
+    fn level(&mut self, alloc: Global, level: Level) -> Result<Expr, Stop>
+        ensures reads { IfOk result (λ tree. Gives (phrase (production_of level) ∷ []) self.old (expr_outline tree) [] self.new) }
+        ensures sticks { IsErrOf result Stop.Syntax → Sticks (phrase (production_of level) ∷ []) self.old self.new }
         ensures shorter { OnOk result (length self.new < length self.old) }
     {
-        let first = self.and_level(alloc)?;
-        let mut rest = Vec::new(alloc);
-        'rest: while self.next_is(OR_OPS) {
-            let op = self.expect(OR_OPS)?;
-            let operand = self.and_level(alloc)?;
-            let copy = op.copy()?;
-            let tail = OrTail::new(copy, operand);
-            rest.push(tail)?;
+        match level {
+            Level::Comparisons => self.comparison(alloc),
+            _ => self.chain(alloc, level),
         }
-        Ok(Or::new(first, rest))
     }
 
-    /// `cmp ('&&' cmp)*`
+    /// A chain of operands of a level, which is not that of comparisons.
     #[cycle(expr)]
-    fn and_level(&mut self, alloc: Global) -> Result<And, Stop>
-        ensures reads { IfOk result (λ tree. Gives (phrase (phrases.level phrases.ands) ∷ []) self.old (and_outline tree) [] self.new) }
-        ensures sticks { IsErrOf result Stop.Syntax → Sticks (phrase (phrases.level phrases.ands) ∷ []) self.old self.new }
+    fn chain(&mut self, alloc: Global, level: Level) -> Result<Expr, Stop>
+        requires { ¬ (level ≡ Level.Comparisons) }
+        ensures reads { IfOk result (λ tree. Gives (phrase (production_of level) ∷ []) self.old (expr_outline tree) [] self.new) }
+        ensures sticks { IsErrOf result Stop.Syntax → Sticks (phrase (production_of level) ∷ []) self.old self.new }
         ensures shorter { OnOk result (length self.new < length self.old) }
     {
-        let first = self.cmp(alloc)?;
-        let mut rest = Vec::new(alloc);
-        'rest: while self.next_is(AND_OPS) {
-            let op = self.expect(AND_OPS)?;
-            let operand = self.cmp(alloc)?;
-            let copy = op.copy()?;
-            let tail = AndTail::new(copy, operand);
-            rest.push(tail)?;
+        let first = self.operand(alloc, level)?;
+        let mut items = Items::new(alloc, first);
+        'rest: while self.next_is(level.operators()) {
+            let tail = self.tail(alloc, level)?;
+            items = items.with(tail)?;
         }
-        Ok(And::new(first, rest))
-    }
-
-    /// `term (('+' | '-') term)*`
-    #[cycle(expr)]
-    fn sum(&mut self, alloc: Global) -> Result<Sum, Stop>
-        ensures reads { IfOk result (λ tree. Gives (phrase (phrases.level phrases.sums) ∷ []) self.old (sum_outline tree) [] self.new) }
-        ensures sticks { IsErrOf result Stop.Syntax → Sticks (phrase (phrases.level phrases.sums) ∷ []) self.old self.new }
-        ensures shorter { OnOk result (length self.new < length self.old) }
-    {
-        let first = self.term(alloc)?;
-        let mut rest = Vec::new(alloc);
-        'rest: while self.next_is(SUM_OPS) {
-            let op = self.expect(SUM_OPS)?;
-            let operand = self.term(alloc)?;
-            let copy = op.copy()?;
-            let tail = SumTail::new(copy, operand);
-            rest.push(tail)?;
-        }
-        Ok(Sum::new(first, rest))
-    }
-
-    /// `smash (('*' | '/' | '%') smash)*`
-    #[cycle(expr)]
-    fn term(&mut self, alloc: Global) -> Result<Term, Stop>
-        ensures reads { IfOk result (λ tree. Gives (phrase (phrases.level phrases.terms) ∷ []) self.old (term_outline tree) [] self.new) }
-        ensures sticks { IsErrOf result Stop.Syntax → Sticks (phrase (phrases.level phrases.terms) ∷ []) self.old self.new }
-        ensures shorter { OnOk result (length self.new < length self.old) }
-    {
-        let first = self.smash(alloc)?;
-        let mut rest = Vec::new(alloc);
-        'rest: while self.next_is(TERM_OPS) {
-            let op = self.expect(TERM_OPS)?;
-            let operand = self.smash(alloc)?;
-            let copy = op.copy()?;
-            let tail = TermTail::new(copy, operand);
-            rest.push(tail)?;
-        }
-        Ok(Term::new(first, rest))
-    }
-
-    /// `merge ('!' merge)*`
-    #[cycle(expr)]
-    fn smash(&mut self, alloc: Global) -> Result<Smash, Stop>
-        ensures reads { IfOk result (λ tree. Gives (phrase (phrases.level phrases.smashes) ∷ []) self.old (smash_outline tree) [] self.new) }
-        ensures sticks { IsErrOf result Stop.Syntax → Sticks (phrase (phrases.level phrases.smashes) ∷ []) self.old self.new }
-        ensures shorter { OnOk result (length self.new < length self.old) }
-    {
-        let first = self.merge(alloc)?;
-        let mut rest = Vec::new(alloc);
-        'rest: while self.next_is(SMASH_OPS) {
-            let op = self.expect(SMASH_OPS)?;
-            let operand = self.merge(alloc)?;
-            let copy = op.copy()?;
-            let tail = SmashTail::new(copy, operand);
-            rest.push(tail)?;
-        }
-        Ok(Smash::new(first, rest))
-    }
-
-    /// `prefix ('&' prefix)*`
-    #[cycle(expr)]
-    fn merge(&mut self, alloc: Global) -> Result<Merge, Stop>
-        ensures reads { IfOk result (λ tree. Gives (phrase (phrases.level phrases.merges) ∷ []) self.old (merge_outline tree) [] self.new) }
-        ensures sticks { IsErrOf result Stop.Syntax → Sticks (phrase (phrases.level phrases.merges) ∷ []) self.old self.new }
-        ensures shorter { OnOk result (length self.new < length self.old) }
-    {
-        let first = self.prefix_level(alloc)?;
-        let mut rest = Vec::new(alloc);
-        'rest: while self.next_is(MERGE_OPS) {
-            let op = self.expect(MERGE_OPS)?;
-            let operand = self.prefix_level(alloc)?;
-            let copy = op.copy()?;
-            let tail = MergeTail::new(copy, operand);
-            rest.push(tail)?;
-        }
-        Ok(Merge::new(first, rest))
+        let Items { first, rest } = items;
+        Ok(Expr::chain(level, first, rest))
     }
 
     /// `sum (op sum)?`, with one comparison at most
     #[cycle(expr)]
-    fn cmp(&mut self, alloc: Global) -> Result<Cmp, Stop>
-        ensures reads { IfOk result (λ tree. Gives (phrase phrases.cmp ∷ []) self.old (cmp_outline tree) [] self.new) }
+    fn comparison(&mut self, alloc: Global) -> Result<Expr, Stop>
+        ensures reads { IfOk result (λ tree. Gives (phrase phrases.cmp ∷ []) self.old (expr_outline tree) [] self.new) }
         ensures sticks { IsErrOf result Stop.Syntax → Sticks (phrase phrases.cmp ∷ []) self.old self.new }
         ensures shorter { OnOk result (length self.new < length self.old) }
     {
-        let first = self.sum(alloc)?;
+        let first = self.operand(alloc, Level::Comparisons)?;
         if !self.next_is(CMP_OPS) {
-            return Ok(Cmp::single(first));
+            return Ok(Expr::comparison(first, Vec::new(alloc)));
         }
-        let op = self.expect(CMP_OPS)?;
-        let operand = self.sum(alloc)?;
-        let copy = op.copy()?;
-        Ok(Cmp::pair(first, copy, operand))
+        let tail = self.tail(alloc, Level::Comparisons)?;
+        let alone = Items::new(alloc, first);
+        let items = alone.with(tail)?;
+        let Items { first, rest } = items;
+        Ok(Expr::comparison(first, rest))
+    }
+
+    /// An operator of a level and its right operand.
+    #[cycle(expr)]
+    fn tail(&mut self, alloc: Global, level: Level) -> Result<Tail, Stop>
+        ensures reads { IfOk result (λ tree. Gives (keep (operators_of level) ∷ phrase (operand_of level) ∷ []) self.old (tail_outline tree) [] self.new) }
+        ensures sticks { IsErrOf result Stop.Syntax → Sticks (keep (operators_of level) ∷ phrase (operand_of level) ∷ []) self.old self.new }
+        ensures shorter { OnOk result (length self.new < length self.old) }
+    {
+        let op = self.keep(level.operators())?;
+        let operand = self.operand(alloc, level)?;
+        Ok(Tail::new(op, operand))
+    }
+
+    /// An operand of a level.
+    #[cycle(expr)]
+    fn operand(&mut self, alloc: Global, level: Level) -> Result<Operand, Stop>
+        ensures reads { IfOk result (λ tree. Gives (phrase (operand_of level) ∷ []) self.old (operand_outline tree) [] self.new) }
+        ensures sticks { IsErrOf result Stop.Syntax → Sticks (phrase (operand_of level) ∷ []) self.old self.new }
+        ensures shorter { OnOk result (length self.new < length self.old) }
+    {
+        let Some(below) = level.below() else {
+            let prefix = self.prefix_level(alloc)?;
+            return Ok(Operand::prefix(prefix));
+        };
+        let inner = self.level(alloc, below)?;
+        let boxed = Box::new(alloc, inner)?;
+        Ok(Operand::inner(boxed))
     }
 
     /// `('-' | '!')? post`
@@ -194,10 +131,9 @@ impl<'a> Parser<'a> {
         ensures shorter { OnOk result (length self.new < length self.old) }
     {
         let operand = self.prime(alloc)?;
-        let both = self.field_behind(operand)?;
+        let both = self.field_behind(alloc, operand)?;
         let (operand, field) = both;
-        let boxed = Box::new(alloc, operand)?;
-        Ok(Post::new(boxed, field))
+        Ok(Post::new(operand, field))
     }
 
     /// `'(' expr ')'`
@@ -209,9 +145,9 @@ impl<'a> Parser<'a> {
         ensures shorter { OnOk result (length self.new < length self.old) }
     {
         let bracket = self.keep(PAREN)?;
-        let inner = self.expr(alloc)?;
-        let inner = self.ended_by(inner, CLOSE_PAREN)?;
-        Ok(hera_trees::paren(alloc, bracket, inner)?)
+        let inner = self.level(alloc, Level::Whens)?;
+        let inner = self.ended_box(alloc, inner, CLOSE_PAREN)?;
+        Ok(Prime::paren(bracket, inner))
     }
 
     /// A tuple literal.
@@ -224,8 +160,8 @@ impl<'a> Parser<'a> {
     {
         let bracket = self.keep(SQUARE)?;
         let bindings = self.bindings(alloc)?;
-        let bindings = self.ended_by(bindings, CLOSE_SQUARE)?;
-        Ok(hera_trees::row(alloc, bracket, bindings)?)
+        let bindings = self.ended_box(alloc, bindings, CLOSE_SQUARE)?;
+        Ok(Prime::row(bracket, bindings))
     }
 
     /// A delta literal.
@@ -237,9 +173,13 @@ impl<'a> Parser<'a> {
         ensures shorter { OnOk result (length self.new < length self.old) }
     {
         let bracket = self.keep(BRACE)?;
-        let atoms = self.some_atoms(alloc)?;
-        let atoms = self.ended_by(atoms, CLOSE_BRACE)?;
-        Ok(hera_trees::delta(alloc, bracket, atoms)?)
+        if !self.next_is(SIGNS) {
+            self.skip(CLOSE_BRACE)?;
+            return Ok(Prime::empty_delta(bracket));
+        }
+        let atoms = self.atoms(alloc)?;
+        let atoms = self.ended_box(alloc, atoms, CLOSE_BRACE)?;
+        Ok(Prime::delta(bracket, atoms))
     }
 
     /// A relation literal.
@@ -250,14 +190,18 @@ impl<'a> Parser<'a> {
         ensures sticks { IsErrOf result Stop.Syntax → Sticks (phrase phrases.prime ∷ []) self.old self.new }
         ensures shorter { OnOk result (length self.new < length self.old) }
     {
-        let word = self.expect(ROWS)?;
-        let bracket = self.expect(PAREN)?;
-        let name = self.expect(NAME)?;
+        let word = self.keep(ROWS)?;
+        let bracket = self.keep(PAREN)?;
+        let name = self.keep(NAME)?;
         self.skip(CLOSE_PAREN)?;
-        let brace = self.expect(BRACE)?;
-        let lines = self.some_lines(alloc)?;
-        let lines = self.ended_by(lines, CLOSE_BRACE)?;
-        Ok(hera_trees::rows(alloc, word, bracket, name, brace, lines)?)
+        let brace = self.keep(BRACE)?;
+        if !self.next_is(PAREN) {
+            self.skip(CLOSE_BRACE)?;
+            return Ok(Prime::empty_rows(word, bracket, name, brace));
+        }
+        let lines = self.lines(alloc)?;
+        let lines = self.ended_box(alloc, lines, CLOSE_BRACE)?;
+        Ok(Prime::rows(word, bracket, name, brace, lines))
     }
 
     /// A `select` or `map`.
@@ -268,15 +212,16 @@ impl<'a> Parser<'a> {
         ensures sticks { IsErrOf result Stop.Syntax → Sticks (phrase phrases.prime ∷ []) self.old self.new }
         ensures shorter { OnOk result (length self.new < length self.old) }
     {
-        let word = self.expect(WALK_WORDS)?;
-        let bracket = self.expect(PAREN)?;
-        let name = self.expect(NAME)?;
+        let word = self.keep(WALK_WORDS)?;
+        let bracket = self.keep(PAREN)?;
+        let name = self.keep(NAME)?;
         self.skip(IN)?;
-        let over = self.expr(alloc)?;
-        self.skip(COLON)?;
-        let body = self.expr(alloc)?;
-        let body = self.ended_by(body, CLOSE_PAREN)?;
-        Ok(hera_trees::walk(alloc, word, bracket, name, over, body)?)
+        let over = self.level(alloc, Level::Whens)?;
+        let over = self.ended_box(alloc, over, COLON)?;
+        let body = self.level(alloc, Level::Whens)?;
+        let both = self.ended_box_behind(alloc, over, body, CLOSE_PAREN)?;
+        let (over, body) = both;
+        Ok(Prime::walk(word, bracket, name, over, body))
     }
 
     /// A projection.
@@ -287,13 +232,14 @@ impl<'a> Parser<'a> {
         ensures sticks { IsErrOf result Stop.Syntax → Sticks (phrase phrases.prime ∷ []) self.old self.new }
         ensures shorter { OnOk result (length self.new < length self.old) }
     {
-        let word = self.expect(PROJECT)?;
-        let bracket = self.expect(PAREN)?;
-        let over = self.expr(alloc)?;
-        self.skip(SEMICOLON)?;
-        let names = self.names(alloc)?;
-        self.skip(CLOSE_PAREN)?;
-        Ok(hera_trees::project(alloc, word, bracket, over, names)?)
+        let word = self.keep(PROJECT)?;
+        let bracket = self.keep(PAREN)?;
+        let over = self.level(alloc, Level::Whens)?;
+        let over = self.ended_box(alloc, over, SEMICOLON)?;
+        let both = self.names_behind(alloc, over)?;
+        let both = self.ended_by(both, CLOSE_PAREN)?;
+        let (over, names) = both;
+        Ok(Prime::project(word, bracket, over, names))
     }
 
     /// A renaming.
@@ -304,13 +250,14 @@ impl<'a> Parser<'a> {
         ensures sticks { IsErrOf result Stop.Syntax → Sticks (phrase phrases.prime ∷ []) self.old self.new }
         ensures shorter { OnOk result (length self.new < length self.old) }
     {
-        let word = self.expect(RENAME)?;
-        let bracket = self.expect(PAREN)?;
-        let over = self.expr(alloc)?;
-        self.skip(SEMICOLON)?;
-        let renamings = self.renamings(alloc)?;
-        self.skip(CLOSE_PAREN)?;
-        Ok(hera_trees::rename(alloc, word, bracket, over, renamings)?)
+        let word = self.keep(RENAME)?;
+        let bracket = self.keep(PAREN)?;
+        let over = self.level(alloc, Level::Whens)?;
+        let over = self.ended_box(alloc, over, SEMICOLON)?;
+        let both = self.renamings_behind(alloc, over)?;
+        let both = self.ended_by(both, CLOSE_PAREN)?;
+        let (over, renamings) = both;
+        Ok(Prime::rename(word, bracket, over, renamings))
     }
 
     /// A `union`, `minus`, `inter` or `join`.
@@ -321,13 +268,14 @@ impl<'a> Parser<'a> {
         ensures sticks { IsErrOf result Stop.Syntax → Sticks (phrase phrases.prime ∷ []) self.old self.new }
         ensures shorter { OnOk result (length self.new < length self.old) }
     {
-        let word = self.expect(PAIR_WORDS)?;
-        let bracket = self.expect(PAREN)?;
-        let left = self.expr(alloc)?;
-        self.skip(COMMA)?;
-        let right = self.expr(alloc)?;
-        let right = self.ended_by(right, CLOSE_PAREN)?;
-        Ok(hera_trees::pair(alloc, word, bracket, left, right)?)
+        let word = self.keep(PAIR_WORDS)?;
+        let bracket = self.keep(PAREN)?;
+        let left = self.level(alloc, Level::Whens)?;
+        let left = self.ended_box(alloc, left, COMMA)?;
+        let right = self.level(alloc, Level::Whens)?;
+        let both = self.ended_box_behind(alloc, left, right, CLOSE_PAREN)?;
+        let (left, right) = both;
+        Ok(Prime::pair(word, bracket, left, right))
     }
 
     /// A grouping.
@@ -338,16 +286,17 @@ impl<'a> Parser<'a> {
         ensures sticks { IsErrOf result Stop.Syntax → Sticks (phrase phrases.prime ∷ []) self.old self.new }
         ensures shorter { OnOk result (length self.new < length self.old) }
     {
-        let word = self.expect(GROUP)?;
-        let bracket = self.expect(PAREN)?;
-        let over = self.expr(alloc)?;
-        self.skip(SEMICOLON)?;
-        self.skip(BY)?;
-        let names = self.names(alloc)?;
-        self.skip(SEMICOLON)?;
-        let aggs = self.aggs(alloc)?;
-        self.skip(CLOSE_PAREN)?;
-        Ok(hera_trees::group(alloc, word, bracket, over, names, aggs)?)
+        let word = self.keep(GROUP)?;
+        let bracket = self.keep(PAREN)?;
+        let over = self.level(alloc, Level::Whens)?;
+        let over = self.ended_box(alloc, over, SEMICOLON)?;
+        let over = self.ended_by(over, BY)?;
+        let both = self.names_behind(alloc, over)?;
+        let both = self.ended_by(both, SEMICOLON)?;
+        let all = self.aggs_behind(alloc, both)?;
+        let all = self.ended_by(all, CLOSE_PAREN)?;
+        let ((over, names), aggs) = all;
+        Ok(Prime::group(word, bracket, over, names, aggs))
     }
 
     /// A `count`, `empty` or `isfail`.
@@ -358,11 +307,11 @@ impl<'a> Parser<'a> {
         ensures sticks { IsErrOf result Stop.Syntax → Sticks (phrase phrases.prime ∷ []) self.old self.new }
         ensures shorter { OnOk result (length self.new < length self.old) }
     {
-        let word = self.expect(MEASURE_WORDS)?;
-        let bracket = self.expect(PAREN)?;
-        let over = self.expr(alloc)?;
-        let over = self.ended_by(over, CLOSE_PAREN)?;
-        Ok(hera_trees::measure(alloc, word, bracket, over)?)
+        let word = self.keep(MEASURE_WORDS)?;
+        let bracket = self.keep(PAREN)?;
+        let over = self.level(alloc, Level::Whens)?;
+        let over = self.ended_box(alloc, over, CLOSE_PAREN)?;
+        Ok(Prime::measure(word, bracket, over))
     }
 
     /// A `sum`, `min` or `max`.
@@ -373,13 +322,14 @@ impl<'a> Parser<'a> {
         ensures sticks { IsErrOf result Stop.Syntax → Sticks (phrase phrases.prime ∷ []) self.old self.new }
         ensures shorter { OnOk result (length self.new < length self.old) }
     {
-        let word = self.expect(FOLD_WORDS)?;
-        let bracket = self.expect(PAREN)?;
-        let over = self.expr(alloc)?;
-        self.skip(COMMA)?;
-        let name = self.expect(NAME)?;
-        self.skip(CLOSE_PAREN)?;
-        Ok(hera_trees::fold(alloc, word, bracket, over, name)?)
+        let word = self.keep(FOLD_WORDS)?;
+        let bracket = self.keep(PAREN)?;
+        let over = self.level(alloc, Level::Whens)?;
+        let over = self.ended_box(alloc, over, COMMA)?;
+        let both = self.kept_behind(over, NAME)?;
+        let both = self.ended_by(both, CLOSE_PAREN)?;
+        let (over, name) = both;
+        Ok(Prime::fold(word, bracket, over, name))
     }
 
     /// A `bulk`.
@@ -390,14 +340,14 @@ impl<'a> Parser<'a> {
         ensures sticks { IsErrOf result Stop.Syntax → Sticks (phrase phrases.prime ∷ []) self.old self.new }
         ensures shorter { OnOk result (length self.new < length self.old) }
     {
-        let word = self.expect(BULK)?;
-        let bracket = self.expect(PAREN)?;
-        let sign = self.expect(SIGNS)?;
-        let name = self.expect(NAME)?;
+        let word = self.keep(BULK)?;
+        let bracket = self.keep(PAREN)?;
+        let sign = self.keep(SIGNS)?;
+        let name = self.keep(NAME)?;
         self.skip(COMMA)?;
-        let over = self.expr(alloc)?;
-        let over = self.ended_by(over, CLOSE_PAREN)?;
-        Ok(hera_trees::bulk(alloc, word, bracket, sign, name, over)?)
+        let over = self.level(alloc, Level::Whens)?;
+        let over = self.ended_box(alloc, over, CLOSE_PAREN)?;
+        Ok(Prime::bulk(word, bracket, sign, name, over))
     }
 
     /// An `ins` or `del`.
@@ -408,13 +358,13 @@ impl<'a> Parser<'a> {
         ensures sticks { IsErrOf result Stop.Syntax → Sticks (phrase phrases.prime ∷ []) self.old self.new }
         ensures shorter { OnOk result (length self.new < length self.old) }
     {
-        let word = self.expect(PART_WORDS)?;
-        let bracket = self.expect(PAREN)?;
-        let name = self.expect(NAME)?;
+        let word = self.keep(PART_WORDS)?;
+        let bracket = self.keep(PAREN)?;
+        let name = self.keep(NAME)?;
         self.skip(COMMA)?;
-        let over = self.expr(alloc)?;
-        let over = self.ended_by(over, CLOSE_PAREN)?;
-        Ok(hera_trees::part(alloc, word, bracket, name, over)?)
+        let over = self.level(alloc, Level::Whens)?;
+        let over = self.ended_box(alloc, over, CLOSE_PAREN)?;
+        Ok(Prime::part(word, bracket, name, over))
     }
 
     /// `name` or `name '(' args? ')'`
@@ -425,14 +375,18 @@ impl<'a> Parser<'a> {
         ensures sticks { IsErrOf result Stop.Syntax → Sticks (phrase phrases.prime ∷ []) self.old self.new }
         ensures shorter { OnOk result (length self.new < length self.old) }
     {
-        let name = self.expect(NAME)?;
+        let name = self.keep(NAME)?;
         if !self.next_is(PAREN) {
-            return Ok(Prime::name(name.copy()?));
+            return Ok(Prime::name(name));
         }
-        let bracket = self.expect(PAREN)?;
-        let args = self.some_args(alloc)?;
-        let args = self.ended_by(args, CLOSE_PAREN)?;
-        Ok(hera_trees::call(alloc, name, bracket, args)?)
+        let bracket = self.keep(PAREN)?;
+        if !self.next_is(EXPR_STARTS) {
+            self.skip(CLOSE_PAREN)?;
+            return Ok(Prime::empty_call(name, bracket));
+        }
+        let args = self.args(alloc)?;
+        let args = self.ended_box(alloc, args, CLOSE_PAREN)?;
+        Ok(Prime::call(name, bracket, args))
     }
 
     /// An expression that no operator splits.
@@ -469,6 +423,17 @@ impl<'a> Parser<'a> {
         if self.next_is(BRACE) {
             return self.delta(alloc);
         }
+        self.word_form(alloc)
+    }
+
+    /// An expression that begins with a keyword and a bracket.
+    #[cycle(expr)]
+    fn word_form(&mut self, alloc: Global) -> Result<Prime, Stop>
+        requires { BeginsNone (take 9 (alternatives phrases.prime)) self.old }
+        ensures reads { IfOk result (λ tree. Gives (phrase phrases.prime ∷ []) self.old (prime_outline tree) [] self.new) }
+        ensures sticks { IsErrOf result Stop.Syntax → Sticks (phrase phrases.prime ∷ []) self.old self.new }
+        ensures shorter { OnOk result (length self.new < length self.old) }
+    {
         if self.next_is(ROWS) {
             return self.rows(alloc);
         }
@@ -501,18 +466,19 @@ impl<'a> Parser<'a> {
 
     /// `expr (',' expr)*`
     #[cycle(expr)]
-    fn args(&mut self, alloc: Global) -> Result<Args, Stop>
+    pub fn args(&mut self, alloc: Global) -> Result<Args, Stop>
         ensures reads { IfOk result (λ tree. Gives (phrase phrases.args ∷ []) self.old (args_outline tree) [] self.new) }
         ensures sticks { IsErrOf result Stop.Syntax → Sticks (phrase phrases.args ∷ []) self.old self.new }
         ensures shorter { OnOk result (length self.new < length self.old) }
     {
-        let first = self.expr(alloc)?;
-        let mut rest = Vec::new(alloc);
+        let first = self.level(alloc, Level::Whens)?;
+        let mut items = Items::new(alloc, first);
         'rest: while self.next_is(&[COMMA]) {
-            self.skip(COMMA)?;
-            let item = self.expr(alloc)?;
-            rest.push(item)?;
+            let before = self.ended_by(items, COMMA)?;
+            let item = self.level(alloc, Level::Whens)?;
+            items = before.with(item)?;
         }
+        let Items { first, rest } = items;
         Ok(Args::new(first, rest))
     }
 
@@ -524,12 +490,13 @@ impl<'a> Parser<'a> {
         ensures shorter { OnOk result (length self.new < length self.old) }
     {
         let first = self.binding(alloc)?;
-        let mut rest = Vec::new(alloc);
+        let mut items = Items::new(alloc, first);
         'rest: while self.next_is(&[COMMA]) {
-            self.skip(COMMA)?;
+            let before = self.ended_by(items, COMMA)?;
             let item = self.binding(alloc)?;
-            rest.push(item)?;
+            items = before.with(item)?;
         }
+        let Items { first, rest } = items;
         Ok(Bindings::new(first, rest))
     }
 
@@ -541,12 +508,13 @@ impl<'a> Parser<'a> {
         ensures shorter { OnOk result (length self.new < length self.old) }
     {
         let first = self.atom(alloc)?;
-        let mut rest = Vec::new(alloc);
+        let mut items = Items::new(alloc, first);
         'rest: while self.next_is(&[COMMA]) {
-            self.skip(COMMA)?;
+            let before = self.ended_by(items, COMMA)?;
             let item = self.atom(alloc)?;
-            rest.push(item)?;
+            items = before.with(item)?;
         }
+        let Items { first, rest } = items;
         Ok(Atoms::new(first, rest))
     }
 
@@ -558,12 +526,13 @@ impl<'a> Parser<'a> {
         ensures shorter { OnOk result (length self.new < length self.old) }
     {
         let first = self.line(alloc)?;
-        let mut rest = Vec::new(alloc);
+        let mut items = Items::new(alloc, first);
         'rest: while self.next_is(&[COMMA]) {
-            self.skip(COMMA)?;
+            let before = self.ended_by(items, COMMA)?;
             let item = self.line(alloc)?;
-            rest.push(item)?;
+            items = before.with(item)?;
         }
+        let Items { first, rest } = items;
         Ok(Lines::new(first, rest))
     }
 
@@ -576,7 +545,7 @@ impl<'a> Parser<'a> {
     {
         let name = self.keep(NAME)?;
         self.skip(EQUALS)?;
-        let value = self.expr(alloc)?;
+        let value = self.level(alloc, Level::Whens)?;
         Ok(Binding::new(name, value))
     }
 
@@ -587,12 +556,12 @@ impl<'a> Parser<'a> {
         ensures sticks { IsErrOf result Stop.Syntax → Sticks (phrase phrases.atom ∷ []) self.old self.new }
         ensures shorter { OnOk result (length self.new < length self.old) }
     {
-        let sign = self.expect(SIGNS)?;
-        let name = self.expect(NAME)?;
-        let bracket = self.expect(PAREN)?;
+        let sign = self.keep(SIGNS)?;
+        let name = self.keep(NAME)?;
+        let bracket = self.keep(PAREN)?;
         let args = self.args(alloc)?;
         let args = self.ended_by(args, CLOSE_PAREN)?;
-        Ok(hera_trees::atom(sign, name, bracket, args)?)
+        Ok(Atom::new(sign, name, bracket, args))
     }
 
     /// `'(' args ')'`
@@ -609,7 +578,6 @@ impl<'a> Parser<'a> {
     }
 
     /// `args?`
-    #[cycle(expr)]
     pub fn some_args(&mut self, alloc: Global) -> Result<Option<Args>, Stop>
         ensures reads { IfOk result (λ tree. Gives (phrase phrases.some_args ∷ []) self.old (some_args_outline tree) [] self.new) }
         ensures sticks { IsErrOf result Stop.Syntax → Sticks (phrase phrases.some_args ∷ []) self.old self.new }
@@ -619,34 +587,6 @@ impl<'a> Parser<'a> {
             return Ok(None);
         }
         let inner = self.args(alloc)?;
-        Ok(Some(inner))
-    }
-
-    /// `(atom (',' atom)*)?`
-    #[cycle(expr)]
-    fn some_atoms(&mut self, alloc: Global) -> Result<Option<Atoms>, Stop>
-        ensures reads { IfOk result (λ tree. Gives (phrase phrases.some_atoms ∷ []) self.old (some_atoms_outline tree) [] self.new) }
-        ensures sticks { IsErrOf result Stop.Syntax → Sticks (phrase phrases.some_atoms ∷ []) self.old self.new }
-        ensures no_longer { OnOk result (length self.new ≤ length self.old) }
-    {
-        if !self.next_is(SIGNS) {
-            return Ok(None);
-        }
-        let inner = self.atoms(alloc)?;
-        Ok(Some(inner))
-    }
-
-    /// `(line (',' line)*)?`
-    #[cycle(expr)]
-    fn some_lines(&mut self, alloc: Global) -> Result<Option<Lines>, Stop>
-        ensures reads { IfOk result (λ tree. Gives (phrase phrases.some_lines ∷ []) self.old (some_lines_outline tree) [] self.new) }
-        ensures sticks { IsErrOf result Stop.Syntax → Sticks (phrase phrases.some_lines ∷ []) self.old self.new }
-        ensures no_longer { OnOk result (length self.new ≤ length self.old) }
-    {
-        if !self.next_is(PAREN) {
-            return Ok(None);
-        }
-        let inner = self.lines(alloc)?;
         Ok(Some(inner))
     }
 }

@@ -34,10 +34,10 @@ impl<'a> Parser<'a> {
         ensures sticks { IsErrOf result Stop.Syntax → Sticks (phrase phrases.renaming ∷ []) self.old self.new }
         ensures shorter { OnOk result (length self.new < length self.old) }
     {
-        let new = self.expect(NAME)?;
+        let new = self.keep(NAME)?;
         self.skip(EQUALS)?;
-        let old = self.expect(NAME)?;
-        Ok(hera_trees::renaming(new, old)?)
+        let old = self.keep(NAME)?;
+        Ok(Renaming::new(new, old))
     }
 
     /// `name '=' name (',' name '=' name)*`
@@ -66,11 +66,11 @@ impl<'a> Parser<'a> {
             let count = self.keep(COUNT)?;
             return Ok(AggTree::count(count));
         }
-        let word = self.expect(FOLD_WORDS)?;
-        let bracket = self.expect(PAREN)?;
-        let name = self.expect(NAME)?;
+        let word = self.keep(FOLD_WORDS)?;
+        let bracket = self.keep(PAREN)?;
+        let name = self.keep(NAME)?;
         self.skip(CLOSE_PAREN)?;
-        Ok(hera_trees::agg_of(word, bracket, name)?)
+        Ok(AggTree::of(word, bracket, name))
     }
 
     /// `name '=' agg`
@@ -101,18 +101,61 @@ impl<'a> Parser<'a> {
         Ok(NamedAggs::new(first, rest))
     }
 
-    /// `('.' name)?`, beside the part that stands before it.
-    pub fn field_behind<T: Drop>(&mut self, part: T) -> Result<(T, Option<Token>), Stop>
-        ensures same { IfOk result (λ both. both.0 ≡ part) }
+    /// `('.' name)?`, beside the part that stands before it, in a box.
+    pub fn field_behind<T: Drop>(
+        &mut self,
+        alloc: Global,
+        part: T,
+    ) -> Result<(Box<T>, Option<Token>), Stop>
+        ensures same { IfOk result (λ both. both.0.value ≡ part) }
         ensures reads { IfOk result (λ both. Gives (phrase phrases.field ∷ []) self.old (field_outline both.1) [] self.new) }
         ensures sticks { IsErrOf result Stop.Syntax → Sticks (phrase phrases.field ∷ []) self.old self.new }
         ensures no_longer { OnOk result (length self.new ≤ length self.old) }
     {
         if !self.next_is(&[DOT]) {
-            return Ok((part, None));
+            let plain = Box::new(alloc, part)?;
+            return Ok((plain, None));
         }
         self.skip(DOT)?;
         let name = self.keep(NAME)?;
-        Ok((part, Some(name)))
+        let given = Box::new(alloc, part)?;
+        Ok((given, Some(name)))
+    }
+
+    /// `name (',' name)*`, beside the part that stands before it.
+    pub fn names_behind<T: Drop>(&mut self, alloc: Global, part: T) -> Result<(T, Names), Stop>
+        ensures same { IfOk result (λ both. both.0 ≡ part) }
+        ensures reads { IfOk result (λ both. Gives (phrase phrases.names ∷ []) self.old (names_outline both.1) [] self.new) }
+        ensures sticks { IsErrOf result Stop.Syntax → Sticks (phrase phrases.names ∷ []) self.old self.new }
+        ensures shorter { OnOk result (length self.new < length self.old) }
+    {
+        let names = self.names(alloc)?;
+        Ok((part, names))
+    }
+
+    /// `name '=' name (',' name '=' name)*`, beside the part that stands before it.
+    pub fn renamings_behind<T: Drop>(
+        &mut self,
+        alloc: Global,
+        part: T,
+    ) -> Result<(T, Renamings), Stop>
+        ensures same { IfOk result (λ both. both.0 ≡ part) }
+        ensures reads { IfOk result (λ both. Gives (phrase phrases.renamings ∷ []) self.old (renamings_outline both.1) [] self.new) }
+        ensures sticks { IsErrOf result Stop.Syntax → Sticks (phrase phrases.renamings ∷ []) self.old self.new }
+        ensures shorter { OnOk result (length self.new < length self.old) }
+    {
+        let renamings = self.renamings(alloc)?;
+        Ok((part, renamings))
+    }
+
+    /// `name '=' agg (',' name '=' agg)*`, beside the part that stands before it.
+    pub fn aggs_behind<T: Drop>(&mut self, alloc: Global, part: T) -> Result<(T, NamedAggs), Stop>
+        ensures same { IfOk result (λ both. both.0 ≡ part) }
+        ensures reads { IfOk result (λ both. Gives (phrase phrases.aggs ∷ []) self.old (aggs_outline both.1) [] self.new) }
+        ensures sticks { IsErrOf result Stop.Syntax → Sticks (phrase phrases.aggs ∷ []) self.old self.new }
+        ensures shorter { OnOk result (length self.new < length self.old) }
+    {
+        let aggs = self.aggs(alloc)?;
+        Ok((part, aggs))
     }
 }

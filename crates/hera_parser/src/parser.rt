@@ -1,11 +1,11 @@
-ghost use Rattle.std.specs.Prelude.{◌≡◌, ◌≤◌, ◌<◌, [], ◌∷◌, length, List, drop, IfOk, OnOk, IsErrOf};
+ghost use Rattle.std.specs.Prelude.{◌≡◌, ◌≤◌, ◌<◌, [], ◌∷◌, ◌++◌, length, List, drop, IfOk, OnOk, IsErrOf};
 ghost use Rattle.hera_syntax.specs.Grammar.{keep, leave};
 ghost use Rattle.hera_syntax.specs.Outline.{hold, skip};
 ghost use Rattle.hera_syntax.specs.declared.token.Token.{Token};
 ghost use Rattle.hera_parser.specs.Reading.{stands, next_terminal, Gives, Sticks};
 
 use hera_syntax::{Terminal, Token};
-use std::alloc::{AllocError, AllocFailed};
+use std::alloc::{AllocError, AllocFailed, Global};
 use std::marker::Model;
 
 /// Why the reading stops.
@@ -44,6 +44,45 @@ pub struct Parser<'a> {
     at: usize,
 }
 
+/// What is read of a list: its first item, and those behind it.
+#[derive(Drop)]
+pub struct Items<A, T> {
+    pub first: A,
+    pub rest: Vec<T>,
+}
+
+impl<A: Drop, T: Drop> Items<A, T> {
+    /// The first item alone.
+    pub fn new(alloc: Global, first: A) -> Items<A, T>
+        ensures first { result.first ≡ first }
+        ensures alone { result.rest.items ≡ [] }
+    {
+        Items {
+            first,
+            rest: Vec::new(alloc),
+        }
+    }
+
+    /// With one item more. The error is want of memory.
+    pub fn with(self, item: T) -> Result<Items<A, T>, AllocError>
+        ensures first { IfOk result (λ items. items.first ≡ self.first) }
+        ensures one_more { IfOk result (λ items. items.rest.items ≡ self.rest.items ++ item ∷ []) }
+    {
+        let Items { first, mut rest } = self;
+        rest.push(item)?;
+        Ok(Items { first, rest })
+    }
+}
+
+/// A list with one item more. The error is want of memory.
+pub fn pushed<T: Drop>(list: Vec<T>, item: T) -> Result<Vec<T>, AllocError>
+    ensures { IfOk result (λ longer. longer.items ≡ list.items ++ item ∷ []) }
+{
+    let mut longer = list;
+    longer.push(item)?;
+    Ok(longer)
+}
+
 impl<'a> Model for Parser<'a> {
     ghost Value = { List Token };
 
@@ -78,7 +117,7 @@ impl<'a> Parser<'a> {
     }
 
     /// Takes the next token, which has to be one of these.
-    pub fn expect(&mut self, terminals: &[Terminal]) -> Result<&'a Token, Stop>
+    fn expect(&mut self, terminals: &[Terminal]) -> Result<&'a Token, Stop>
         ensures reads { IfOk result (λ t. Gives (keep terminals.now ∷ []) self.old (hold t.now) [] self.new) }
         ensures sticks { IsErrOf result Stop.Syntax → Sticks (keep terminals.now ∷ []) self.old self.new }
         ensures shorter { OnOk result (length self.new < length self.old) }
@@ -123,5 +162,56 @@ impl<'a> Parser<'a> {
     {
         self.skip(terminal)?;
         Ok(part)
+    }
+
+    /// Passes over the next token, which has to be this one, and hands back the part that it ends in a box.
+    pub fn ended_box<T: Drop>(
+        &mut self,
+        alloc: Global,
+        part: T,
+        terminal: Terminal,
+    ) -> Result<Box<T>, Stop>
+        ensures same { IfOk result (λ given. given.value ≡ part) }
+        ensures reads { OnOk result (Gives (leave terminal ∷ []) self.old (skip terminal) [] self.new) }
+        ensures sticks { IsErrOf result Stop.Syntax → Sticks (leave terminal ∷ []) self.old self.new }
+        ensures shorter { OnOk result (length self.new < length self.old) }
+    {
+        self.skip(terminal)?;
+        Ok(Box::new(alloc, part)?)
+    }
+
+    /// Passes over the next token, which has to be this one, and hands back the part that it ends in a box,
+    /// beside the part that stands before it.
+    pub fn ended_box_behind<A: Drop, T: Drop>(
+        &mut self,
+        alloc: Global,
+        before: A,
+        part: T,
+        terminal: Terminal,
+    ) -> Result<(A, Box<T>), Stop>
+        ensures before { IfOk result (λ both. both.0 ≡ before) }
+        ensures same { IfOk result (λ both. both.1.value ≡ part) }
+        ensures reads { OnOk result (Gives (leave terminal ∷ []) self.old (skip terminal) [] self.new) }
+        ensures sticks { IsErrOf result Stop.Syntax → Sticks (leave terminal ∷ []) self.old self.new }
+        ensures shorter { OnOk result (length self.new < length self.old) }
+    {
+        let given = self.ended_box(alloc, part, terminal)?;
+        Ok((before, given))
+    }
+
+    /// A copy of the next token, which has to be one of these and is taken, beside the part that stands
+    /// before it.
+    pub fn kept_behind<T: Drop>(
+        &mut self,
+        part: T,
+        terminals: &[Terminal],
+    ) -> Result<(T, Token), Stop>
+        ensures same { IfOk result (λ both. both.0 ≡ part) }
+        ensures reads { IfOk result (λ both. Gives (keep terminals.now ∷ []) self.old (hold both.1) [] self.new) }
+        ensures sticks { IsErrOf result Stop.Syntax → Sticks (keep terminals.now ∷ []) self.old self.new }
+        ensures shorter { OnOk result (length self.new < length self.old) }
+    {
+        let token = self.keep(terminals)?;
+        Ok((part, token))
     }
 }

@@ -8,7 +8,7 @@ ghost use Rattle.hera_syntax.specs.Programs.{block_outline, func_outline, func_r
 ghost use Rattle.std.specs.List.{flat_map};
 ghost use Rattle.hera_parser.specs.Reading.{Gives, Sticks};
 
-use crate::parser::{Parser, Stop};
+use crate::parser::{Parser, Stop, pushed};
 use crate::terminals::{CLOSE_PAREN, FUNC, MAIN, NAME, PAREN, PROC, RELATION, SEMICOLON};
 use hera_syntax::{Block, Func, Main, Proc, Relation, Tree};
 use std::alloc::Global;
@@ -120,7 +120,7 @@ impl<'a> Parser<'a> {
         let mut all = Vec::new(alloc);
         'all: while self.next_is(FUNC) {
             let item = self.func(alloc)?;
-            all.push(item)?;
+            all = pushed(all, item)?;
         }
         Ok(all)
     }
@@ -134,7 +134,7 @@ impl<'a> Parser<'a> {
         let mut all = Vec::new(alloc);
         'all: while self.next_is(PROC) {
             let item = self.procedure(alloc)?;
-            all.push(item)?;
+            all = pushed(all, item)?;
         }
         Ok(all)
     }

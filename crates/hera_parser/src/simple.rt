@@ -135,8 +135,8 @@ impl<'a> Parser<'a> {
         }
         let bracket = self.keep(PAREN)?;
         let args = self.some_args(alloc)?;
-        self.skip(CLOSE_PAREN)?;
-        self.skip(SEMICOLON)?;
+        let args = self.ended_by(args, CLOSE_PAREN)?;
+        let args = self.ended_by(args, SEMICOLON)?;
         Ok(StmtTree::call(name, bracket, args))
     }
 }

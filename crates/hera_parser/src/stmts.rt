@@ -1,18 +1,19 @@
 // Statements.
 
-ghost use Rattle.std.specs.Prelude.{◌<◌, [], ◌∷◌, length, IfOk, OnOk, IsErrOf};
+ghost use Rattle.std.specs.Prelude.{◌<◌, ◌≤◌, [], ◌∷◌, ◌++◌, length, IfOk, OnOk, IsErrOf};
 ghost use Rattle.hera_syntax.specs.Grammar.{phrase, keep, leave};
 ghost use Rattle.hera_syntax.specs.Grammar as phrases;
-ghost use Rattle.hera_syntax.specs.Programs.{block_outline, stmt_outline};
+ghost use Rattle.hera_syntax.specs.Programs.{block_outline, else_if_row, last_else, stmt_outline};
+ghost use Rattle.std.specs.List.{flat_map};
 ghost use Rattle.hera_parser.specs.Pieces.{else_if_rest};
 ghost use Rattle.hera_parser.specs.Reading.{Tells, Gives, Sticks};
 
-use crate::parser::{Parser, Stop};
+use crate::parser::{Parser, Stop, pushed};
 use crate::terminals::{
     APPLY, ASSERT, BRACE, CLOSE_BRACE, CLOSE_PAREN, COMMIT, ELSE, FOREACH, IF, IN, NAME, PAREN,
     PRINT, ROLLBACK, STMT_STARTS, TYPE_STARTS, WHILE,
 };
-use hera_syntax::{Block, ElseIf, StmtTree};
+use hera_syntax::{Block, ElseIf, StmtTree, Terminal};
 use std::alloc::Global;
 
 impl<'a> Parser<'a> {
@@ -27,10 +28,10 @@ impl<'a> Parser<'a> {
         let mut stmts = Vec::new(alloc);
         'stmts: while self.next_is(STMT_STARTS) {
             let stmt = self.stmt(alloc)?;
-            stmts.push(stmt)?;
+            stmts = pushed(stmts, stmt)?;
         }
-        self.skip(CLOSE_BRACE)?;
-        Ok(Block::new(bracket, stmts))
+        let all = self.ended_by(stmts, CLOSE_BRACE)?;
+        Ok(Block::new(bracket, all))
     }
 
     /// A statement.
@@ -73,6 +74,21 @@ impl<'a> Parser<'a> {
         self.give_back(alloc)
     }
 
+    /// A keyword, a condition and a block.
+    #[cycle(stmt)]
+    fn guarded(&mut self, alloc: Global, words: &[Terminal]) -> Result<ElseIf, Stop>
+        ensures reads { IfOk result (λ tree. Gives (keep words.now ∷ keep phrases.paren ∷ phrase phrases.expr ∷ leave phrases.close_paren ∷ phrase phrases.block ∷ []) self.old (else_if_rest tree) [] self.new) }
+        ensures sticks { IsErrOf result Stop.Syntax → Sticks (keep words.now ∷ keep phrases.paren ∷ phrase phrases.expr ∷ leave phrases.close_paren ∷ phrase phrases.block ∷ []) self.old self.new }
+        ensures shorter { OnOk result (length self.new < length self.old) }
+    {
+        let word = self.keep(words)?;
+        let bracket = self.keep(PAREN)?;
+        let condition = self.expr(alloc)?;
+        let condition = self.ended_by(condition, CLOSE_PAREN)?;
+        let block = self.block(alloc)?;
+        Ok(ElseIf::new(word, bracket, condition, block))
+    }
+
     /// A `while`.
     #[cycle(stmt)]
     fn repeat(&mut self, alloc: Global) -> Result<StmtTree, Stop>
@@ -81,12 +97,14 @@ impl<'a> Parser<'a> {
         ensures sticks { IsErrOf result Stop.Syntax → Sticks (phrase phrases.stmt ∷ []) self.old self.new }
         ensures shorter { OnOk result (length self.new < length self.old) }
     {
-        let word = self.expect(WHILE)?;
-        let bracket = self.expect(PAREN)?;
-        let condition = self.expr(alloc)?;
-        self.skip(CLOSE_PAREN)?;
-        let block = self.block(alloc)?;
-        Ok(hera_trees::repeat(word, bracket, condition, block)?)
+        let head = self.guarded(alloc, WHILE)?;
+        let ElseIf {
+            word,
+            bracket,
+            condition,
+            block,
+        } = head;
+        Ok(StmtTree::repeat(word, bracket, condition, block))
     }
 
     /// A `foreach`.
@@ -97,29 +115,34 @@ impl<'a> Parser<'a> {
         ensures sticks { IsErrOf result Stop.Syntax → Sticks (phrase phrases.stmt ∷ []) self.old self.new }
         ensures shorter { OnOk result (length self.new < length self.old) }
     {
-        let word = self.expect(FOREACH)?;
-        let bracket = self.expect(PAREN)?;
-        let name = self.expect(NAME)?;
+        let word = self.keep(FOREACH)?;
+        let bracket = self.keep(PAREN)?;
+        let name = self.keep(NAME)?;
         self.skip(IN)?;
         let over = self.expr(alloc)?;
-        self.skip(CLOSE_PAREN)?;
+        let over = self.ended_by(over, CLOSE_PAREN)?;
         let block = self.block(alloc)?;
-        Ok(hera_trees::foreach_stmt(word, bracket, name, over, block)?)
+        Ok(StmtTree::foreach(word, bracket, name, over, block))
     }
 
-    /// `'if' '(' expr ')' block` behind an `else`
+    /// `('else' 'if' '(' expr ')' block)* ('else' block)?`
     #[cycle(stmt)]
-    fn else_if(&mut self, alloc: Global) -> Result<ElseIf, Stop>
-        ensures reads { IfOk result (λ tree. Gives (keep (phrases.word 10 ∷ []) ∷ keep phrases.paren ∷ phrase phrases.expr ∷ leave phrases.close_paren ∷ phrase phrases.block ∷ []) self.old (else_if_rest tree) [] self.new) }
-        ensures sticks { IsErrOf result Stop.Syntax → Sticks (keep (phrases.word 10 ∷ []) ∷ keep phrases.paren ∷ phrase phrases.expr ∷ leave phrases.close_paren ∷ phrase phrases.block ∷ []) self.old self.new }
-        ensures shorter { OnOk result (length self.new < length self.old) }
+    fn elses(&mut self, alloc: Global) -> Result<(Vec<ElseIf>, Option<Block>), Stop>
+        ensures reads { IfOk result (λ both. Gives (phrase phrases.else_part ∷ []) self.old (flat_map else_if_row both.0.items ++ last_else both.1) [] self.new) }
+        ensures sticks { IsErrOf result Stop.Syntax → Sticks (phrase phrases.else_part ∷ []) self.old self.new }
+        ensures no_longer { OnOk result (length self.new ≤ length self.old) }
     {
-        let word = self.expect(IF)?;
-        let bracket = self.expect(PAREN)?;
-        let condition = self.expr(alloc)?;
-        self.skip(CLOSE_PAREN)?;
-        let block = self.block(alloc)?;
-        Ok(hera_trees::else_if(word, bracket, condition, block)?)
+        let mut items = Vec::new(alloc);
+        'elses: while self.next_is(&[ELSE]) {
+            let before = self.ended_by(items, ELSE)?;
+            if !self.next_is(IF) {
+                let last = self.block(alloc)?;
+                return Ok((before, Some(last)));
+            }
+            let item = self.guarded(alloc, IF)?;
+            items = pushed(before, item)?;
+        }
+        Ok((items, None))
     }
 
     /// An `if`.
@@ -130,28 +153,15 @@ impl<'a> Parser<'a> {
         ensures sticks { IsErrOf result Stop.Syntax → Sticks (phrase phrases.stmt ∷ []) self.old self.new }
         ensures shorter { OnOk result (length self.new < length self.old) }
     {
-        let word = self.expect(IF)?;
-        let bracket = self.expect(PAREN)?;
-        let condition = self.expr(alloc)?;
-        self.skip(CLOSE_PAREN)?;
-        let block = self.block(alloc)?;
-        let mut else_ifs = Vec::new(alloc);
-        'elses: while self.next_is(&[ELSE]) {
-            self.skip(ELSE)?;
-            if !self.next_is(IF) {
-                let last = self.block(alloc)?;
-                return Ok(hera_trees::branch(
-                    word,
-                    bracket,
-                    condition,
-                    block,
-                    else_ifs,
-                    Some(last),
-                )?);
-            }
-            let else_if = self.else_if(alloc)?;
-            else_ifs.push(else_if)?;
-        }
-        Ok(hera_trees::branch(word, bracket, condition, block, else_ifs, None)?)
+        let head = self.guarded(alloc, IF)?;
+        let both = self.elses(alloc)?;
+        let (else_ifs, last) = both;
+        let ElseIf {
+            word,
+            bracket,
+            condition,
+            block,
+        } = head;
+        Ok(StmtTree::branch(word, bracket, condition, block, else_ifs, last))
     }
 }

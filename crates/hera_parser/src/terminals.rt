@@ -45,24 +45,6 @@ pub const FOLD_WORDS: &[Terminal] = &[Terminal::Key(38), Terminal::Key(39), Term
 
 pub const PART_WORDS: &[Terminal] = &[Terminal::Key(43), Terminal::Key(44)];
 
-pub const WHEN: &[Terminal] = &[Terminal::Key(24)];
-
-pub const OR_OPS: &[Terminal] = &[Terminal::Punct(25)];
-
-pub const AND_OPS: &[Terminal] = &[Terminal::Punct(24)];
-
-pub const SUM_OPS: &[Terminal] = &[Terminal::Punct(17), Terminal::Punct(18)];
-
-pub const TERM_OPS: &[Terminal] = &[
-    Terminal::Punct(19),
-    Terminal::Punct(20),
-    Terminal::Punct(21),
-];
-
-pub const SMASH_OPS: &[Terminal] = &[Terminal::Punct(22)];
-
-pub const MERGE_OPS: &[Terminal] = &[Terminal::Punct(23)];
-
 pub const RELATION: &[Terminal] = &[Terminal::Key(0)];
 
 pub const FUNC: &[Terminal] = &[Terminal::Key(1)];

@@ -1,9 +1,9 @@
-use Rattle.std.proofs.Common.{◌<◌, ◌+◌, ◌*◌, [], ◌∷◌, ◌++◌, length}
+use Rattle.std.proofs.Common.{◌<◌, ◌≤◌, ◌+◌, ◌*◌, [], ◌∷◌, ◌++◌, length}
 use Rattle.std.specs.List.{flat_map}
 use Rattle.hera_syntax.specs.Grammar.{phrase, leave}
 use Rattle.hera_syntax.specs.Grammar as phrases
-use Rattle.hera_syntax.specs.Outline.{expr_outline, hold, node, skip}
-use Rattle.hera_syntax.specs.Programs.{block_outline, else_if_row, stmt_row}
+use Rattle.hera_syntax.specs.Outline.{hold, node}
+use Rattle.hera_syntax.specs.Programs.{else_if_row, stmt_row}
 use Rattle.hera_parser.specs.Reading.{Gives}
 use Rattle.hera_parser.proofs.parser.Parser.+stmt.Given as goal
 
@@ -22,23 +22,26 @@ decreases-block-stmts l = length l.self
 abbrev pub decreases-stmt : goal.decreases-stmt
 decreases-stmt l = 64 * length l.self.now + 2
 
+abbrev pub decreases-guarded : goal.decreases-guarded
+decreases-guarded l = 64 * length l.self.now + 0
+
 abbrev pub decreases-repeat : goal.decreases-repeat
 decreases-repeat l = 64 * length l.self.now + 1
 
 abbrev pub decreases-foreach : goal.decreases-foreach
 decreases-foreach l = 64 * length l.self.now + 1
 
-abbrev pub decreases-else_if : goal.decreases-else_if
-decreases-else_if l = 64 * length l.self.now + 1
+abbrev pub decreases-elses : goal.decreases-elses
+decreases-elses l = 64 * length l.self.now + 0
+
+abbrev pub invariant-elses-elses : goal.invariant-elses-elses
+invariant-elses-elses l = record {
+  reads : Gives (phrase phrases.else_part ∷ []) l.fn.self (flat_map else_if_row l.items.items) (phrase phrases.else_part ∷ []) l.self;
+  no_longer : length l.self ≤ length l.fn.self;
+}
+
+abbrev pub decreases-elses-elses : goal.decreases-elses-elses
+decreases-elses-elses l = length l.self
 
 abbrev pub decreases-branch : goal.decreases-branch
 decreases-branch l = 64 * length l.self.now + 1
-
-abbrev pub invariant-branch-elses : goal.invariant-branch-elses
-invariant-branch-elses l = record {
-  reads : Gives (phrase phrases.stmt ∷ []) l.fn.self (node phrases.stmt 2 ++ hold l.word ++ hold l.bracket ++ expr_outline l.condition ++ skip phrases.close_paren ++ block_outline l.block ++ flat_map else_if_row l.else_ifs.items) (phrase phrases.else_part ∷ []) l.self;
-  shorter : length l.self < length l.fn.self;
-}
-
-abbrev pub decreases-branch-elses : goal.decreases-branch-elses
-decreases-branch-elses l = length l.self

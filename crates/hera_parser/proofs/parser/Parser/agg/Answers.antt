@@ -23,4 +23,4 @@ pub returns-in_err-skip-clause-sticks : goal.returns-in_err-skip-clause-sticks
 returns-in_err-skip-clause-sticks c h = stops (next (next (next (choose phrases.agg 1 (other phrases.agg ((sym c.next_is.ensures ∙ c.if-next_is.false), tt))) c.in_ok-word.ensures.reads) c.in_ok-bracket.ensures.reads) c.in_ok-name.ensures.reads) (c.in_err-skip.ensures.sticks (search rules))
 
 pub returns-clause-reads : goal.returns-clause-reads
-returns-clause-reads c = as_marks c.in_ok-agg_of.ensures (next (next (next (next (choose phrases.agg 1 (other phrases.agg ((sym c.next_is.ensures ∙ c.if-next_is.false), tt))) c.in_ok-word.ensures.reads) c.in_ok-bracket.ensures.reads) c.in_ok-name.ensures.reads) c.in_ok-skip.ensures.reads)
+returns-clause-reads c = as_marks c.of.ensures (next (next (next (next (choose phrases.agg 1 (other phrases.agg ((sym c.next_is.ensures ∙ c.if-next_is.false), tt))) c.in_ok-word.ensures.reads) c.in_ok-bracket.ensures.reads) c.in_ok-name.ensures.reads) c.in_ok-skip.ensures.reads)

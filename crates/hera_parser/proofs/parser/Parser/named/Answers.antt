@@ -1,6 +1,6 @@
 use Rattle.std.proofs.Common.{rules, refl, sym, ap, ◌∙◌}
 use Rattle.hera_syntax.specs.Grammar as phrases
-use Rattle.hera_syntax.specs.Outline.{expr_outline}
+use Rattle.hera_syntax.specs.Outline.{some_args_outline, expr_outline}
 use Rattle.hera_parser.proofs.Steps.{choose, next, next_choose, stops, as_marks}
 use Rattle.hera_parser.proofs.Choices.{told, other}
 use Rattle.hera_parser.proofs.parser.Parser.named.Goals as goal
@@ -26,11 +26,11 @@ returns-in_err-bracket-clause-sticks c h = stops (next_choose 1 (next (choose ph
 pub returns-in_err-args-clause-sticks : goal.returns-in_err-args-clause-sticks
 returns-in_err-args-clause-sticks c h = stops (next (next_choose 1 (next (choose phrases.stmt 1 c.requires) c.in_ok-name.ensures.reads) (other phrases.named ((sym c.next_is.ensures ∙ c.if-next_is.false), tt))) c.in_ok-bracket.ensures.reads) (c.in_err-args.ensures.sticks (search rules))
 
-pub returns-in_err-skip-2-clause-sticks : goal.returns-in_err-skip-2-clause-sticks
-returns-in_err-skip-2-clause-sticks c h = stops (next (next (next_choose 1 (next (choose phrases.stmt 1 c.requires) c.in_ok-name.ensures.reads) (other phrases.named ((sym c.next_is.ensures ∙ c.if-next_is.false), tt))) c.in_ok-bracket.ensures.reads) c.in_ok-args.ensures.reads) (c.in_err-skip-2.ensures.sticks (search rules))
+pub returns-in_err-args-2-clause-sticks : goal.returns-in_err-args-2-clause-sticks
+returns-in_err-args-2-clause-sticks c h = stops (next (next (next_choose 1 (next (choose phrases.stmt 1 c.requires) c.in_ok-name.ensures.reads) (other phrases.named ((sym c.next_is.ensures ∙ c.if-next_is.false), tt))) c.in_ok-bracket.ensures.reads) c.in_ok-args.ensures.reads) (c.in_err-args-2.ensures.sticks (search rules))
 
-pub returns-in_err-skip-3-clause-sticks : goal.returns-in_err-skip-3-clause-sticks
-returns-in_err-skip-3-clause-sticks c h = stops (next (next (next (next_choose 1 (next (choose phrases.stmt 1 c.requires) c.in_ok-name.ensures.reads) (other phrases.named ((sym c.next_is.ensures ∙ c.if-next_is.false), tt))) c.in_ok-bracket.ensures.reads) c.in_ok-args.ensures.reads) c.in_ok-skip-2.ensures.reads) (c.in_err-skip-3.ensures.sticks (search rules))
+pub returns-in_err-args-3-clause-sticks : goal.returns-in_err-args-3-clause-sticks
+returns-in_err-args-3-clause-sticks c h = stops (next (next (next (next_choose 1 (next (choose phrases.stmt 1 c.requires) c.in_ok-name.ensures.reads) (other phrases.named ((sym c.next_is.ensures ∙ c.if-next_is.false), tt))) c.in_ok-bracket.ensures.reads) c.in_ok-args.ensures.reads) c.in_ok-args-2.ensures.reads) (c.in_err-args-3.ensures.sticks (search rules))
 
 pub returns-clause-reads : goal.returns-clause-reads
-returns-clause-reads c = as_marks c.call.ensures (next (next (next (next (next_choose 1 (next (choose phrases.stmt 1 c.requires) c.in_ok-name.ensures.reads) (other phrases.named ((sym c.next_is.ensures ∙ c.if-next_is.false), tt))) c.in_ok-bracket.ensures.reads) c.in_ok-args.ensures.reads) c.in_ok-skip-2.ensures.reads) c.in_ok-skip-3.ensures.reads)
+returns-clause-reads c = as_marks c.call.ensures (next (next (next (next (next_choose 1 (next (choose phrases.stmt 1 c.requires) c.in_ok-name.ensures.reads) (other phrases.named ((sym c.next_is.ensures ∙ c.if-next_is.false), tt))) c.in_ok-bracket.ensures.reads) (as_marks (ap some_args_outline c.in_ok-args-3.ensures.same ∙ ap some_args_outline c.in_ok-args-2.ensures.same) c.in_ok-args.ensures.reads)) c.in_ok-args-2.ensures.reads) c.in_ok-args-3.ensures.reads)

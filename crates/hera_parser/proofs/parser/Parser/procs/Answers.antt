@@ -13,7 +13,7 @@ returns-in_err-item-clause-sticks c h = stops (join c.all.invariant.reads (next_
 
 pub all-preserved : goal.all-preserved
 all-preserved c = record {
-  reads = rows_more proc_row [] c.all.all.items c.in_ok-item.item c.all.invariant.reads (next (next_choose 0 idle (told phrases.procs 0 refl (sym c.next_is.ensures ∙ c.all-test.true))) c.in_ok-item.ensures.reads) c.in_ok-push.ensures.items;
+  reads = rows_more proc_row [] c.all.all.items c.in_ok-item.item c.all.invariant.reads (next (next_choose 0 idle (told phrases.procs 0 refl (sym c.next_is.ensures ∙ c.all-test.true))) c.in_ok-item.ensures.reads) c.in_ok-all.ensures;
   no_longer = omega (arith, c.all.invariant.no_longer, c.in_ok-item.ensures.shorter);
 }
 

@@ -13,4 +13,4 @@ pub returns-in_err-old-clause-sticks : goal.returns-in_err-old-clause-sticks
 returns-in_err-old-clause-sticks c h = stops (next (next (choose phrases.renaming 0 (record { number = refl })) c.in_ok-new.ensures.reads) c.in_ok-skip.ensures.reads) (c.in_err-old.ensures.sticks (search rules))
 
 pub returns-clause-reads : goal.returns-clause-reads
-returns-clause-reads c = as_marks c.in_ok-renaming.ensures (next (next (next (choose phrases.renaming 0 (record { number = refl })) c.in_ok-new.ensures.reads) c.in_ok-skip.ensures.reads) c.in_ok-old.ensures.reads)
+returns-clause-reads c = as_marks c.new.ensures (next (next (next (choose phrases.renaming 0 (record { number = refl })) c.in_ok-new.ensures.reads) c.in_ok-skip.ensures.reads) c.in_ok-old.ensures.reads)
