@@ -1,5 +1,5 @@
-//! Runs the cases of standard input, each a command line and a script, by the top call of `hera`, over sources and an
-//! output in memory.
+//! Runs the cases of standard input, each a command line and a script, by the top call of `hera`, over sources, files
+//! and an output in memory.
 //!
 //! A case begins with a line `== NAME: WORDS`, its name and the words of its command line. Where the words name a file,
 //! its script is that file, and for the word `-` the lines up to the next case, joined by line feeds. For each case the
@@ -8,9 +8,10 @@
 
 ghost use Rattle.std.specs.Prelude.{◌≡◌, IfOk, length};
 
-use hera_causes::{MemOutput, MemSource};
+use hera_causes::MemSource;
 use hera_host::HostTable;
 use hera_top::{files_of, hera};
+use hera_volume::MemOutside;
 use std::alloc::{AllocError, Global};
 use std::fs::{self, Files};
 use std::io::{self, BufRead, BufReader};
@@ -81,7 +82,7 @@ fn run<R: Files + Print + AllocGlobal>(rt: &R, mut case: Case) -> io::Result<()>
         case.load(rt, file.as_str())?;
     }
     let mut sources = sources_of(alloc, &case.script, last - first)?;
-    let mut outside = MemOutput::new(alloc, Vec::new(alloc));
+    let mut outside = MemOutside::new(alloc, Vec::new(alloc), None, Vec::new(alloc));
     let status = hera(
         alloc,
         &words,

@@ -1,4 +1,4 @@
-ghost use Rattle.std.specs.Prelude.{◌≡◌, ◌≤◌, ◌≢◌, ◌⊎◌, [], length};
+ghost use Rattle.std.specs.Prelude.{ℕ, ◌≡◌, ◌≤◌, ◌≢◌, ◌⊎◌, [], length};
 ghost use Rattle.hera_causes.specs.Causes.{Rose};
 ghost use Rattle.hera_meaning.specs.Plain.{program_of};
 ghost use Rattle.hera_meaning.specs.Sound.{Sound};
@@ -49,7 +49,7 @@ fn perform<W: Outside>(
     hosts: &HostTable,
 ) -> ExitStatus
     requires sound { Sound (program_of program.now) (specs_of hosts.now) }
-    requires no_hosts { hosts.now ≡ [] }
+    requires no_hosts { (turns : ℕ) → command ≡ Command.Eval turns → hosts.now ≡ [] }
     ensures said { IsSaid (outcome_of hosts.now command (program_of program.now)) (number_of result) (passage W.told W.disk W.emitted W.output_faults W.device_faults W.moment W.left_since outside.old outside.new) }
     ensures later { W.output_faults outside.old ≤ W.output_faults outside.new }
     ensures output { result ≡ ExitStatus.OutputFailed → Rose (W.output_faults outside.old) (W.output_faults outside.new) }
@@ -72,7 +72,7 @@ pub(crate) fn answer_script<W: Outside>(
     hosts: &HostTable,
 ) -> ExitStatus
     requires short { length script.now ≤ 1048576 }
-    requires no_hosts { hosts.now ≡ [] }
+    requires no_hosts { (turns : ℕ) → command ≡ Command.Eval turns → hosts.now ≡ [] }
     ensures said { SaysOutcome hosts.now command script.now (number_of result) (passage W.told W.disk W.emitted W.output_faults W.device_faults W.moment W.left_since outside.old outside.new) }
     ensures later { W.output_faults outside.old ≤ W.output_faults outside.new }
     ensures output { result ≡ ExitStatus.OutputFailed → Rose (W.output_faults outside.old) (W.output_faults outside.new) }

@@ -1,6 +1,7 @@
 use crate::{files_of, hera};
-use hera_causes::{MemOutput, MemSource, Piece};
+use hera_causes::{MemSource, Piece};
 use hera_host::HostTable;
+use hera_volume::MemOutside;
 use std::alloc::{AllocError, Global};
 use std::process::Abort;
 use std::test::Fail;
@@ -14,104 +15,90 @@ fn words_in(alloc: Global, line: &[&str]) -> Result<Vec<String>, AllocError> {
     Ok(words)
 }
 
-/// Calls with these words and this script, and compares what was emitted and the status. The first read and the first
-/// emissions follow the pieces.
+/// A source of this script whose first reads follow the pieces.
+fn source_of(
+    alloc: Global,
+    script: &[u8],
+    pieces: &[Piece],
+) -> Result<Vec<MemSource>, AllocError> {
+    let mut sources = Vec::new(alloc);
+    sources.push(MemSource::new(script.to_vec(alloc)?, pieces.to_vec(alloc)?))?;
+    Ok(sources)
+}
+
+/// Calls with these words, over empty files and an output whose first emissions follow the pieces, and compares what was
+/// emitted and the status.
 fn check(
     rt: &impl Abort,
     alloc: Global,
-    line: &[&str],
-    script: &[u8],
-    pieces: (&[Piece], &[Piece]),
+    words: &Vec<String>,
+    sources: &mut Vec<MemSource>,
+    pieces: Vec<Piece>,
     output: &[u8],
     status: u8,
-) -> Result<(), AllocError> {
-    let words = words_in(alloc, line)?;
-    let (first, last) = files_of(&words);
-    let mut sources = Vec::new(alloc);
-    if first < last {
-        sources.push(MemSource::new(script.to_vec(alloc)?, pieces.0.to_vec(alloc)?))?;
-    }
+) {
+    let (first, last) = files_of(words);
     assert!(rt; first < 3);
     assert!(rt; sources.len() + first == last);
-    let mut outside = MemOutput::new(alloc, pieces.1.to_vec(alloc)?);
+    let mut outside = MemOutside::new(alloc, Vec::new(alloc), None, pieces);
     let answer = hera(
         alloc,
-        &words,
-        &mut sources,
+        words,
+        sources,
         &mut outside,
         &HostTable::new(alloc),
     );
     assert_eq!(rt; outside.bytes(), output);
     assert_eq!(rt; answer, status);
-    Ok(())
-}
-
-#[test]
-fn faulty_words_are_refused(rt: HostRuntime) -> Result<(), Fail> {
-    let lines: [&[&str]; 7] = [
-        &["eval", "-1", "f"],
-        &["run", "d"],
-        &[],
-        &["eval", "100"],
-        &["check", "1", "f"],
-        &["eval", "18446744073709551616", "f"],
-        &["eval", "000000000000000000001", "f"],
-    ];
-    for line in lines {
-        check(&rt, rt.alloc(), line, b"", (&[], &[]), b"usage\n", 2)?;
-    }
-    let line: &[&str] = &["eval", "00018446744073709551", "f"];
-    check(&rt, rt.alloc(), line, b"main { }", (&[], &[]), b"", 0)?;
-    Ok(())
+    assert_eq!(rt; outside.calls(), 0);
 }
 
 #[test]
 fn bytes_are_refused_before_tokens(rt: HostRuntime) -> Result<(), Fail> {
     let alloc = rt.alloc();
-    let line: &[&str] = &["check", "f"];
-    check(
-        &rt,
-        alloc,
-        line,
-        b"\xff",
-        (&[], &[]),
-        b"refused BadUtf8 at 0\n",
-        3,
-    )?;
-    let more = vec![in alloc; b' '; 1_048_577]?;
-    let refused = b"refused TooLong at 1048576\n";
-    check(&rt, alloc, line, &more, (&[], &[]), refused, 3)?;
-    let most = vec![in alloc; b' '; 1_048_576]?;
-    check(&rt, alloc, line, &most, (&[], &[]), b"accepted\n", 0)?;
+    let words = words_in(alloc, &["check", "f"])?;
+    let cases: [(usize, u8, &[u8], u8); 3] = [
+        (1, 0xff, b"refused BadUtf8 at 0\n", 3),
+        (1_048_577, b' ', b"refused TooLong at 1048576\n", 3),
+        (1_048_576, b' ', b"accepted\n", 0),
+    ];
+    for (count, byte, output, status) in cases {
+        let script = vec![in alloc; byte; count]?;
+        let mut sources = source_of(alloc, &script, &[])?;
+        check(
+            &rt,
+            alloc,
+            &words,
+            &mut sources,
+            Vec::new(alloc),
+            output,
+            status,
+        );
+    }
     Ok(())
 }
 
 #[test]
 fn faults_end_the_call(rt: HostRuntime) -> Result<(), Fail> {
     let alloc = rt.alloc();
-    let line: &[&str] = &["eval", "100", "f"];
-    let row: &[u8] = b"main { print 2 + 3 * 4; }";
-    check(
-        &rt,
-        alloc,
-        line,
-        row,
-        (&[], &[Piece::Take(1), Piece::Fail]),
-        b"1",
-        8,
-    )?;
+    let words = words_in(alloc, &["eval", "100", "f"])?;
     let script: &[u8] = b"main { print 14; print 15; }";
-    let cut = &[Piece::Take(3), Piece::Take(1), Piece::Fail];
-    check(&rt, alloc, line, script, (&[], cut), b"14\n1", 8)?;
-    let unread: &[Piece] = &[Piece::Fail];
-    check(
-        &rt,
-        alloc,
-        line,
-        script,
-        (unread, &[]),
-        b"script unread\n",
-        7,
-    )?;
+    let cases: [(&[Piece], &[Piece], &[u8], u8); 3] = [
+        (&[], &[Piece::Take(1), Piece::Fail], b"1", 8),
+        (&[], &[Piece::Take(3), Piece::Take(1), Piece::Fail], b"14\n1", 8),
+        (&[Piece::Fail], &[], b"script unread\n", 7),
+    ];
+    for (reads, emissions, output, status) in cases {
+        let mut sources = source_of(alloc, script, reads)?;
+        check(
+            &rt,
+            alloc,
+            &words,
+            &mut sources,
+            emissions.to_vec(alloc)?,
+            output,
+            status,
+        );
+    }
     Ok(())
 }

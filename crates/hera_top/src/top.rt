@@ -1,4 +1,4 @@
-ghost use Rattle.std.specs.Prelude.{◌≡◌, ◌≤◌, ◌+◌, [], length, Some, None, ◌≢◌};
+ghost use Rattle.std.specs.Prelude.{ℕ, ◌≡◌, ◌≤◌, ◌+◌, [], length, Some, None, ◌≢◌};
 ghost use Rattle.hera_causes.specs.Causes.{Rose};
 ghost use Rattle.hera_top.specs.Outcome.{refused, IsSaid, Answers};
 ghost use Rattle.hera_top.specs.Passages.{passage};
@@ -28,7 +28,7 @@ fn answer<S: Source, W: Outside>(
     outside: &mut W,
     hosts: &HostTable,
 ) -> ExitStatus
-    requires no_hosts { hosts.now ≡ [] }
+    requires no_hosts { (turns : ℕ) → command ≡ Command.Eval turns → hosts.now ≡ [] }
     ensures answers { Answers hosts.now command (record { left = S.left source.old; faults = S.faults source.old }) (record { left = S.left source.new; faults = S.faults source.new }) (number_of result) (passage W.told W.disk W.emitted W.output_faults W.device_faults W.moment W.left_since outside.old outside.new) }
     ensures sources { S.faults source.old ≤ S.faults source.new }
     ensures later { W.output_faults outside.old ≤ W.output_faults outside.new }
@@ -57,7 +57,7 @@ fn answer<S: Source, W: Outside>(
 /// - `list FILE` prints the listing of its code.
 /// - `eval TURNS FILE` runs it on an empty database with at most TURNS turns.
 ///
-/// A script may call the hosts of the table. The table has to be empty, since the machine asks no host yet.
+/// A script may call the hosts of the table. For `eval` the table has to be empty, since the machine asks no host yet.
 ///
 /// The statuses: 0 the command or the run is done, 1 the run ended in a trap, 2 the words are no listed form, 3 the
 /// script is refused, 4 the turns were spent, 7 the script's source failed, 8 the output failed, 9 there was no
@@ -70,7 +70,7 @@ pub fn hera<S: Source, W: Outside>(
     hosts: &HostTable,
 ) -> u8
     requires sources { length sources.old.items + (files_in (command_of (words_of words.now.items))).0 ≡ (files_in (command_of (words_of words.now.items))).1 }
-    requires no_hosts { hosts.now ≡ [] }
+    requires no_hosts { (turns : ℕ) → command_of (words_of words.now.items) ≡ Some (Command.Eval turns) → hosts.now ≡ [] }
 
     // Words that are no listed form.
     ensures usage { command_of (words_of words.now.items) ≡ None → IsSaid (refused Refusal.Usage) result (passage W.told W.disk W.emitted W.output_faults W.device_faults W.moment W.left_since outside.old outside.new) }
