@@ -6,4 +6,4 @@ mod fields;
 mod header;
 pub mod laws;
 
-pub use header::{PageFault, read_header};
+pub use header::{PageFault, damaged, read_header};

@@ -2,6 +2,8 @@
 #![tactic(auto)]
 
 mod base;
+mod fields;
+mod pages;
 
 pub use base::{Base, PageRel};
 
