@@ -1,2 +1,4 @@
 pub mod States
 pub mod Lengths
+pub mod RowSteps
+pub mod PageSteps

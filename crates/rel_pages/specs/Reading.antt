@@ -9,6 +9,12 @@ use Rattle.rel_pages.specs.declared.fields.PageEnd.{PageEnd as CodeEnd}
 abbrev pub told : CodeEnd → PageEnd
 told e = record { rel = e.rel; used = e.used; row = e.row.now }
 
+abbrev pub row_told : PageEnd → Row
+row_told e = e.row
+
+abbrev pub used_told : PageEnd → ℕ
+used_told e = e.used
+
 -- rows of a page were read: so many of its bytes are used, and this is the last row
 pub record RowsTo (b : Book) (left rel : ℕ) (x : ℕ × Row) (more : ℕ) (t : Stand) : Type 0 where
   pub first : Row

@@ -1,12 +1,12 @@
 //! The pages of a half, read one after another.
 ghost use Rattle.std.specs.Prelude.{IfSome, ◌≡◌, ◌≤◌, ◌<◌, ◌+◌, ℕ, suc, List, [], length, map, slice_get, Some, IfOk};
-ghost use Rattle.std.specs.Option.{option_map};
+ghost use Rattle.std.specs.Option.{option_map, option_copied};
 ghost use Rattle.hera_sets.specs.Rows.{Row};
 ghost use Rattle.hera_meaning.specs.Deltas.{schema_of};
 ghost use Rattle.rel_format.specs.Pages.{Format};
 ghost use Rattle.rel_format.specs.Table.{Book, Stand, at_page, at_rels, behind_row, page_before};
 ghost use Rattle.rel_format.specs.Places.{Finds};
-ghost use Rattle.rel_pages.specs.Reading.{told, RowsTo, PageTo};
+ghost use Rattle.rel_pages.specs.Reading.{told, row_told, used_told, RowsTo, PageTo};
 
 use crate::fields::{PageEnd, RowRule, fill_at, rel_at, row_at, row_count_at};
 use hera_meaning::{RelId, Schema};
@@ -23,6 +23,31 @@ fn page_before<'a>(last: Option<PageEnd<'a>>, rel: u16) -> Option<PageEnd<'a>>
     match last {
         Some(end) if end.rel == rel => Some(end),
         _ => None,
+    }
+}
+
+/// What the first row of a page has to keep to.
+fn first_rule<'a>(page: usize, earlier: Option<PageEnd<'a>>) -> RowRule<'a>
+    requires { IfSome earlier (λ end. end.used ≤ page) }
+    ensures page { result.page ≡ page }
+    ensures used { result.used ≡ 4 }
+    ensures before { option_copied result.before ≡ option_map row_told (option_map told earlier.entry) }
+    ensures full { result.full ≡ option_map used_told (option_map told earlier.entry) }
+    ensures fits { IfSome result.full (λ used. used ≤ page) }
+{
+    match earlier {
+        None => RowRule {
+            page,
+            used: PAGE_HEAD,
+            before: None,
+            full: None,
+        },
+        Some(end) => RowRule {
+            page,
+            used: PAGE_HEAD,
+            before: Some(end.row),
+            full: Some(end.used),
+        },
     }
 }
 
@@ -46,12 +71,7 @@ fn rows_at<'a>(
     ensures read { (f : Format) (b : Book) (left rel : ℕ) → f.page ≡ page → schema_of b.rels rel ≡ schema.now → page_before b.last rel ≡ option_map told earlier.entry →
         Finds f bytes.entry.now at (behind_row b left (record { rel = rel; rows = [] }) count) (λ x. RowsTo b left rel (x.0, x.1.now) 0) result }
 {
-    let first = RowRule {
-        page,
-        used: PAGE_HEAD,
-        before: earlier.map(|end| end.row),
-        full: earlier.map(|end| end.used),
-    };
+    let first = first_rule(page, earlier);
     let Some(row) = row_at(schema, &first, bytes, at) else {
         return Err(damaged(at));
     };
