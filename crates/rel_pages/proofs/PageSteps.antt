@@ -1,7 +1,7 @@
 -- Walking on by the fields of pages.
-use Rattle.std.proofs.Common.{◌≡◌, ◌≤◌, ◌<◌, ℕ, zero, suc, ◌+◌, ◌-◌, List, [], ◌∷◌, ◌++◌, false, length, take, drop, Option, Some, None, Result, Ok, Err, refl, sym, ap, subst, ◌∙◌, arith}
+use Rattle.std.proofs.Common.{◌≡◌, ◌≤◌, ◌<◌, ℕ, zero, suc, ◌+◌, ◌-◌, List, [], ◌∷◌, ◌++◌, false, length, map, set, get_or, take, drop, Option, Some, None, Result, Ok, Err, refl, sym, ap, subst, ◌∙◌, arith}
 use Rattle.std.specs.Int.{w32}
-use Rattle.std.specs.Prelude.{slice_get}
+use Rattle.std.specs.Prelude.{slice_get, replicate}
 use Rattle.std.proofs.lemmas.Option.{none-some, same_Some}
 use Rattle.std.proofs.lemmas.List.{length-take}
 use Rattle.hera_sets.specs.Rows.{Row}
@@ -12,10 +12,10 @@ use Rattle.rel_format.specs.declared.header.PageFault.{PageFault}
 use Rattle.rel_format.specs.declared.header.PageFault.TheVariants.{Damaged, Memory}
 use Rattle.rel_format.specs.Pages.{Format, used_by}
 use Rattle.rel_format.specs.Fields.{PageEnd, number, rel_field, row_count_field, fill_field}
-use Rattle.rel_format.specs.Table.{Book, Page, Stand, at_magic, at_rels, at_page, at_row_count, at_fill, behind_row, with_page, no_pages, page_before, end_of_page, last_row, field, long_field, next}
+use Rattle.rel_format.specs.Table.{Book, Page, Stand, at_magic, at_rels, at_page, at_row_count, at_fill, behind_row, with_page, no_pages, add_page, page_before, end_of_page, last_row, field, long_field, next}
 use Rattle.rel_format.specs.Places.{Reaches, Stops, Finds}
 use Rattle.rel_format.proofs.Walks.{step_by}
-use Rattle.rel_pages.specs.Reading.{RowsTo, PageTo, told}
+use Rattle.rel_pages.specs.Reading.{RowsTo, PageTo, PagesTo, pages_len, told}
 use Rattle.rel_pages.specs.declared.fields.PageEnd.{PageEnd as CodeEnd}
 
 -- a fault behind fields is a fault
@@ -78,3 +78,76 @@ page_read f bytes at b left page end p e within so_far =
   where
     ends : ℕ → ℕ → Row → PageEnd
     ends rel used row = record { rel = rel; used = used; row = row }
+
+-- ---- all pages
+
+-- pages were read, and so many come behind them
+pub record PagesOn (f : Format) (bytes : List ℕ) (page at : ℕ) (rels : List RelDecl) (last : Option PageEnd) (lens : List ℕ) (left : ℕ) : Type 0 where
+  pub book : Book
+  pub own : book.rels ≡ rels
+  pub ended : book.last ≡ last
+  pub lengths : lens ≡ map (pages_len page) book.pages
+  pub reached : Reaches f bytes at (at_page book left)
+
+pub no_count : (f : Format) (bytes : List ℕ) (at : ℕ) (rels : List RelDecl) → None ≡ number w32 (drop at bytes) → Reaches f bytes at (at_rels rels 0) → Stops f bytes at
+no_count f bytes at rels e r = (at_rels rels 0, r, ap (field 4 (at_page (no_pages rels))) (sym e), refl)
+
+lens_none : (page : ℕ) (rels : List RelDecl) → replicate (length rels) 0 ≡ map (pages_len page) (map (λ (d : RelDecl). []) rels)
+lens_none page [] = refl
+lens_none page (d ∷ rels) = ap (λ (xs : List ℕ). 0 ∷ xs) (lens_none page rels)
+
+pub counted : (f : Format) (bytes : List ℕ) (page at : ℕ) (rels : List RelDecl) (lens : List ℕ) (n m : ℕ) → Some n ≡ number w32 (drop at bytes) → lens ≡ replicate m 0 → m ≡ length rels → Reaches f bytes at (at_rels rels 0) → PagesOn f bytes page (at + 4) rels None lens n
+counted f bytes page at rels lens n m e z h r = record {
+  book = no_pages rels;
+  own = refl;
+  ended = refl;
+  lengths = z ∙ ap (λ (k : ℕ). replicate k 0) h ∙ lens_none page rels;
+  reached = step_by (next f) bytes (0, at_magic) at (at_rels rels 0) 4 (at_page (no_pages rels) n) r (ap (field 4 (at_page (no_pages rels))) (sym e));
+}
+
+pages_len-push : (page : ℕ) (g : List (List Row)) (rows : List Row) → pages_len page (g ++ rows ∷ []) ≡ pages_len page g + page
+pages_len-push page [] rows = omega arith
+pages_len-push page (x ∷ g) rows = let more = pages_len-push page g rows in omega (arith, more)
+
+lens_added : (page : ℕ) (gs : List (List (List Row))) (rel : ℕ) (rows : List Row) → map (pages_len page) (add_page gs rel rows) ≡ set (map (pages_len page) gs) rel (get_or (map (pages_len page) gs) rel 0 + page)
+lens_added page [] rel rows = refl
+lens_added page (g ∷ gs) zero rows = ap (λ (n : ℕ). n ∷ map (pages_len page) gs) (pages_len-push page g rows)
+lens_added page (g ∷ gs) (suc rel) rows = ap (λ (xs : List ℕ). pages_len page g ∷ xs) (lens_added page gs rel rows)
+
+pub page_on : (f : Format) (bytes : List ℕ) (page at behind : ℕ) (rels : List RelDecl) (last : Option PageEnd) (lens more : List ℕ) (left : ℕ) (end : CodeEnd) → (h : PagesOn f bytes page at rels last lens (suc left)) → (t : Stand) × PageTo h.book left end t × Reaches f bytes behind t →
+    more ≡ set lens end.rel (get_or lens end.rel 0 + page) → PagesOn f bytes page behind rels (Some (told end)) more left
+page_on f bytes page at behind rels last lens more left end h read e =
+    let rows = read.1.rows in
+    record {
+      book = with_page h.book (record { rel = end.rel; rows = rows });
+      own = h.own;
+      ended = ap (λ (x : PageEnd). Some x) read.1.end;
+      lengths = e ∙ ap (λ (xs : List ℕ). set xs end.rel (get_or xs end.rel 0 + page)) h.lengths ∙ sym (lens_added page h.book.pages end.rel rows);
+      reached = subst (Reaches f bytes behind) read.1.stand read.2;
+    }
+
+pub left_one : (f : Format) (bytes : List ℕ) (page at : ℕ) (rels : List RelDecl) (last : Option PageEnd) (lens : List ℕ) (n k : ℕ) → k < n → PagesOn f bytes page at rels last lens (n - k) → PagesOn f bytes page at rels last lens (suc (n - (k + 1)))
+left_one f bytes page at rels last lens n k lt h = let e : n - k ≡ suc (n - (k + 1)) = omega (arith, lt) in subst (PagesOn f bytes page at rels last lens) e h
+
+pub all_read : (f : Format) (bytes : List ℕ) (page at : ℕ) (rels : List RelDecl) (last : Option PageEnd) (lens : List ℕ) (n k : ℕ) → n ≤ k → PagesOn f bytes page at rels last lens (n - k) → (t : Stand) × PagesTo page rels lens t × Reaches f bytes at t
+all_read f bytes page at rels last lens n k le h =
+    let e : n - k ≡ 0 = omega (arith, le) in
+    (at_page h.book 0, record { book = h.book; own = h.own; told = h.lengths; stand = refl }, subst (λ (m : ℕ). Reaches f bytes at (at_page h.book m)) e h.reached)
+
+pub get_none : (n i : ℕ) → get_or (replicate {A = ℕ} n 0) i 0 ≤ 0
+get_none zero i = omega arith
+get_none (suc n) zero = omega arith
+get_none (suc n) (suc i) = get_none n i
+
+pub small_set : (lens : List ℕ) (i j v n : ℕ) → ((k : ℕ) → get_or lens k 0 ≤ n) → v ≤ n → get_or (set lens i v) j 0 ≤ n
+small_set [] i j v n h le = h j
+small_set (x ∷ lens) zero zero v n h le = le
+small_set (x ∷ lens) zero (suc j) v n h le = h (suc j)
+small_set (x ∷ lens) (suc i) zero v n h le = h 0
+small_set (x ∷ lens) (suc i) (suc j) v n h le = small_set lens i j v n (λ k. h (suc k)) le
+
+pub fault_in_page : {B : Type 0} (f : Format) (bytes : List ℕ) (page at place : ℕ) (rels : List RelDecl) (last : Option PageEnd) (lens : List ℕ) (left : ℕ) (All : B → Stand → Type 0) (e : PageFault) → f.page ≡ page →
+    (Reaches f bytes at (at_rels rels 0) → PagesOn f bytes page place rels last lens (suc left)) →
+    ((b : Book) → b.rels ≡ rels → b.last ≡ last → Finds {A = CodeEnd} f bytes place (at_page b (suc left)) (PageTo b left) (Err e)) → Finds f bytes at (at_rels rels 0) All (Err e)
+fault_in_page f bytes page at place rels last lens left All (Damaged n) p go h = λ r. let on = go r in h on.book on.own on.ended on.reached
+fault_in_page f bytes page at place rels last lens left All Memory p go h = tt

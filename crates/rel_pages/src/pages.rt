@@ -1,17 +1,18 @@
 //! The pages of a half, read one after another.
-ghost use Rattle.std.specs.Prelude.{IfSome, ◌≡◌, ◌≤◌, ◌<◌, ◌+◌, ℕ, suc, List, [], length, map, slice_get, Some, IfOk};
+ghost use Rattle.std.specs.Prelude.{IfSome, ◌≡◌, ◌≤◌, ◌<◌, ◌+◌, ℕ, suc, List, [], ◌∷◌, ◌++◌, length, map, set, get_or, replicate, slice_get, Some, IfOk, IfErr, OnOk};
 ghost use Rattle.std.specs.Option.{option_map, option_copied};
 ghost use Rattle.hera_sets.specs.Rows.{Row};
 ghost use Rattle.hera_meaning.specs.Deltas.{schema_of};
 ghost use Rattle.rel_format.specs.Pages.{Format};
 ghost use Rattle.rel_format.specs.Table.{Book, Stand, at_page, at_rels, behind_row, page_before};
 ghost use Rattle.rel_format.specs.Places.{Finds};
-ghost use Rattle.rel_pages.specs.Reading.{told, row_told, used_told, RowsTo, PageTo};
+ghost use Rattle.rel_pages.specs.Reading.{told, row_told, used_told, RowsTo, PageTo, PagesTo};
 
-use crate::fields::{PageEnd, RowRule, fill_at, rel_at, row_at, row_count_at};
+use crate::fields::{PageEnd, RowRule, fill_at, page_count_at, rel_at, row_at, row_count_at};
 use hera_meaning::{RelId, Schema};
 use hera_row::Catalogue;
 use rel_format::{PageFault, damaged};
+use std::alloc::{AllocError, Global};
 
 /// The bytes of a page before its rows.
 const PAGE_HEAD: usize = 4;
@@ -126,4 +127,65 @@ pub(crate) fn page_at<'a>(
         return Err(damaged(behind));
     }
     Ok((PageEnd { rel, used, row }, behind + (page - used)))
+}
+
+/// So many zeros.
+fn zeros(alloc: Global, count: usize) -> Result<Vec<usize>, PageFault>
+    ensures ok { IfOk result (λ zeros. zeros.items ≡ replicate count 0) }
+    ensures err { IfErr result (λ e. e ≡ PageFault.Memory) }
+{
+    let mut zeros = Vec::new(alloc);
+    for _ in 0..count {
+        push(&mut zeros, 0)?;
+    }
+    Ok(zeros)
+}
+
+/// Puts a number behind the others.
+fn push(numbers: &mut Vec<usize>, number: usize) -> Result<(), PageFault>
+    ensures ok { OnOk result (numbers.new.items ≡ numbers.old.items ++ number ∷ []) }
+    ensures err { IfErr result (λ e. e ≡ PageFault.Memory) }
+{
+    match numbers.push(number) {
+        Ok(()) => Ok(()),
+        Err(_) => Err(PageFault::Memory),
+    }
+}
+
+/// Adds the bytes of a page to those of its relation.
+fn add_page(lens: &mut Vec<usize>, rel: u16, page: usize)
+    requires known { rel < length lens.old.items }
+    requires fits { get_or lens.old.items rel 0 + page ≤ 18446744073709551615 }
+    ensures { lens.new.items ≡ set lens.old.items rel (get_or lens.old.items rel 0 + page) }
+{
+    lens[rel as usize] += page;
+}
+
+/// The pages whose number stands at a place: the bytes of those of each relation, and the place
+/// behind them.
+pub(crate) fn pages_at(
+    alloc: Global,
+    page: usize,
+    bytes: &[u8],
+    at: usize,
+    rels: &Catalogue,
+) -> Result<(Vec<usize>, usize), PageFault>
+    requires within { at ≤ length bytes.now }
+    requires sized { 4 ≤ page }
+    ensures within { IfOk result (λ x. x.1 ≤ length bytes.now) }
+    ensures read { (f : Format) → f.page ≡ page → Finds f bytes.now at (at_rels rels.now 0) (λ lens. PagesTo page rels.now lens.items) result }
+{
+    let Some(count) = page_count_at(bytes, at) else {
+        return Err(damaged(at));
+    };
+    let mut lens = zeros(alloc, rels.len())?;
+    let mut at = at + 4;
+    let mut last = None;
+    for _ in 0..count {
+        let (end, behind) = page_at(page, bytes, at, rels, last)?;
+        add_page(&mut lens, end.rel, page);
+        at = behind;
+        last = Some(end);
+    }
+    Ok((lens, at))
 }
