@@ -2,3 +2,5 @@ pub mod States
 pub mod Lengths
 pub mod RowSteps
 pub mod PageSteps
+pub mod Runs
+pub mod Searches

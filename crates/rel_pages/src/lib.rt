@@ -3,6 +3,7 @@
 
 mod base;
 mod fields;
+mod page_rel;
 mod pages;
 
 pub use base::{Base, PageRel};
