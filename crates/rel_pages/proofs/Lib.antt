@@ -4,3 +4,5 @@ pub mod RowSteps
 pub mod PageSteps
 pub mod Runs
 pub mod Searches
+pub mod Prints
+pub mod Halves

@@ -3,8 +3,10 @@
 
 mod base;
 mod fields;
+mod half;
 mod page_rel;
 mod pages;
+mod parts;
 
 pub use base::{Base, PageRel};
 
