@@ -6,3 +6,4 @@ pub mod Longest
 pub mod Greedy
 pub mod Good
 pub mod Printed
+pub mod Fronts

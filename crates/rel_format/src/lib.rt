@@ -5,5 +5,7 @@
 mod fields;
 mod header;
 pub mod laws;
+mod writing;
 
 pub use header::{PageFault, damaged, read_header};
+pub use writing::header_bytes;

@@ -8,7 +8,9 @@ mod page_rel;
 mod pages;
 mod parts;
 
-pub use base::{Base, PageRel};
+pub use base::{Base, read_half};
+pub use page_rel::PageRel;
+pub use rel_format::PageFault;
 
 #[cfg(test)]
 mod tests {
