@@ -6,3 +6,4 @@ pub mod Runs
 pub mod Searches
 pub mod Prints
 pub mod Halves
+pub mod Bases

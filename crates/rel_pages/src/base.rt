@@ -72,7 +72,7 @@ impl Base {
         let mut bytes = header_bytes(alloc, b"HERA0001", &catalogue)?;
         // no pages
         bytes.extend_from_slice(&[0, 0, 0, 0])?;
-        let journal = bytes.len();
+        let journal = bytes.as_slice().len();
         // the closed gate
         bytes.push(0)?;
         let parts = empty_parts(alloc, journal, catalogue.len())?;
