@@ -172,7 +172,6 @@ all_zero (x ∷ xs) h =
     let both = and_parts (x == 0) (list_all (λ y. y == 0) xs) h in
     ap (λ (y : ℕ). y ∷ xs) (eqb-true x 0 both.0) ∙ ap (λ (t : List ℕ). 0 ∷ t) (all_zero xs both.1)
 
-
 pub record LongIs (behind : List ℕ → Stand) (o : Option (List ℕ)) (m : ℕ) (t : Stand) : Type 0 where
   pub value : List ℕ
   pub is : o ≡ Some value
@@ -330,7 +329,6 @@ print_step f (at_kind p more name) rest n t bytes good e =
     let a : Attr = record { name = name; kind = x.value } in
     ap (so_far f) (sym x.next) ∙ behind_print f (with_attr p a) more ∙ with_kind f p more name x.value
     ∙ ap (λ (u : List ℕ). (part_front f p (length p.attrs + suc more) ++ name_bytes name) ++ u) (sym (kind_is rest x.value x.is) ∙ ap (λ (m : ℕ). take m rest) x.size)
-
 print_step f (at_rels rels zero) rest n t bytes good e =
     let x = field_is 4 (at_page (no_pages rels)) (number w32 rest) n t e in
     let none_more : length rels ≡ length rels + 0 = omega arith in

@@ -102,8 +102,8 @@ all_read_is f bytes at end rels lens b all some catalogue here within header own
     let front = header_of f rels ++ number in
     let none_more : pages_counted b.pages + 0 ≡ pages_counted b.pages = omega arith in
     let print : take end bytes ≡ front ++ groups =
-        well.printed ∙ ap (λ (r : List RelDecl). header_of f r ++ to_be_bytes w32 (pages_counted b.pages + 0) ++ groups) own
-        ∙ ap (λ (n : ℕ). header_of f rels ++ to_be_bytes w32 n ++ groups) none_more in
+    well.printed ∙ ap (λ (r : List RelDecl). header_of f r ++ to_be_bytes w32 (pages_counted b.pages + 0) ++ groups) own
+    ∙ ap (λ (n : ℕ). header_of f rels ++ to_be_bytes w32 n ++ groups) none_more in
     let head_size : length (header_of f rels) ≡ at = sym (ap (λ (t : List ℕ). length t) header) ∙ omega (arith, length-take at bytes, here) in
     let front_size : length front ≡ at + 4 = omega (arith, length-append (header_of f rels) number, head_size, length-four (pages_counted b.pages)) in
     let groups_len : length groups ≡ total lens = groups_size f.page 0 rels b.pages some good ∙ ap total (sym told) in

@@ -67,13 +67,12 @@ page_read f bytes at b left page end p e within so_far =
     let h = so_far.1 in
     let q : Page = record { rel = end.rel; rows = h.first ∷ h.rest } in
     let fill = take (page - end.used) (drop at bytes) in
-    let size : length fill ≡ page - end.used = omega (arith, length-take (page - end.used) (drop at bytes), within) in
-    (
+    let size : length fill ≡ page - end.used = omega (arith, length-take (page - end.used) (drop at bytes), within) in (
       at_page (with_page b q) left,
       record { rows = h.first ∷ h.rest; end = ap (λ (n : ℕ). ends end.rel n (last_row (h.first ∷ h.rest))) h.used ∙ ap (ends end.rel end.used) h.last; stand = refl },
       subst (λ (n : ℕ). Reaches f bytes (at + n) (at_page (with_page b q) left)) size
-      (step_by (next f) bytes (0, at_magic) at (at_fill b left q) (length fill) (at_page (with_page b q) left) (subst (Reaches f bytes at) h.stand so_far.2)
-      (ap (long_field (λ (z : List ℕ). at_page (with_page b q) left)) (fill_here f b left end.rel page end.used end.row.now so_far.0 (drop at bytes) p h ∙ e))),
+          (step_by (next f) bytes (0, at_magic) at (at_fill b left q) (length fill) (at_page (with_page b q) left) (subst (Reaches f bytes at) h.stand so_far.2)
+          (ap (long_field (λ (z : List ℕ). at_page (with_page b q) left)) (fill_here f b left end.rel page end.used end.row.now so_far.0 (drop at bytes) p h ∙ e))),
     )
   where
     ends : ℕ → ℕ → Row → PageEnd

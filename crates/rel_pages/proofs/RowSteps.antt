@@ -61,8 +61,7 @@ pub first_row_read : (f : Format) (bytes : List ℕ) (at : ℕ) (b : Book) (left
     Reaches f bytes at (behind_row b left (record { rel = rel; rows = [] }) count) → (t : Stand) × RowsTo b left rel (4 + length r, r) (count - 1) t × Reaches f bytes (at + length r) t
 first_row_read f bytes at b left rel count page schema before full r some h e reached =
     let p : Page = record { rel = rel; rows = [] } in
-    let size : used_by (r ∷ []) ≡ 4 + length r = used-push [] r in
-    (
+    let size : used_by (r ∷ []) ≡ 4 + length r = used-push [] r in (
       behind_row b left (with_row_in p r) (count - 1),
       record { first = r; rest = []; used = size; last = refl; stand = refl },
       row_step f bytes at b left p (count - 1) r (first_at f bytes at b left rel count some reached) (first_field f b rel page schema before full (drop at bytes) h ∙ sym e),
@@ -96,8 +95,7 @@ pub more_row_read : (f : Format) (bytes : List ℕ) (at : ℕ) (b : Book) (left 
 more_row_read f bytes at b left rel count k page schema used last r p s lt e so_far =
     let h = so_far.1 in
     let q : Page = record { rel = rel; rows = h.first ∷ h.rest } in
-    let size = used-push (h.first ∷ h.rest) r in
-    (
+    let size = used-push (h.first ∷ h.rest) r in (
       behind_row b left (with_row_in q r) (count - (k + 1)),
       record { first = h.first; rest = h.rest ++ r ∷ []; used = omega (arith, size, h.used); last = last_push (h.first ∷ h.rest) r; stand = refl },
       row_step f bytes at b left q (count - (k + 1)) r (rows_stand f bytes at b left rel count k (used, last) so_far.0 lt h so_far.2) (next_field f b rel page schema used last h.first h.rest (drop at bytes) p s h.used h.last ∙ sym e),

@@ -27,7 +27,7 @@ pages_from schema page n zero bytes le h =
     let none : 0 ≡ 0 * page = omega arith in
     let all : n ≡ n - 0 = omega arith in
     let whole : (0 ≤ length bytes) × ArePagesOf schema page (n - 0) bytes × (pages_rows schema page n bytes ≡ pages_rows schema page (n - 0) bytes) =
-        (omega arith, subst (λ (m : ℕ). ArePagesOf schema page m bytes) all h, ap (λ (m : ℕ). pages_rows schema page m bytes) all) in
+    (omega arith, subst (λ (m : ℕ). ArePagesOf schema page m bytes) all h, ap (λ (m : ℕ). pages_rows schema page m bytes) all) in
     record {
       within = omega (arith, none);
       pages = subst (λ (m : ℕ). ArePagesOf schema page (n - 0) (drop m bytes)) none whole.1;
@@ -125,5 +125,6 @@ held_from q (x ∷ xs) up =
   where
     here : is_below x q ≡ false → is_that q (find (λ r. not (is_below r q)) (x ∷ xs)) ≡ is_same q x
     here e = ap (λ b. is_that q (cond (not b) (Some x) (find (λ r. not (is_below r q)) xs))) e
+
     cond_there : is_below x q ≡ true → is_that q (find (λ r. not (is_below r q)) (x ∷ xs)) ≡ is_that q (find (λ r. not (is_below r q)) xs)
     cond_there e = ap (λ b. is_that q (cond (not b) (Some x) (find (λ r. not (is_below r q)) xs))) e

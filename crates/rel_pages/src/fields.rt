@@ -91,7 +91,12 @@ fn rel_field(bytes: &[u8], count: usize, last: Option<PageEnd<'_>>) -> Option<u1
 }
 
 /// The relation at a place of a page.
-pub(crate) fn rel_at(bytes: &[u8], at: usize, count: usize, last: Option<PageEnd<'_>>) -> Option<u16>
+pub(crate) fn rel_at(
+    bytes: &[u8],
+    at: usize,
+    count: usize,
+    last: Option<PageEnd<'_>>,
+) -> Option<u16>
     requires { at ≤ length bytes.now }
     ensures value { result ≡ rel_field count (option_map told last.entry) (drop at bytes.now) }
     ensures within { IfSome result (λ rel. at + 2 ≤ length bytes.now) }

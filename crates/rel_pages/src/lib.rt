@@ -38,7 +38,10 @@ mod tests {
         let base = Base::empty(rt.alloc(), catalogue)?;
         assert_eq!(rt; number, RelId(0));
         assert_eq!(rt; base.catalogue().len(), 1);
-        assert_eq!(rt; base.bytes(), b"HERA0001\0\x01\x01R\x01\x01a\x01\0\0\0\0\0".as_slice());
+        assert_eq!(rt;
+            base.bytes(),
+            b"HERA0001\0\x01\x01R\x01\x01a\x01\0\0\0\0\0".as_slice()
+        );
         let rows = base.rel(RelId(0));
         assert!(rt; rows.above(None).is_none() && !rows.has(b"a"));
         Ok(())
@@ -62,12 +65,23 @@ mod tests {
         for (bytes, place) in [
             (b"HERA000".as_slice(), 0),
             (b"HERA0001\x01\x01\x01R", 8),
-            (b"HERA0001\0\x02\x01R\x01\x01a\x04\x01S\x01\x01a\x01\0\0\0\0\0", 15),
-            (b"HERA0001\0\x02\x01R\x01\x01a\x01\x01R\x01\x01a\x01\0\0\0\0\0", 17),
-            (b"HERA0001\0\x02\x01R\x01\x01a\x01\x01S\x01\x01a\x01\0\0\0\x01\x01\0\0", 26),
+            (
+                b"HERA0001\0\x02\x01R\x01\x01a\x04\x01S\x01\x01a\x01\0\0\0\0\0",
+                15,
+            ),
+            (
+                b"HERA0001\0\x02\x01R\x01\x01a\x01\x01R\x01\x01a\x01\0\0\0\0\0",
+                17,
+            ),
+            (
+                b"HERA0001\0\x02\x01R\x01\x01a\x01\x01S\x01\x01a\x01\0\0\0\x01\x01\0\0",
+                26,
+            ),
         ] {
             let bytes = Vec::from_slice(rt.alloc(), bytes)?;
-            assert!(rt; matches!(read_half(rt.alloc(), bytes), Err(PageFault::Damaged { at }) if at == place));
+            assert!(rt;
+                matches!(read_half(rt.alloc(), bytes), Err(PageFault::Damaged { at }) if at == place)
+            );
         }
         for (head, end, place) in [
             (b"\0\x01\0\x01".as_slice(), 0, 20),
@@ -76,7 +90,9 @@ mod tests {
             (b"\0\0\0\x01\x80\0\0\0\0\0\0\x02", 7, 32),
         ] {
             let bytes = half_with(rt.alloc(), head, end)?;
-            assert!(rt; matches!(read_half(rt.alloc(), bytes), Err(PageFault::Damaged { at }) if at == place));
+            assert!(rt;
+                matches!(read_half(rt.alloc(), bytes), Err(PageFault::Damaged { at }) if at == place)
+            );
         }
         Ok(())
     }

@@ -114,7 +114,13 @@ fn pages_before(schema: &Schema, pages: &[u8], page: usize, count: usize, bound:
 }
 
 /// The first row of the page of this number.
-fn leading_at<'r>(schema: &Schema, pages: &'r [u8], page: usize, count: usize, number: usize) -> &'r [u8]
+fn leading_at<'r>(
+    schema: &Schema,
+    pages: &'r [u8],
+    page: usize,
+    count: usize,
+    number: usize,
+) -> &'r [u8]
     requires pages { ArePagesOf schema.now page count pages.now }
     requires within { number < count }
     ensures { result.now ≡ leading schema.now (drop 4 (take page (drop (number * page) pages.entry.now))) }
@@ -163,7 +169,12 @@ fn row_count(page: &[u8]) -> usize
 }
 
 /// The first of so many rows that is looked for.
-fn first_of<'r>(schema: &Schema, bytes: &'r [u8], count: usize, bound: Bound<'_>) -> Option<&'r [u8]>
+fn first_of<'r>(
+    schema: &Schema,
+    bytes: &'r [u8],
+    count: usize,
+    bound: Bound<'_>,
+) -> Option<&'r [u8]>
     requires { IsRun schema.now count bytes.now }
     ensures { option_copied result ≡ find (passes bound.entry) (rows_from schema.now count bytes.entry.now) }
 {
