@@ -1,1 +1,5 @@
 pub mod Stored
+pub mod Reading
+pub mod Rels
+pub mod Parts
+pub mod Halves

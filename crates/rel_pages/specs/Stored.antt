@@ -1,12 +1,14 @@
 -- What contracts see of a base.
-use Rattle.std.specs.Prelude.{List, [], map}
+use Rattle.std.specs.Prelude.{ℕ, List, [], map}
 use Rattle.hera_meaning.specs.declared.schemas.RelDecl.{RelDecl}
 use Rattle.hera_meaning.specs.Deltas.{State}
 
--- a catalogue, and for each of its relations the rows
+-- a catalogue, for each of its relations the rows, the bytes of the half, and the place of its first gate
 pub record Stored : Type 0 where
   pub catalogue : List RelDecl
   pub state : State
+  pub bytes : List ℕ
+  pub journal : ℕ
 
 -- the state in which no relation of the catalogue has a row
 abbrev pub empty_state : List RelDecl → State

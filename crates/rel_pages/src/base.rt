@@ -1,47 +1,90 @@
-//! The rows of each relation of a catalogue.
-ghost use Rattle.std.specs.Prelude.{◌≡◌, ◌<◌, length, slice_get, Some, IfOk};
+//! The rows of each relation of a catalogue, in the bytes of a half.
+ghost use Rattle.std.specs.Prelude.{◌≡◌, ◌<◌, ◌≤◌, length, slice_get, replicate, Some, IfOk};
 ghost use Rattle.hera_meaning.specs.Deltas.{IsState};
+ghost use Rattle.rel_format.specs.Pages.{format_one, half_of, pages_of};
 ghost use Rattle.rel_pages.specs.Stored.{empty_state};
+ghost use Rattle.rel_pages.specs.Halves.{HalfIs};
 
+use crate::fields::rest_at;
+use crate::half::parts_of;
+use crate::page_rel::PageRel;
+use crate::parts::Part;
 use hera_meaning::RelId;
 use hera_row::Catalogue;
-use hera_rows::{RowSet, Sorted};
+use rel_format::{PageFault, header_bytes};
 use std::alloc::{AllocError, Global};
 use std::marker::Model;
 
-/// A catalogue, and the rows of each of its relations.
+/// The most bytes of a half.
+const HALF_LIMIT: usize = 268_435_456;
+
+/// The bytes of a page.
+const PAGE: usize = 8192;
+
+/// A catalogue, and the rows of each of its relations, which lie in the bytes of a half.
 #[derive(Drop)]
 pub struct Base {
     catalogue: Catalogue,
-    rels: Vec<RowSet>,
+    bytes: Vec<u8>,
+    parts: Vec<Part>,
+    journal: usize,
 }
 
 impl Model for Base {
+    ghost use Rattle.rel_format.specs.Pages.{format_one};
     ghost use Rattle.rel_pages.specs.Stored.{Stored};
-    ghost use Rattle.hera_meaning.specs.Deltas.{IsState};
+    ghost use Rattle.rel_pages.specs.Parts.{state_of, IsBase};
 
     ghost Value = { Stored };
 
-    ghost view = { λ b. record { catalogue = b.catalogue; state = b.rels.items } };
+    ghost view = { λ b. record { catalogue = b.catalogue; state = state_of format_one.page b.catalogue b.parts.items b.bytes.items; bytes = b.bytes.items; journal = b.journal } };
 
-    ghost invariant = { λ b. IsState b.catalogue b.rels.items };
+    ghost invariant = { λ b. IsBase format_one b.catalogue b.parts.items b.bytes.items b.journal };
+}
+
+/// Reads a half up to its first gate. `Damaged` tells the length of the longest good prefix, or
+/// 268435456 where there are more bytes than that.
+pub fn read_half(alloc: Global, bytes: Vec<u8>) -> Result<Base, PageFault>
+    ensures { HalfIs format_one bytes.items result }
+{
+    if bytes.len() > HALF_LIMIT {
+        return Err(PageFault::Damaged {
+            at: HALF_LIMIT as u64,
+        });
+    }
+    let ((catalogue, parts), journal) = parts_of(alloc, b"HERA0001", PAGE, &bytes)?;
+    Ok(Base {
+        catalogue,
+        bytes,
+        parts,
+        journal,
+    })
 }
 
 impl Base {
-    /// The base in which no relation of the catalogue has a row.
+    /// The base in which no relation of the catalogue has a row, with the bytes of its half.
     pub fn empty(alloc: Global, catalogue: Catalogue) -> Result<Base, AllocError>
         ensures catalogue { IfOk result (λ base. base.catalogue ≡ catalogue) }
         ensures state { IfOk result (λ base. base.state ≡ empty_state catalogue) }
+        ensures bytes { IfOk result (λ base. base.bytes ≡ half_of format_one catalogue (empty_state catalogue)) }
+        ensures journal { IfOk result (λ base. base.journal ≡ length (pages_of format_one catalogue (empty_state catalogue))) }
     {
-        let mut rels = Vec::new(alloc);
-        for _ in 0..catalogue.len() {
-            rels.push(RowSet::new(alloc))?;
-        }
-        Ok(Base { catalogue, rels })
+        let mut bytes = header_bytes(alloc, b"HERA0001", &catalogue)?;
+        // no pages
+        bytes.extend_from_slice(&[0, 0, 0, 0])?;
+        let journal = bytes.as_slice().len();
+        // the closed gate
+        bytes.push(0)?;
+        let parts = empty_parts(alloc, journal, catalogue.len())?;
+        Ok(Base {
+            catalogue,
+            bytes,
+            parts,
+            journal,
+        })
     }
 
     /// The relations.
-    #[tactic(auto, using(crate::proofs::States::state_length))]
     pub fn catalogue(&self) -> &Catalogue
         ensures catalogue { result.now ≡ self.now.catalogue }
         // Each relation has an ascending list of rows of its schema.
@@ -51,41 +94,44 @@ impl Base {
         &self.catalogue
     }
 
-    /// The rows of a relation. It takes no memory.
-    #[tactic(auto, using(crate::proofs::States::state_length))]
+    /// The bytes of the half, as they were read.
+    pub fn bytes(&self) -> &[u8]
+        ensures { result.now ≡ self.now.bytes }
+    {
+        &self.bytes
+    }
+
+    /// The place of the first gate.
+    pub fn journal_at(&self) -> usize
+        ensures place { result ≡ self.now.journal }
+        ensures within { result ≤ length self.now.bytes }
+    {
+        self.journal
+    }
+
+    /// The rows of a relation, which are slices of the base's bytes. It takes no memory.
     pub fn rel(&self, rel: RelId) -> PageRel<'_>
         requires { rel.0 < length self.now.catalogue }
         ensures { slice_get self.now.state rel.0 ≡ Some result }
     {
-        match self.rels.get(rel.0 as usize) {
-            Some(rows) => PageRel { rows },
+        match self.parts.get(rel.0 as usize) {
+            Some(part) => PageRel {
+                schema: &self.catalogue.decl(rel).schema,
+                pages: rest_at(&self.bytes, part.at).split_at(part.len).0,
+                page: PAGE,
+            },
             None => unreachable!(),
         }
     }
 }
 
-/// The rows of one relation of a base, in byte order.
-#[derive(Drop)]
-pub struct PageRel<'a> {
-    rows: &'a RowSet,
-}
-
-impl<'a> Model for PageRel<'a> {
-    ghost use Rattle.std.specs.Prelude.{List, ℕ};
-
-    ghost Value = { List (List ℕ) };
-
-    ghost view = { λ p. p.rows.now };
-}
-
-impl<'a> Sorted for PageRel<'a> {
-    ghost rows = { λ p. p };
-
-    fn above<'s>(&'s self, bound: Option<&[u8]>) -> Option<&'s [u8]> {
-        self.rows.above(bound)
+/// So many parts without bytes at a place.
+fn empty_parts(alloc: Global, at: usize, count: usize) -> Result<Vec<Part>, AllocError>
+    ensures { IfOk result (λ parts. parts.items ≡ replicate count (record { at = at; len = 0 })) }
+{
+    let mut parts = Vec::new(alloc);
+    for _ in 0..count {
+        parts.push(Part { at, len: 0 })?;
     }
-
-    fn has(&self, row: &[u8]) -> bool {
-        self.rows.has(row)
-    }
+    Ok(parts)
 }

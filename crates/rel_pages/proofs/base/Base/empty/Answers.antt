@@ -1,17 +1,20 @@
-use Rattle.std.proofs.Common.{◌∙◌, sym, ap, subst, arith, ◌++◌, ◌∷◌, []}
-use Rattle.std.proofs.lemmas.List.{replicate_more}
-use Rattle.hera_meaning.specs.Deltas.{IsState}
-use Rattle.rel_pages.proofs.States.{empty_is_state, begun_empty}
+use Rattle.std.proofs.Common.{◌≡◌, ◌∙◌, refl, sym, ap, length}
+use Rattle.rel_format.specs.Pages.{format_one}
+use Rattle.rel_pages.proofs.Bases.{EmptyIs, empty_is}
 use Rattle.rel_pages.proofs.base.Base.empty.Goals as goal
-
-pub loop-preserved : goal.loop-preserved
-loop-preserved c =
-    c.in_ok-push.ensures.items ∙ ap (λ x. c.loop.rels.items ++ x ∷ []) c.new.ensures ∙ ap (λ xs. xs ++ [] ∷ []) c.loop.invariant ∙ replicate_more c.loop.counter []
 
 pub invariant_of-result : goal.invariant_of-result
 invariant_of-result c =
-    subst (λ s. IsState c.args.catalogue s) (sym (begun_empty c.args.catalogue c.loop.rels.items c.loop.counter c.loop.invariant (omega (arith, c.loop-test.false, c.loop.auto.counter-end, c.len-end.ensures.count)))) (empty_is_state c.args.catalogue)
+    (empty_is c.args.catalogue c.in_ok-parts.parts.items c.in_ok-bytes.bytes.items _ c.push.new.self.items (length c.as_slice-journal.result.now) c.len.result c.len.ensures.valid (c.in_ok-bytes.ensures format_one refl) c.in_ok-extend_from_slice.ensures.items (ap length c.as_slice-journal.ensures.value) c.in_ok-push.ensures.items c.in_ok-parts.ensures c.len.ensures.count).base
 
 pub returns-clause-state : goal.returns-clause-state
 returns-clause-state c =
-    begun_empty c.args.catalogue c.loop.rels.items c.loop.counter c.loop.invariant (omega (arith, c.loop-test.false, c.loop.auto.counter-end, c.len-end.ensures.count))
+    (empty_is c.args.catalogue c.in_ok-parts.parts.items c.in_ok-bytes.bytes.items _ c.push.new.self.items (length c.as_slice-journal.result.now) c.len.result c.len.ensures.valid (c.in_ok-bytes.ensures format_one refl) c.in_ok-extend_from_slice.ensures.items (ap length c.as_slice-journal.ensures.value) c.in_ok-push.ensures.items c.in_ok-parts.ensures c.len.ensures.count).state
+
+pub returns-clause-bytes : goal.returns-clause-bytes
+returns-clause-bytes c =
+    (empty_is c.args.catalogue c.in_ok-parts.parts.items c.in_ok-bytes.bytes.items _ c.push.new.self.items (length c.as_slice-journal.result.now) c.len.result c.len.ensures.valid (c.in_ok-bytes.ensures format_one refl) c.in_ok-extend_from_slice.ensures.items (ap length c.as_slice-journal.ensures.value) c.in_ok-push.ensures.items c.in_ok-parts.ensures c.len.ensures.count).printed
+
+pub returns-clause-journal : goal.returns-clause-journal
+returns-clause-journal c =
+    (empty_is c.args.catalogue c.in_ok-parts.parts.items c.in_ok-bytes.bytes.items _ c.push.new.self.items (length c.as_slice-journal.result.now) c.len.result c.len.ensures.valid (c.in_ok-bytes.ensures format_one refl) c.in_ok-extend_from_slice.ensures.items (ap length c.as_slice-journal.ensures.value) c.in_ok-push.ensures.items c.in_ok-parts.ensures c.len.ensures.count).place

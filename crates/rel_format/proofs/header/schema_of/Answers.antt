@@ -1,0 +1,11 @@
+use Rattle.std.proofs.Common.{◌≡◌, ◌<◌, [], ◌∷◌, List, length, arith, ap, subst}
+use Rattle.hera_meaning.specs.declared.schemas.Attr.{Attr}
+use Rattle.hera_meaning.specs.declared.schemas.SchemaFault.TheVariants.{Empty, TooMany, Repeated}
+use Rattle.hera_meaning.specs.Schemas.{IsSchema, names_of}
+use Rattle.hera_meaning.specs.declared.schemas.SchemaFault.{SchemaFault}
+use Rattle.hera_meaning.specs.SchemaFaults.{IsSchemaFault}
+use Rattle.rel_format.proofs.Names.{no_schema_fault}
+use Rattle.rel_format.proofs.header.schema_of.Goals as goal
+
+pub unreachable-requires : goal.unreachable-requires
+unreachable-requires c = no_schema_fault c.args.attrs.items c.in-Err.field-0 (record { some = c.requires.some; few = c.requires.few; distinct = c.requires.distinct }) c.in-Err.ensures.refused

@@ -1,0 +1,6 @@
+use Rattle.std.proofs.Common.{◌≡◌}
+use Rattle.rel_format.proofs.Texts.{no_text_fault}
+use Rattle.rel_format.proofs.header.text_of.Goals as goal
+
+pub unreachable-requires : goal.unreachable-requires
+unreachable-requires c = c.in_default.not-Memory (no_text_fault c.args.name.now c.in-Err.fault c.requires c.in-Err.ensures.refused)

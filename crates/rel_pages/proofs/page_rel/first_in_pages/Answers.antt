@@ -1,0 +1,30 @@
+use Rattle.std.proofs.Common.{◌≡◌, ◌-◌, ◌+◌, ◌++◌, List, ℕ, Some, sym, ap, ◌∙◌, take, drop, subst}
+use Rattle.std.specs.List.{find}
+use Rattle.std.specs.Option.{option_copied}
+use Rattle.rel_pages.specs.Rels.{passes}
+use Rattle.rel_pages.specs.Rels.{IsPage, ArePagesOf, page_rows, pages_rows}
+use Rattle.rel_pages.proofs.Runs.{page_first, find_none, find_some}
+use Rattle.rel_pages.proofs.page_rel.first_in_pages.Goals as goal
+
+pub first_in_page-requires : goal.first_in_page-requires
+first_in_page-requires c =
+    let first = page_first c.args.schema.now c.args.page c.args.count c.loop.counter c.loop.left.now c.loop-test.true c.loop.invariant.pages in
+    subst (IsPage c.args.schema.now) (sym c.split_at.ensures.front) first.one
+
+pub returns-in-Some : goal.returns-in-Some
+returns-in-Some c =
+    let p = passes c.args.bound in
+    let first = page_first c.args.schema.now c.args.page c.args.count c.loop.counter c.loop.left.now c.loop-test.true c.loop.invariant.pages in
+    sym (c.loop.invariant.next ∙ ap (find p) first.rows
+    ∙ find_some p (page_rows c.args.schema.now (take c.args.page c.loop.left.now)) _ c.in-Some.row.now (ap (λ (x : List ℕ). find p (page_rows c.args.schema.now x)) (sym c.split_at.ensures.front) ∙ sym c.in-Some.ensures))
+
+pub loop-preserved : goal.loop-preserved
+loop-preserved c =
+    let p = passes c.args.bound in
+    let first = page_first c.args.schema.now c.args.page c.args.count c.loop.counter c.loop.left.now c.loop-test.true c.loop.invariant.pages in
+    record {
+      pages = subst (ArePagesOf c.args.schema.now c.args.page (c.args.count - (c.loop.counter + 1))) (sym c.split_at.ensures.back) first.more;
+      next = c.loop.invariant.next ∙ ap (find p) first.rows
+          ∙ find_none p (page_rows c.args.schema.now (take c.args.page c.loop.left.now)) _ (ap (λ (x : List ℕ). find p (page_rows c.args.schema.now x)) (sym c.split_at.ensures.front) ∙ sym c.in_default.ensures)
+          ∙ ap (λ (x : List ℕ). find p (pages_rows c.args.schema.now c.args.page (c.args.count - (c.loop.counter + 1)) x)) (sym c.split_at.ensures.back);
+    }

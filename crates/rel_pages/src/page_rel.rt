@@ -1,0 +1,203 @@
+//! The rows of one relation, in the bytes of its pages.
+ghost use Rattle.std.specs.Prelude.{◌≡◌, ◌<◌, ◌≤◌, ◌+◌, ◌*◌, ◌++◌, length, List, ℕ, true, is_some, Option, None, Some, take, drop};
+ghost use Rattle.std.specs.List.{find};
+ghost use Rattle.std.specs.Option.{option_copied};
+ghost use Rattle.hera_sets.specs.Rows.{is_same, IsAscending};
+ghost use Rattle.hera_row.specs.Reading.{row_len_of};
+ghost use Rattle.rel_pages.specs.Rels.{IsPaged, rows_in, rows_from, page_rows, pages_rows, rows_counted, leading, passes, IsPage, ArePagesOf, IsRun};
+
+use crate::fields::first_len;
+use hera_meaning::Schema;
+use hera_rows::Sorted;
+use std::marker::Model;
+
+/// The bytes of a page before its rows.
+const PAGE_HEAD: usize = 4;
+
+/// The rows of one relation, in byte order. `pages` are whole pages of `page` bytes, printed as those
+/// of one relation with this schema. Rows are lent as slices of them.
+#[derive(Drop)]
+pub struct PageRel<'a> {
+    pub schema: &'a Schema,
+    pub pages: &'a [u8],
+    pub page: usize,
+}
+
+impl<'a> Model for PageRel<'a> {
+    ghost use Rattle.std.specs.Prelude.{List, ℕ};
+    ghost use Rattle.rel_pages.specs.Rels.{IsPaged, rows_in};
+
+    ghost Value = { List (List ℕ) };
+
+    ghost view = { λ p. rows_in p.schema.now p.page p.pages.now };
+
+    ghost invariant = { λ p. IsPaged p.schema.now p.page p.pages.now };
+}
+
+/// Which rows are looked for: any, those past a row, or those that are not below one.
+#[derive(Clone, Copy)]
+enum Bound<'b> {
+    Any,
+    Past(&'b [u8]),
+    From(&'b [u8]),
+}
+
+impl<'a> Sorted for PageRel<'a> {
+    ghost rows = { λ p. p };
+
+    fn above<'s>(&'s self, bound: Option<&[u8]>) -> Option<&'s [u8]> {
+        let bound = match bound {
+            None => Bound::Any,
+            Some(row) => Bound::Past(row),
+        };
+        first_in(self.schema, self.pages, self.page, bound)
+    }
+
+    fn has(&self, row: &[u8]) -> bool {
+        match first_in(self.schema, self.pages, self.page, Bound::From(row)) {
+            None => false,
+            Some(found) => is_same(row, found),
+        }
+    }
+}
+
+/// Whether both are the same bytes.
+#[tactic(auto, unfolding(hera_sets::specs::Rows::is_same))]
+fn is_same(a: &[u8], b: &[u8]) -> bool
+    ensures { result ≡ is_same a.now b.now }
+{
+    a.cmp(b).is_eq()
+}
+
+/// Whether the row is one of those that are looked for.
+#[tactic(auto, unfolding(hera_sets::specs::Rows::is_below))]
+fn passes(bound: Bound<'_>, row: &[u8]) -> bool
+    ensures { result ≡ passes bound.entry row.now }
+{
+    match bound {
+        Bound::Any => true,
+        Bound::Past(low) => low.cmp(row).is_lt(),
+        Bound::From(low) => !row.cmp(low).is_lt(),
+    }
+}
+
+/// The first row that is looked for. The pages before its own are passed over by their first rows.
+fn first_in<'r>(schema: &Schema, pages: &'r [u8], page: usize, bound: Bound<'_>) -> Option<&'r [u8]>
+    requires { IsPaged schema.now page pages.now }
+    ensures { option_copied result ≡ find (passes bound.entry) (rows_in schema.now page pages.entry.now) }
+{
+    let count = pages.len() / page;
+    let before = pages_before(schema, pages, page, count, bound);
+    let rest = pages.split_at(before * page).1;
+    first_in_pages(schema, rest, page, count - before, bound)
+}
+
+/// So many pages that none of their rows is looked for: all before the last one whose first row is
+/// not looked for.
+fn pages_before(schema: &Schema, pages: &[u8], page: usize, count: usize, bound: Bound<'_>) -> usize
+    requires pages { ArePagesOf schema.now page count pages.now }
+    requires ascending { IsAscending (pages_rows schema.now page count pages.now) }
+    ensures within { result ≤ count }
+    ensures none { find (passes bound.entry) (pages_rows schema.now page result pages.now) ≡ None }
+{
+    let mut low = 0;
+    let mut high = count;
+    while high - low > 1 {
+        let middle = low + (high - low) / 2;
+        if passes(bound, leading_at(schema, pages, page, count, middle)) {
+            high = middle;
+        } else {
+            low = middle;
+        }
+    }
+    low
+}
+
+/// The first row of the page of this number.
+fn leading_at<'r>(
+    schema: &Schema,
+    pages: &'r [u8],
+    page: usize,
+    count: usize,
+    number: usize,
+) -> &'r [u8]
+    requires pages { ArePagesOf schema.now page count pages.now }
+    requires within { number < count }
+    ensures { result.now ≡ leading schema.now (drop 4 (take page (drop (number * page) pages.entry.now))) }
+{
+    let one = pages.split_at(number * page).1.split_at(page).0;
+    first_row(schema, one.split_at(PAGE_HEAD).1).0
+}
+
+/// The first row of so many pages that is looked for.
+fn first_in_pages<'r>(
+    schema: &Schema,
+    pages: &'r [u8],
+    page: usize,
+    count: usize,
+    bound: Bound<'_>,
+) -> Option<&'r [u8]>
+    requires { ArePagesOf schema.now page count pages.now }
+    ensures { option_copied result ≡ find (passes bound.entry) (pages_rows schema.now page count pages.entry.now) }
+{
+    let mut left = pages;
+    for _ in 0..count {
+        prove!(left.len() >= page);
+        let (one, behind) = left.split_at(page);
+        if let Some(row) = first_in_page(schema, one, bound) {
+            return Some(row);
+        }
+        left = behind;
+    }
+    None
+}
+
+/// The first row of a page that is looked for.
+fn first_in_page<'r>(schema: &Schema, page: &'r [u8], bound: Bound<'_>) -> Option<&'r [u8]>
+    requires { IsPage schema.now page.now }
+    ensures { option_copied result ≡ find (passes bound.entry) (page_rows schema.now page.entry.now) }
+{
+    first_of(schema, page.split_at(PAGE_HEAD).1, row_count(page), bound)
+}
+
+/// How many rows a page has.
+fn row_count(page: &[u8]) -> usize
+    requires { 4 ≤ length page.now }
+    ensures { result ≡ rows_counted page.now }
+{
+    u16::from_be_bytes([page[2], page[3]]) as usize
+}
+
+/// The first of so many rows that is looked for.
+fn first_of<'r>(
+    schema: &Schema,
+    bytes: &'r [u8],
+    count: usize,
+    bound: Bound<'_>,
+) -> Option<&'r [u8]>
+    requires { IsRun schema.now count bytes.now }
+    ensures { option_copied result ≡ find (passes bound.entry) (rows_from schema.now count bytes.entry.now) }
+{
+    let mut left = bytes;
+    for _ in 0..count {
+        let (row, behind) = first_row(schema, left);
+        if passes(bound, row) {
+            return Some(row);
+        }
+        left = behind;
+    }
+    None
+}
+
+/// The first row, and the bytes behind it.
+fn first_row<'r>(schema: &Schema, bytes: &'r [u8]) -> (&'r [u8], &'r [u8])
+    requires { is_some (row_len_of schema.now bytes.now) ≡ true }
+    ensures row { row_len_of schema.now bytes.entry.now ≡ Some (length result.0.now) }
+    ensures bytes { result.0.now ++ result.1.now ≡ bytes.entry.now }
+    ensures leading { result.0.now ≡ leading schema.now bytes.entry.now }
+{
+    match first_len(schema, bytes) {
+        Some(len) => bytes.split_at(len),
+        None => unreachable!(),
+    }
+}
