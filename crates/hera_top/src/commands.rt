@@ -22,7 +22,12 @@ use hera_volume::Outside;
 use std::alloc::Global;
 
 /// Prints the listing of a program's code, and gives the status.
-fn list<W: Outside>(alloc: Global, program: &Program, outside: &mut W, hosts: &HostTable) -> ExitStatus
+fn list<W: Outside>(
+    alloc: Global,
+    program: &Program,
+    outside: &mut W,
+    hosts: &HostTable,
+) -> ExitStatus
     requires { Sound (program_of program.now) (specs_of hosts.now) }
     ensures said { IsSaid (outcome_of hosts.now Command.List (program_of program.now)) (number_of result) (passage W.told W.disk W.emitted W.output_faults W.device_faults W.moment W.left_since outside.old outside.new) }
     ensures later { W.output_faults outside.old ≤ W.output_faults outside.new }

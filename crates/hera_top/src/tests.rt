@@ -16,11 +16,7 @@ fn words_in(alloc: Global, line: &[&str]) -> Result<Vec<String>, AllocError> {
 }
 
 /// A source of this script whose first reads follow the pieces.
-fn source_of(
-    alloc: Global,
-    script: &[u8],
-    pieces: &[Piece],
-) -> Result<Vec<MemSource>, AllocError> {
+fn source_of(alloc: Global, script: &[u8], pieces: &[Piece]) -> Result<Vec<MemSource>, AllocError> {
     let mut sources = Vec::new(alloc);
     sources.push(MemSource::new(script.to_vec(alloc)?, pieces.to_vec(alloc)?))?;
     Ok(sources)
@@ -41,13 +37,7 @@ fn check(
     assert!(rt; first < 3);
     assert!(rt; sources.len() + first == last);
     let mut outside = MemOutside::new(alloc, Vec::new(alloc), None, pieces);
-    let answer = hera(
-        alloc,
-        words,
-        sources,
-        &mut outside,
-        &HostTable::new(alloc),
-    );
+    let answer = hera(alloc, words, sources, &mut outside, &HostTable::new(alloc));
     assert_eq!(rt; outside.bytes(), output);
     assert_eq!(rt; answer, status);
     assert_eq!(rt; outside.calls(), 0);
@@ -85,7 +75,12 @@ fn faults_end_the_call(rt: HostRuntime) -> Result<(), Fail> {
     let script: &[u8] = b"main { print 14; print 15; }";
     let cases: [(&[Piece], &[Piece], &[u8], u8); 3] = [
         (&[], &[Piece::Take(1), Piece::Fail], b"1", 8),
-        (&[], &[Piece::Take(3), Piece::Take(1), Piece::Fail], b"14\n1", 8),
+        (
+            &[],
+            &[Piece::Take(3), Piece::Take(1), Piece::Fail],
+            b"14\n1",
+            8,
+        ),
         (&[Piece::Fail], &[], b"script unread\n", 7),
     ];
     for (reads, emissions, output, status) in cases {
