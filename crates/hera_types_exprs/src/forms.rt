@@ -1,6 +1,6 @@
 // The rows of typing for the forms of an expression, once its parts are typed.
 
-ghost use Rattle.std.specs.Prelude.{◌≡◌, IfOk, IfErr};
+ghost use Rattle.std.specs.Prelude.{◌≡◌, IfOk, IfErr, true};
 ghost use Rattle.hera_rules.specs.Agrees.{Gives, typing_of, typings_of};
 ghost use Rattle.hera_rules.specs.Environments.{env_of};
 ghost use Rattle.hera_rules.specs.Read.{bindings_words, int_of, prime_phrase, text_of};
@@ -9,7 +9,7 @@ ghost use Rattle.hera_meaning.specs.Trees.{constant as constant_expr};
 ghost use Rattle.hera_meaning.specs.declared.scalars.Scalar.TheVariants as scalars;
 ghost use Rattle.hera_meaning.specs.declared.trees.Const.TheVariants as consts;
 ghost use Rattle.hera_rules.specs.Rules.{literal_row, row_row, typing};
-ghost use Rattle.hera_types_exprs.specs.Parts.{one_row};
+ghost use Rattle.hera_types_exprs.specs.Parts.{has_one_part, one_row};
 
 use hera_meaning::{Const, Core, Scalar, Shape, Text};
 use hera_rules::{Globals, TypeFault, Typed, Word};
@@ -36,7 +36,7 @@ pub fn named_row_of(
     row_row_of(alloc, at, names, values)
 }
 
-/// A form with one part, once that is typed. Of any other form it says nothing: it answers as for want of memory.
+/// A form with one part, once that is typed.
 #[tactic(auto, using(crate::proofs::Steps::steps))]
 pub fn one_row_of(
     alloc: Global,
@@ -44,6 +44,7 @@ pub fn one_row_of(
     e: &Prime,
     value: Typed,
 ) -> Result<Typed, TypeFault>
+    requires { has_one_part e.now ≡ true }
     ensures { Gives typing_of result (one_row (env_of globals.now) (prime_phrase e.now) (typing_of value)) }
 {
     match e {
@@ -85,7 +86,7 @@ pub fn one_row_of(
             word.at,
             value,
         ),
-        _ => Err(TypeFault::Memory),
+        _ => unreachable!(),
     }
 }
 
