@@ -1,6 +1,6 @@
 // Types and cores of expressions.
 
-ghost use Rattle.std.specs.Prelude.{◌≡◌, [], OnOk};
+ghost use Rattle.std.specs.Prelude.{◌≡◌, [], OnOk, true};
 ghost use Rattle.hera_rules.specs.Agrees.{Gives, Keeps, typing_of};
 ghost use Rattle.hera_rules.specs.Checked.{check, check_all};
 ghost use Rattle.hera_rules.specs.Environments.{env_of};
@@ -26,7 +26,7 @@ ghost use Rattle.hera_rules.specs.Read.{
   word_of,
 };
 ghost use Rattle.hera_rules.specs.Typing.{slots_of, slots_of_all};
-ghost use Rattle.hera_types_exprs.specs.Parts.{list_of};
+ghost use Rattle.hera_types_exprs.specs.Parts.{has_many_parts, has_one_part, list_of};
 
 use crate::forms::{
     bool_literal, fail_literal, int_literal, named_row_of, one_row_of, text_literal,
@@ -107,7 +107,12 @@ fn prefix(
 /// An operand with its attribute.
 #[cycle(check)]
 #[tactic(auto, using(crate::proofs::Steps::steps))]
-fn post(alloc: Global, globals: &Globals, scope: &mut LocalScope, e: &Post) -> Result<Typed, TypeFault>
+fn post(
+    alloc: Global,
+    globals: &Globals,
+    scope: &mut LocalScope,
+    e: &Post,
+) -> Result<Typed, TypeFault>
     ensures checks { Gives typing_of result (check (env_of globals.now) scope.old.locals.items scope.old.next (post_of e.now)) }
     ensures keeps { OnOk result (Keeps scope.old scope.new (slots_of (post_of e.now))) }
 {
@@ -121,7 +126,12 @@ fn post(alloc: Global, globals: &Globals, scope: &mut LocalScope, e: &Post) -> R
 /// An expression that no operator splits.
 #[cycle(check)]
 #[tactic(auto, using(crate::proofs::Steps::steps))]
-fn prime(alloc: Global, globals: &Globals, scope: &mut LocalScope, e: &Prime) -> Result<Typed, TypeFault>
+fn prime(
+    alloc: Global,
+    globals: &Globals,
+    scope: &mut LocalScope,
+    e: &Prime,
+) -> Result<Typed, TypeFault>
     ensures checks { Gives typing_of result (check (env_of globals.now) scope.old.locals.items scope.old.next (prime_phrase e.now)) }
     ensures keeps { OnOk result (Keeps scope.old scope.new (slots_of (prime_phrase e.now))) }
 {
@@ -136,6 +146,33 @@ fn prime(alloc: Global, globals: &Globals, scope: &mut LocalScope, e: &Prime) ->
         Prime::Call { name, args, .. } => call(alloc, globals, scope, name, args),
         Prime::Row { bracket, bindings } => row(alloc, globals, scope, bracket.at, bindings),
         Prime::Delta { bracket, atoms } => delta(alloc, globals, scope, bracket.at, atoms),
+        Prime::Rows { .. } | Prime::Walk { .. } | Prime::Pair { .. } => {
+            many_parts(alloc, globals, scope, e)
+        }
+        Prime::Project { .. }
+        | Prime::Rename { .. }
+        | Prime::Group { .. }
+        | Prime::Measure { .. }
+        | Prime::Fold { .. }
+        | Prime::Bulk { .. }
+        | Prime::Part { .. } => one_part(alloc, globals, scope, e),
+    }
+}
+
+/// `rows`, a walk, or an operator of two expressions.
+#[cycle(check)]
+#[tactic(auto, using(crate::proofs::Steps::steps))]
+fn many_parts(
+    alloc: Global,
+    globals: &Globals,
+    scope: &mut LocalScope,
+    e: &Prime,
+) -> Result<Typed, TypeFault>
+    requires { has_many_parts e.now ≡ true }
+    ensures checks { Gives typing_of result (check (env_of globals.now) scope.old.locals.items scope.old.next (prime_phrase e.now)) }
+    ensures keeps { OnOk result (Keeps scope.old scope.new (slots_of (prime_phrase e.now))) }
+{
+    match e {
         Prime::Rows {
             word,
             name,
@@ -155,6 +192,24 @@ fn prime(alloc: Global, globals: &Globals, scope: &mut LocalScope, e: &Prime) ->
             right,
             ..
         } => pair(alloc, globals, scope, word, left, right),
+        _ => unreachable!(),
+    }
+}
+
+/// A keyword with one expression in its brackets.
+#[cycle(check)]
+#[tactic(auto, using(crate::proofs::Steps::steps))]
+fn one_part(
+    alloc: Global,
+    globals: &Globals,
+    scope: &mut LocalScope,
+    e: &Prime,
+) -> Result<Typed, TypeFault>
+    requires { has_one_part e.now ≡ true }
+    ensures checks { Gives typing_of result (check (env_of globals.now) scope.old.locals.items scope.old.next (prime_phrase e.now)) }
+    ensures keeps { OnOk result (Keeps scope.old scope.new (slots_of (prime_phrase e.now))) }
+{
+    match e {
         Prime::Project { over, .. }
         | Prime::Rename { over, .. }
         | Prime::Group { over, .. }
@@ -165,6 +220,7 @@ fn prime(alloc: Global, globals: &Globals, scope: &mut LocalScope, e: &Prime) ->
             let value = expr(alloc, globals, scope, over)?;
             one_row_of(alloc, globals, e, value)
         }
+        _ => unreachable!(),
     }
 }
 
@@ -377,7 +433,12 @@ fn atoms(
 /// An atom.
 #[cycle(check)]
 #[tactic(auto, using(crate::proofs::Steps::steps))]
-fn atom(alloc: Global, globals: &Globals, scope: &mut LocalScope, e: &Atom) -> Result<Typed, TypeFault>
+fn atom(
+    alloc: Global,
+    globals: &Globals,
+    scope: &mut LocalScope,
+    e: &Atom,
+) -> Result<Typed, TypeFault>
     ensures checks { Gives typing_of result (check (env_of globals.now) scope.old.locals.items scope.old.next (atom_phrase e.now)) }
     ensures keeps { OnOk result (Keeps scope.old scope.new (slots_of (atom_phrase e.now))) }
 {

@@ -1,19 +1,19 @@
 // The rows of typing for the forms of an expression, once its parts are typed.
 
-ghost use Rattle.std.specs.Prelude.{◌≡◌, IfOk, IfErr};
+ghost use Rattle.std.specs.Prelude.{◌≡◌, IfOk, IfErr, true};
 ghost use Rattle.hera_rules.specs.Agrees.{Gives, typing_of, typings_of};
 ghost use Rattle.hera_rules.specs.Environments.{env_of};
-ghost use Rattle.hera_rules.specs.Read.{bindings_words, int_of, prime_phrase, text_of};
+ghost use Rattle.hera_rules.specs.Read.{aggregates_of, bindings_words, int_of, prime_phrase, renamed_all, text_of, words_of};
 ghost use Rattle.hera_rules.specs.declared.fault.TypeFault.TheVariants as fault;
 ghost use Rattle.hera_meaning.specs.Trees.{constant as constant_expr};
 ghost use Rattle.hera_meaning.specs.declared.scalars.Scalar.TheVariants as scalars;
 ghost use Rattle.hera_meaning.specs.declared.trees.Const.TheVariants as consts;
-ghost use Rattle.hera_rules.specs.Rules.{literal_row, row_row, typing};
-ghost use Rattle.hera_types_exprs.specs.Parts.{one_row};
+ghost use Rattle.hera_rules.specs.Rules.{group_row, literal_row, project_row, rename_row, row_row, typing};
+ghost use Rattle.hera_types_exprs.specs.Parts.{has_one_part, one_row};
 
 use hera_meaning::{Const, Core, Scalar, Shape, Text};
-use hera_rules::{Globals, TypeFault, Typed, Word};
-use hera_syntax::{Bindings, Prime, Token, TokenKind};
+use hera_rules::{Aggregate, Globals, TypeFault, Typed, Word};
+use hera_syntax::{Bindings, NamedAggs, Names, Prime, Renamings, Token, TokenKind};
 use hera_types_parts::{
     aggregates, fold_word, part_word, put, renamings, sign_word, test_word, word, words,
 };
@@ -36,7 +36,7 @@ pub fn named_row_of(
     row_row_of(alloc, at, names, values)
 }
 
-/// A form with one part, once that is typed. Of any other form it says nothing: it answers as for want of memory.
+/// A form with one part, once that is typed.
 #[tactic(auto, using(crate::proofs::Steps::steps))]
 pub fn one_row_of(
     alloc: Global,
@@ -44,31 +44,22 @@ pub fn one_row_of(
     e: &Prime,
     value: Typed,
 ) -> Result<Typed, TypeFault>
+    requires { has_one_part e.now ≡ true }
     ensures { Gives typing_of result (one_row (env_of globals.now) (prime_phrase e.now) (typing_of value)) }
 {
     match e {
-        Prime::Project { word, names, .. } => {
-            let all = words(alloc, names)?;
-            project_row_of(alloc, word.at, all, value)
-        }
+        Prime::Project { word, names, .. } => project_row_by(alloc, word.at, names, value),
         Prime::Rename {
             word,
             renamings: names,
             ..
-        } => {
-            let all = renamings(alloc, names)?;
-            rename_row_of(alloc, word.at, all, value)
-        }
+        } => rename_row_by(alloc, word.at, names, value),
         Prime::Group {
             word,
             names,
             aggs,
             ..
-        } => {
-            let by = words(alloc, names)?;
-            let all = aggregates(alloc, aggs)?;
-            group_row_of(alloc, word.at, by, all, value)
-        }
+        } => group_row_by(alloc, word.at, names, aggs, value),
         Prime::Measure { word, .. } => test_row_of(alloc, test_word(word), word.at, value),
         Prime::Fold { word, name, .. } => fold_row_of(alloc, fold_word(word), word.at, name, value),
         Prime::Bulk {
@@ -85,8 +76,72 @@ pub fn one_row_of(
             word.at,
             value,
         ),
-        _ => Err(TypeFault::Memory),
+        _ => unreachable!(),
     }
+}
+
+/// A `project`, once its operand is typed.
+fn project_row_by(alloc: Global, at: u32, names: &Names, value: Typed) -> Result<Typed, TypeFault>
+    ensures { Gives typing_of result (project_row at (words_of names.now) (typing_of value)) }
+{
+    match words(alloc, names) {
+        Ok(all) => project_row_of(alloc, at, all, value),
+        Err(_) => {
+            drop(value);
+            Err(TypeFault::Memory)
+        }
+    }
+}
+
+/// A `rename`, once its operand is typed.
+fn rename_row_by(
+    alloc: Global,
+    at: u32,
+    names: &Renamings,
+    value: Typed,
+) -> Result<Typed, TypeFault>
+    ensures { Gives typing_of result (rename_row at (renamed_all names.now) (typing_of value)) }
+{
+    match renamings(alloc, names) {
+        Ok(all) => rename_row_of(alloc, at, all, value),
+        Err(_) => {
+            drop(value);
+            Err(TypeFault::Memory)
+        }
+    }
+}
+
+/// A `group`, once its operand is typed.
+fn group_row_by(
+    alloc: Global,
+    at: u32,
+    names: &Names,
+    aggs: &NamedAggs,
+    value: Typed,
+) -> Result<Typed, TypeFault>
+    ensures { Gives typing_of result (group_row at (words_of names.now) (aggregates_of aggs.now) (typing_of value)) }
+{
+    match keys_and_aggregates(alloc, names, aggs) {
+        Ok((by, all)) => group_row_of(alloc, at, by, all, value),
+        Err(_) => {
+            drop(value);
+            Err(TypeFault::Memory)
+        }
+    }
+}
+
+/// The names and the aggregates of a `group`.
+fn keys_and_aggregates(
+    alloc: Global,
+    names: &Names,
+    aggs: &NamedAggs,
+) -> Result<(Vec<Word>, Vec<Aggregate>), TypeFault>
+    ensures keys { IfOk result (λ both. both.0.items ≡ words_of names.now) }
+    ensures aggregates { IfOk result (λ both. both.1.items ≡ aggregates_of aggs.now) }
+{
+    let by = words(alloc, names)?;
+    let all = aggregates(alloc, aggs)?;
+    Ok((by, all))
 }
 
 /// A constant of a type.

@@ -43,6 +43,12 @@ decreases-line l = 2 * goal.size-line l
 abbrev pub decreases-prime : goal.decreases-prime
 decreases-prime l = 2 * goal.size-prime l + 1
 
+abbrev pub decreases-many_parts : goal.decreases-many_parts
+decreases-many_parts l = 2 * goal.size-many_parts l
+
+abbrev pub decreases-one_part : goal.decreases-one_part
+decreases-one_part l = 2 * goal.size-one_part l
+
 abbrev pub decreases-call : goal.decreases-call
 decreases-call l = 2 * goal.size-call l + 1
 
