@@ -9,6 +9,7 @@ ghost use Rattle.hera_rules.specs.Environments.{relation_named};
 use crate::words::Joint;
 use hera_host::HostTable;
 use hera_meaning::{Core, Name, RelDecl, RelId, Schema, Shape};
+use hera_sets::is_same;
 use std::alloc::{AllocError, Global};
 use std::marker::Model;
 
@@ -185,13 +186,5 @@ fn place_of(decls: &[RelDecl], name: &[u8]) -> Option<usize>
 {
     decls
         .iter()
-        .position(|decl| is_name(decl.name.bytes(), name))
-}
-
-/// Whether both are the same bytes.
-#[tactic(auto, unfolding(hera_sets::specs::Rows::is_same))]
-pub fn is_name(own: &[u8], name: &[u8]) -> bool
-    ensures { result ≡ is_same name.now own.now }
-{
-    name.cmp(own).is_eq()
+        .position(|decl| is_same(name, decl.name.bytes()))
 }

@@ -23,8 +23,9 @@ ghost use Rattle.hera_types.specs.Passes.{func_names, proc_names};
 
 use hera_meaning::Name;
 use hera_rules::{FuncSig, Local, Locals, ProcSig, Relations, TypeFault};
+use hera_sets::is_same;
 use hera_syntax::{Func, Param, Params, Proc, Token};
-use hera_types_parts::{is_name, name_bytes, name_copy, number_of, put};
+use hera_types_parts::{name_bytes, name_copy, number_of, put};
 use hera_types_rows::type_row_of;
 use std::alloc::{AllocError, Global};
 
@@ -34,7 +35,7 @@ use std::alloc::{AllocError, Global};
 fn is_among(names: &[Name], name: &[u8]) -> bool
     ensures { result ≡ holds names.now name.now }
 {
-    names.iter().any(|own| is_name(own.bytes(), name))
+    names.iter().any(|own| is_same(name, own.bytes()))
 }
 
 /// A name that is none of these.
@@ -95,7 +96,7 @@ fn is_param(locals: &[Local], name: &[u8]) -> bool
 fn any_local(locals: &[Local], name: &[u8]) -> bool
     ensures { result ≡ list_any (λ l. is_same name.now l.name) locals.now }
 {
-    locals.iter().any(|local| is_name(local.name.bytes(), name))
+    locals.iter().any(|local| is_same(name, local.name.bytes()))
 }
 
 /// A parameter behind these.

@@ -8,11 +8,11 @@ ghost use Rattle.std.specs.Prelude.{IfErr, IfOk, OnOk, [], map, ◌++◌, ◌≡
 ghost use Rattle.hera_rules.specs.declared.fault.TypeFault.TheVariants as fault;
 
 use crate::lists::put;
-use crate::names::is_name;
 use crate::same::{kind_of_place, place_of_name};
 use crate::tokens::{word, words};
 use hera_meaning::{Attr, Kind, Places, Schema};
 use hera_rules::{TypeFault, Word};
+use hera_sets::is_same;
 use std::alloc::{AllocError, Global};
 
 /// Whether one of the words has this name.
@@ -26,7 +26,7 @@ pub fn stands_in(words: &[Word], name: &[u8]) -> bool
 fn any_word(words: &[Word], name: &[u8]) -> bool
     ensures { result ≡ list_any (λ w. is_same name.now w.name) words.now }
 {
-    words.iter().any(|word| is_name(word.name.bytes(), name))
+    words.iter().any(|word| is_same(name, word.name.bytes()))
 }
 
 /// The fault of the first word whose name stands before.

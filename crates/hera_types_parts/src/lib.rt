@@ -13,7 +13,7 @@ pub use attributes::{
 };
 pub use lists::{binary, boxed, cores, into_core, number_of, put, unary};
 pub use names::{
-    find_func, find_local, find_proc, has_global, has_name, is_name, name_row_of, type_of_kind,
+    find_func, find_local, find_proc, has_global, has_name, name_row_of, type_of_kind,
 };
 pub use same::{kind_of_place, place_of_name, same_kind, same_kinds, same_schema, same_shape};
 pub use tokens::{

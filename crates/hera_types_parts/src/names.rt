@@ -11,15 +11,8 @@ ghost use Rattle.std.specs.Prelude.{◌≡◌};
 use crate::tokens::name_bytes;
 use hera_meaning::{Core, Kind, Shape};
 use hera_rules::{FuncSig, Globals, Local, ProcSig, TypeFault, Typed};
+use hera_sets::is_same;
 use hera_syntax::Token;
-
-/// Whether both are the same bytes.
-#[tactic(auto, unfolding(hera_sets::specs::Rows::is_same))]
-pub fn is_name(own: &[u8], name: &[u8]) -> bool
-    ensures { result ≡ is_same name.now own.now }
-{
-    name.cmp(own).is_eq()
-}
 
 /// The visible local of a name.
 pub fn find_local<'a>(name: &[u8], locals: &'a [Local]) -> Option<&'a Local>
@@ -27,21 +20,21 @@ pub fn find_local<'a>(name: &[u8], locals: &'a [Local]) -> Option<&'a Local>
 {
     locals
         .iter()
-        .find(|local| is_name(local.name.bytes(), name))
+        .find(|local| is_same(name, local.name.bytes()))
 }
 
 /// The func of a name.
 pub fn find_func<'a>(name: &[u8], funcs: &'a [FuncSig]) -> Option<&'a FuncSig>
     ensures { option_copied result ≡ func_named name.now funcs.now }
 {
-    funcs.iter().find(|func| is_name(func.name.bytes(), name))
+    funcs.iter().find(|func| is_same(name, func.name.bytes()))
 }
 
 /// The proc of a name.
 pub fn find_proc<'a>(name: &[u8], procs: &'a [ProcSig]) -> Option<&'a ProcSig>
     ensures { option_copied result ≡ proc_named name.now procs.now }
 {
-    procs.iter().find(|proc| is_name(proc.name.bytes(), name))
+    procs.iter().find(|proc| is_same(name, proc.name.bytes()))
 }
 
 /// Whether a relation, a func or a proc has the name.

@@ -16,8 +16,9 @@ ghost use Rattle.hera_rules.specs.declared.fault.TypeFault.TheVariants as fault;
 use crate::operations::{Operation, on_one};
 use hera_meaning::{Agg, Aggs, Attr, Kind, Op, Schema, Shape};
 use hera_rules::{Aggregate, Fold, Measured, TypeFault, Typed, Word};
+use hera_sets::is_same;
 use hera_types_parts::{
-    add_attrs, is_name, kind_named, made, measured, place_named_or, place_of_name, places_of, put,
+    add_attrs, kind_named, made, measured, place_named_or, place_of_name, places_of, put,
     repeat_of, same_kind, stands_in, stranger_of, word,
 };
 use std::alloc::{AllocError, Global};
@@ -50,7 +51,7 @@ fn is_agg(aggs: &[Aggregate], name: &[u8]) -> bool
 fn any_agg(aggs: &[Aggregate], name: &[u8]) -> bool
     ensures { result ≡ list_any (λ a. is_same name.now a.name.name) aggs.now }
 {
-    aggs.iter().any(|agg| is_name(agg.name.name.bytes(), name))
+    aggs.iter().any(|agg| is_same(name, agg.name.name.bytes()))
 }
 
 /// The fault of the first aggregate whose name stands before.

@@ -11,14 +11,15 @@ ghost use Rattle.std.specs.Prelude.{IfOk, OnOk, [], cond, find, map, ◌++◌, �
 
 use hera_meaning::{Attr, Name, Schema, Shape};
 use hera_rules::{Renamed, TypeFault, Typed};
-use hera_types_parts::{into_core, is_name, made, place_of_name, put, renamed};
+use hera_sets::is_same;
+use hera_types_parts::{into_core, made, place_of_name, put, renamed};
 use std::alloc::{AllocError, Global};
 
 /// Whether one of the names is this one.
 fn is_among(names: &[Name], name: &[u8]) -> bool
     ensures { result ≡ holds names.now name.now }
 {
-    names.iter().any(|own| is_name(own.bytes(), name))
+    names.iter().any(|own| is_same(name, own.bytes()))
 }
 
 /// Whether an attribute of this name is renamed.
@@ -32,7 +33,7 @@ fn is_renamed(renamed: &[Renamed], name: &[u8]) -> bool
 fn any_renamed(renamed: &[Renamed], name: &[u8]) -> bool
     ensures { result ≡ list_any (λ r. is_same name.now r.old.name) renamed.now }
 {
-    renamed.iter().any(|r| is_name(r.old.name.bytes(), name))
+    renamed.iter().any(|r| is_same(name, r.old.name.bytes()))
 }
 
 /// The names of the attributes that are not renamed.
@@ -95,7 +96,7 @@ fn stranger_renamed(schema: &Schema, renamed: &[Renamed]) -> Option<TypeFault>
 fn find_renamed<'a>(renamed: &'a [Renamed], name: &[u8]) -> Option<&'a Renamed>
     ensures { option_copied result ≡ find (λ r. is_same name.now r.old.name) renamed.now }
 {
-    renamed.iter().find(|r| is_name(r.old.name.bytes(), name))
+    renamed.iter().find(|r| is_same(name, r.old.name.bytes()))
 }
 
 /// The new name of an attribute.

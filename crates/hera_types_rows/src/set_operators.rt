@@ -17,9 +17,10 @@ ghost use Rattle.hera_rules.specs.declared.fault.TypeFault.TheVariants as fault;
 use crate::operations::{Operation, on_one, on_two};
 use hera_meaning::{Attr, Op, Schema, Shape};
 use hera_rules::{Pair, TypeFault, Typed, Word};
+use hera_sets::is_same;
 use hera_types_parts::{
-    add_attrs, binary, into_core, is_name, made, place_of_name, places_of, put, repeat_of,
-    same_kind, same_schema, stranger_of,
+    add_attrs, binary, into_core, made, place_of_name, places_of, put, repeat_of, same_kind,
+    same_schema, stranger_of,
 };
 use std::alloc::{AllocError, Global};
 
@@ -206,7 +207,7 @@ fn agrees(attr: &Attr, right: &Schema) -> bool
 fn attr_agrees(attr: &Attr, other: &Attr) -> bool
     ensures { result ≡ (not (is_same attr.now.name other.now.name) || is_same_kind attr.now.kind other.now.kind) }
 {
-    !is_name(other.name.bytes(), attr.name.bytes()) || same_kind(attr.kind, other.kind)
+    !is_same(attr.name.bytes(), other.name.bytes()) || same_kind(attr.kind, other.kind)
 }
 
 /// `join`: common names of one kind, at most 16 in all.

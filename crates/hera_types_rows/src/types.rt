@@ -10,8 +10,9 @@ ghost use Rattle.std.specs.Prelude.{[], ◌≡◌};
 
 use hera_meaning::{Attr, Schema, Shape};
 use hera_rules::{Relations, TypeFault};
+use hera_sets::is_same;
 use hera_syntax::{AttrTree, Attrs, SchemaTree, TypeTree};
-use hera_types_parts::{is_name, kind_token, made, name_bytes, name_copy, put, type_of_kind};
+use hera_types_parts::{kind_token, made, name_bytes, name_copy, put, type_of_kind};
 use std::alloc::Global;
 
 /// Whether one of the attributes has this name.
@@ -25,7 +26,7 @@ fn has_attr_of(attrs: &[Attr], name: &[u8]) -> bool
 fn any_attr(attrs: &[Attr], name: &[u8]) -> bool
     ensures { result ≡ has_name attrs.now name.now }
 {
-    attrs.iter().any(|attr| is_name(attr.name.bytes(), name))
+    attrs.iter().any(|attr| is_same(name, attr.name.bytes()))
 }
 
 /// An attribute behind these: a name that stands before is Repeated, the 17th is TooMany.
