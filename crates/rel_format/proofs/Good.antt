@@ -1,14 +1,11 @@
 -- Pages that keep the rules: what holds of them wherever reading comes.
-use Rattle.std.proofs.Common.{◌≡◌, ◌≢◌, ◌≤◌, ◌<◌, ℕ, zero, suc, ◌+◌, ◌-◌, Bool, true, false, cond, ◌==◌, ◌&&◌, List, [], ◌∷◌, ◌++◌, length, map, take, drop, Option, Some, None, All, refl, sym, ap, subst, ◌∙◌, append_assoc, arith}
-use Rattle.std.specs.Prelude.{nat_le, nat_lt}
-use Rattle.std.specs.List.{flat_map}
-use Rattle.std.specs.Option.{option_and_then}
+use Rattle.std.proofs.Common.{◌≡◌, ◌≢◌, ◌≤◌, ◌<◌, ℕ, zero, suc, ◌+◌, Bool, true, false, cond, ◌==◌, ◌&&◌, List, [], ◌∷◌, ◌++◌, length, map, Option, Some, None, All, refl, sym, ap, subst, ◌∙◌, append_assoc, arith}
+use Rattle.std.specs.Prelude.{nat_le}
 use Rattle.std.proofs.lemmas.Bool.{eqb-true, leb-true, ltb-true, and_parts, both_ways, eq-eqb}
-use Rattle.std.proofs.lemmas.Option.{none-some, same_Some}
 use Rattle.std.proofs.lemmas.List.{length-append, append-nil}
 use Rattle.std.proofs.lemmas.List.Concat.{flat_map-append}
 use Rattle.std.proofs.lemmas.List.Elements.{All-push}
-use Rattle.hera_sets.specs.Rows.{Row, is_below, is_past, IsAscending, IsBelowAll}
+use Rattle.hera_sets.specs.Rows.{Row, is_below, is_past, IsAscending}
 use Rattle.hera_sets.proofs.Lists.{all_below_trans}
 use Rattle.hera_meaning.specs.declared.schemas.Attr.{Attr}
 use Rattle.hera_meaning.specs.declared.schemas.RelDecl.{RelDecl}
@@ -16,7 +13,7 @@ use Rattle.hera_meaning.specs.Rows.{IsRow}
 use Rattle.hera_meaning.specs.Deltas.{schema_of}
 use Rattle.rel_format.specs.Pages.{Format, page_head, joined, used_by}
 use Rattle.rel_format.specs.Fields.{PageEnd, follows, row_keeps, had_no_room}
-use Rattle.rel_format.specs.Table.{Book, Page, no_pages, add_page, last_row, end_of_page, with_page, with_row_in, page_before, row_before, used_before}
+use Rattle.rel_format.specs.Table.{Book, Page, no_pages, add_page, last_row, with_page, with_row_in, page_before, row_before, used_before}
 use Rattle.rel_format.specs.Greedy.{all_rows, Follow, ArePages}
 
 -- ---- rows at the end of ascending rows

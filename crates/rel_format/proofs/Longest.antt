@@ -1,11 +1,11 @@
 -- The place where the fields of a half stop ends its longest good prefix.
-use Rattle.std.proofs.Common.{◌≡◌, ◌≤◌, ℕ, List, Result, Err, refl}
+use Rattle.std.proofs.Common.{ℕ, List, Err, refl}
 use Rattle.rel_format.specs.declared.header.PageFault.{PageFault}
 use Rattle.rel_format.specs.declared.header.PageFault.TheVariants.{Damaged, Memory}
 use Rattle.hera_meaning.specs.declared.schemas.RelDecl.{RelDecl}
 use Rattle.rel_format.specs.Pages.{Format}
 use Rattle.rel_format.specs.Table.{Stand, at_magic, next}
-use Rattle.rel_format.specs.Places.{Reads, HeaderIs, IsDamage, Stops, IsGoodPrefix}
+use Rattle.rel_format.specs.Places.{Reads, HeaderIs, IsDamage, Stops}
 use Rattle.rel_format.proofs.Walks.{longest_by}
 
 pub damage : (f : Format) (bytes : List ℕ) (at : ℕ) → Stops f bytes at → IsDamage f bytes at

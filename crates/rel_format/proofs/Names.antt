@@ -1,7 +1,7 @@
 -- Names: the test of an identifier, and lists of names.
-use Rattle.std.proofs.Common.{◌≡◌, ◌≢◌, ◌≤◌, ◌↔◌, ℕ, zero, suc, Bool, true, false, ◌&&◌, ◌||◌, not, ◌==◌, List, [], ◌∷◌, ◌++◌, length, take, map, Some, IsTrue, IsUtf8, All, refl, sym, ap, subst, ◌∙◌, arith, inl, inr}
+use Rattle.std.proofs.Common.{◌≡◌, ℕ, zero, suc, Bool, true, false, ◌&&◌, ◌||◌, List, [], ◌∷◌, length, take, Some, refl, sym, ap, ◌∙◌, arith}
 use Rattle.std.specs.Prelude.{nat_le}
-use Rattle.std.specs.List.{list_all, list_any, slice_get}
+use Rattle.std.specs.List.{list_any, slice_get}
 use Rattle.std.specs.Str.{chars, is_utf8}
 use Rattle.std.proofs.lemmas.Bool.{and_parts, and_from, le-leb, leb-true}
 use Rattle.std.proofs.lemmas.Option.{none-some, same_Some}
@@ -9,7 +9,7 @@ use Rattle.std.proofs.lemmas.Str.{IsUtf8-from_is_utf8, is_utf8-from_IsUtf8}
 use Rattle.hera_sets.specs.Rows.{Row, is_same, holds}
 use Rattle.hera_meaning.specs.declared.schemas.Attr.{Attr}
 use Rattle.hera_meaning.specs.Identifiers.{IsIdentifier, is_word, identifier_limit}
-use Rattle.hera_meaning.specs.Schemas.{AreDistinct, IsSchema, names_of, attr_name}
+use Rattle.hera_meaning.specs.Schemas.{AreDistinct, IsSchema, names_of}
 use Rattle.hera_meaning.specs.SchemaFaults.{IsFirstRepeat, IsSchemaFault}
 use Rattle.hera_meaning.specs.declared.schemas.SchemaFault.{SchemaFault}
 use Rattle.hera_meaning.specs.declared.schemas.SchemaFault.TheVariants.{Empty, TooMany, Repeated}

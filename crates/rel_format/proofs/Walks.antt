@@ -1,8 +1,8 @@
 -- A walk by any table has one end, and no good prefix is longer than the place where it stops.
-use Rattle.std.proofs.Common.{◌≡◌, ◌≤◌, ◌<◌, ℕ, zero, suc, ◌+◌, ◌-◌, Bool, true, false, List, drop, Option, Some, None, refl, sym, ap, subst, ◌∙◌, inl, inr, arith}
+use Rattle.std.proofs.Common.{◌≡◌, ◌≤◌, ℕ, zero, suc, ◌+◌, ◌-◌, List, drop, Option, Some, None, refl, sym, ap, subst, ◌∙◌, inl, inr, arith}
 use Rattle.std.proofs.lemmas.Bool.{cases_lt}
 use Rattle.std.proofs.lemmas.Option.{none-some, same_Some}
-use Rattle.rel_format.specs.Walk.{Table, onward, forward, walk_by, ReachesBy, StopsBy}
+use Rattle.rel_format.specs.Walk.{Table, onward, forward, walk_by, ReachesBy}
 
 abbrev spot : {S : Type 0} → ℕ → S → ℕ × S
 spot n t = (n, t)

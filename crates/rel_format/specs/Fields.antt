@@ -1,8 +1,8 @@
 -- The values of single fields of a half.
-use Rattle.std.specs.Prelude.{ℕ, zero, suc, ◌+◌, ◌-◌, Bool, true, false, cond, not, ◌==◌, ◌&&◌, nat_le, nat_lt, List, [], ◌∷◌, ◌++◌, Option, None, Some, length, take, slice_get}
+use Rattle.std.specs.Prelude.{ℕ, ◌+◌, Bool, true, cond, not, ◌==◌, ◌&&◌, nat_le, nat_lt, List, Option, None, Some, length, take, slice_get}
 use Rattle.std.specs.Option.{option_and_then}
 use Rattle.std.specs.List.{list_all}
-use Rattle.std.specs.Int.{Width, w16, w32, byte_len, from_be_bytes}
+use Rattle.std.specs.Int.{Width, w16, byte_len, from_be_bytes}
 use Rattle.std.specs.Str.{is_utf8, chars}
 use Rattle.hera_sets.specs.Rows.{Row, is_same, holds, is_past}
 use Rattle.hera_meaning.specs.declared.scalars.Kind.{Kind}

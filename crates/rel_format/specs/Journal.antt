@@ -6,7 +6,7 @@ use Rattle.hera_meaning.specs.declared.scalars.Sign.{Sign}
 use Rattle.hera_meaning.specs.declared.scalars.Sign.TheVariants.{Plus, Minus}
 use Rattle.hera_meaning.specs.declared.schemas.RelDecl.{RelDecl}
 use Rattle.hera_meaning.specs.Catalogues.{IsCatalogue}
-use Rattle.hera_meaning.specs.Deltas.{State, IsState, Atom, Delta, atoms, IsDelta, IsDeltaOf, apply_of}
+use Rattle.hera_meaning.specs.Deltas.{State, IsState, Atom, atoms, IsDelta, IsDeltaOf, apply_of}
 use Rattle.rel_format.specs.Pages.{Format, pages_of}
 
 abbrev pub sign_byte : Sign → ℕ

@@ -1,5 +1,5 @@
 -- How far the fields of a half before its journal go.
-use Rattle.std.specs.Prelude.{◌≡◌, ◌≤◌, ◌<◌, ℕ, zero, suc, ◌+◌, List, [], ◌∷◌, Option, None, Some, length, take, Result, Ok, Err}
+use Rattle.std.specs.Prelude.{◌≡◌, ◌≤◌, ℕ, List, take, Result, Ok, Err}
 use Rattle.rel_format.specs.declared.header.PageFault.{PageFault}
 use Rattle.rel_format.specs.declared.header.PageFault.TheVariants.{Damaged, Memory}
 use Rattle.hera_meaning.specs.declared.schemas.RelDecl.{RelDecl}

@@ -1,5 +1,5 @@
 -- Fields one after another, for any table of fields.
-use Rattle.std.specs.Prelude.{◌≡◌, ◌≤◌, ℕ, zero, suc, ◌+◌, Bool, false, List, Option, None, Some, drop}
+use Rattle.std.specs.Prelude.{◌≡◌, ℕ, zero, suc, ◌+◌, Bool, false, List, Option, None, Some, drop}
 
 -- how many bytes the field has with which the bytes begin, and what comes behind it
 abbrev pub Table : Type 0 → Type 0

@@ -1,5 +1,5 @@
 -- The base without rows, and what a base tells.
-use Rattle.std.proofs.Common.{◌≡◌, ◌≤◌, ◌<◌, true, false, ℕ, zero, suc, ◌+◌, List, [], ◌∷◌, ◌++◌, length, map, take, drop, All, Option, Some, None, Result, Ok, Err, refl, sym, ap, subst, ◌∙◌, append_assoc, arith, inl, inr}
+use Rattle.std.proofs.Common.{◌≡◌, ◌≤◌, ◌<◌, true, false, ℕ, suc, List, [], ◌∷◌, ◌++◌, length, take, Some, Err, refl, sym, ap, subst, ◌∙◌, arith, inr}
 use Rattle.std.specs.Prelude.{replicate, slice_get, get_or, nat_lt}
 use Rattle.std.proofs.lemmas.Bool.{ltb-true, lt-ltb, both_ways}
 use Rattle.std.proofs.lemmas.Option.{slice_get_read}
@@ -15,9 +15,9 @@ use Rattle.rel_format.specs.Pages.{Format, format_one, header_of, pages_of, half
 use Rattle.rel_format.specs.Journal.{half_limit}
 use Rattle.rel_format.specs.declared.header.PageFault.{PageFault}
 use Rattle.rel_format.specs.declared.header.PageFault.TheVariants.{Damaged, Memory}
-use Rattle.rel_format.proofs.Good.{GoodRows, IsFew}
+use Rattle.rel_format.proofs.Good.{IsFew}
 use Rattle.rel_pages.specs.declared.parts.Part.{Part}
-use Rattle.rel_pages.specs.Stored.{Stored, empty_state}
+use Rattle.rel_pages.specs.Stored.{empty_state}
 use Rattle.rel_pages.specs.Parts.{AreParts, state_of, IsBase}
 use Rattle.rel_pages.specs.Halves.{HalfParts, HalfIs, IsPages, EndsAt}
 use Rattle.rel_pages.proofs.Prints.{GroupPaged, group_paged}

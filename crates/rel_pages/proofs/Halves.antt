@@ -1,29 +1,29 @@
 -- What reading a half to its first gate tells.
-use Rattle.std.proofs.Common.{◌≡◌, ◌≤◌, ◌<◌, ℕ, zero, suc, ◌+◌, ◌-◌, List, [], ◌∷◌, ◌++◌, length, map, take, drop, length-drop, All, Option, Some, None, Result, Ok, Err, refl, sym, ap, subst, ◌∙◌, append_assoc, arith, inl, inr}
+use Rattle.std.proofs.Common.{◌≡◌, ◌≤◌, ℕ, zero, suc, ◌+◌, List, [], ◌∷◌, ◌++◌, length, map, take, drop, length-drop, Some, Err, refl, sym, ap, subst, ◌∙◌, append_assoc, arith}
 use Rattle.std.specs.Prelude.{slice_get}
 use Rattle.std.specs.List.{flat_map}
 use Rattle.std.specs.Int.{w32, to_be_bytes}
-use Rattle.std.proofs.lemmas.List.{length-append, length-take, take_at, drop_at, drop-drop, append-nil, take-append-drop}
+use Rattle.std.proofs.lemmas.List.{length-append, length-take, take_at, drop_at, drop-drop, take-append-drop}
 use Rattle.std.proofs.lemmas.Option.{none-some, same_Some}
 use Rattle.hera_sets.specs.Rows.{Row}
 use Rattle.hera_meaning.specs.declared.schemas.RelDecl.{RelDecl}
 use Rattle.hera_meaning.specs.Catalogues.{IsCatalogue}
 use Rattle.hera_meaning.specs.Deltas.{State, IsState}
 use Rattle.hera_row.proofs.FieldLemmas.{AreBytes}
-use Rattle.rel_format.specs.Pages.{Format, header_of, pages_of, page_bytes, rel_bytes, rels_bytes, page_count}
+use Rattle.rel_format.specs.Pages.{Format, header_of, pages_of, page_bytes, rels_bytes, page_count}
 use Rattle.rel_format.specs.Greedy.{all_rows}
 use Rattle.rel_format.specs.declared.header.PageFault.{PageFault}
 use Rattle.rel_format.specs.declared.header.PageFault.TheVariants.{Damaged, Memory}
 use Rattle.std.specs.Prelude.{Vec}
 use Rattle.std.specs.Global.{Global}
 use Rattle.rel_format.specs.Table.{Book, Stand, at_page, at_rels}
-use Rattle.rel_format.specs.SoFar.{groups_bytes, pages_counted, book_front, so_far}
+use Rattle.rel_format.specs.SoFar.{groups_bytes, pages_counted}
 use Rattle.rel_format.specs.Places.{Reaches, Finds, IsHeader, HeaderIs}
 use Rattle.rel_format.proofs.Longest.{damage}
 use Rattle.rel_pages.specs.Halves.{HalfParts}
 use Rattle.rel_format.proofs.Greedy.{paged_again}
-use Rattle.rel_format.proofs.Good.{GoodRows, GoodGroups, IsFew}
-use Rattle.rel_format.proofs.Printed.{ReadWell, read_well}
+use Rattle.rel_format.proofs.Good.{GoodGroups}
+use Rattle.rel_format.proofs.Printed.{read_well}
 use Rattle.rel_pages.specs.declared.parts.Part.{Part}
 use Rattle.rel_pages.specs.Reading.{pages_len, PagesTo}
 use Rattle.rel_pages.specs.Rels.{IsPaged, rows_in}

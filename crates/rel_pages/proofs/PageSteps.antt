@@ -1,18 +1,17 @@
 -- Walking on by the fields of pages.
-use Rattle.std.proofs.Common.{◌≡◌, ◌≤◌, ◌<◌, ℕ, zero, suc, ◌+◌, ◌-◌, List, [], ◌∷◌, ◌++◌, false, length, map, set, get_or, take, drop, Option, Some, None, Result, Ok, Err, refl, sym, ap, subst, ◌∙◌, arith}
+use Rattle.std.proofs.Common.{◌≡◌, ◌≤◌, ◌<◌, ℕ, zero, suc, ◌+◌, ◌-◌, List, [], ◌∷◌, ◌++◌, length, map, set, get_or, take, drop, Option, Some, None, Err, refl, sym, ap, subst, ◌∙◌, arith}
 use Rattle.std.specs.Int.{w32}
 use Rattle.std.specs.Prelude.{slice_get, replicate}
 use Rattle.std.proofs.lemmas.Option.{none-some, same_Some}
 use Rattle.std.proofs.lemmas.List.{length-take}
 use Rattle.hera_sets.specs.Rows.{Row}
-use Rattle.hera_meaning.specs.declared.schemas.Attr.{Attr}
 use Rattle.hera_meaning.specs.declared.schemas.RelDecl.{RelDecl}
 use Rattle.hera_meaning.specs.Deltas.{schema_of}
 use Rattle.rel_format.specs.declared.header.PageFault.{PageFault}
 use Rattle.rel_format.specs.declared.header.PageFault.TheVariants.{Damaged, Memory}
 use Rattle.rel_format.specs.Pages.{Format, used_by}
 use Rattle.rel_format.specs.Fields.{PageEnd, number, rel_field, row_count_field, fill_field}
-use Rattle.rel_format.specs.Table.{Book, Page, Stand, at_magic, at_rels, at_page, at_row_count, at_fill, behind_row, with_page, no_pages, add_page, page_before, end_of_page, last_row, field, long_field, next}
+use Rattle.rel_format.specs.Table.{Book, Page, Stand, at_magic, at_rels, at_page, at_row_count, at_fill, behind_row, with_page, no_pages, add_page, last_row, field, long_field, next}
 use Rattle.rel_format.specs.Places.{Reaches, Stops, Finds}
 use Rattle.rel_format.proofs.Walks.{step_by}
 use Rattle.rel_pages.specs.Reading.{RowsTo, PageTo, PagesTo, pages_len, told}

@@ -1,15 +1,14 @@
 -- Pages as they are printed, read again.
-use Rattle.std.proofs.Common.{◌≡◌, ◌≤◌, ◌<◌, ℕ, zero, suc, ◌+◌, ◌-◌, ◌/◌, List, [], ◌∷◌, ◌++◌, length, take, drop, All, Option, Some, None, refl, sym, ap, subst, ◌∙◌, append_assoc, arith}
+use Rattle.std.proofs.Common.{◌≡◌, ◌≤◌, ℕ, zero, suc, ◌+◌, ◌-◌, ◌/◌, List, [], ◌∷◌, ◌++◌, length, take, drop, All, Option, refl, sym, ap, subst, ◌∙◌, append_assoc, arith}
 use Rattle.std.specs.List.{flat_map}
-use Rattle.std.specs.Int.{w16, to_be_bytes, from_be_bytes}
+use Rattle.std.specs.Int.{w16, to_be_bytes}
 use Rattle.std.proofs.Math.Nat.{add-div_left}
-use Rattle.std.proofs.lemmas.List.{length-append, take_at, drop_at, append-nil}
+use Rattle.std.proofs.lemmas.List.{length-append, take_at, drop_at}
 use Rattle.std.proofs.lemmas.List.Elements.{All-head, All-tail, All-nil, All-cons}
 use Rattle.std.proofs.lemmas.Nat.{from_be_bytes-to_be_bytes_2}
 use Rattle.hera_sets.specs.Rows.{Row, IsAscending}
 use Rattle.hera_meaning.specs.declared.schemas.Attr.{Attr}
 use Rattle.hera_meaning.specs.Rows.{IsRow}
-use Rattle.hera_row.specs.Reading.{row_len_of}
 use Rattle.rel_format.specs.Pages.{page_head, joined, used_by, zeros, page_bytes, rel_bytes}
 use Rattle.rel_format.specs.Greedy.{all_rows, Follow, ArePages}
 use Rattle.rel_format.proofs.Greedy.{paged_again}

@@ -1,12 +1,12 @@
 -- Walking on by the rows of a page.
-use Rattle.std.proofs.Common.{◌≡◌, ◌≤◌, ◌<◌, ℕ, zero, suc, ◌+◌, ◌-◌, List, [], ◌∷◌, ◌++◌, false, length, drop, Option, Some, None, refl, sym, ap, subst, ◌∙◌, arith}
+use Rattle.std.proofs.Common.{◌≡◌, ◌≤◌, ◌<◌, ℕ, suc, ◌+◌, ◌-◌, List, [], ◌∷◌, ◌++◌, length, drop, Option, Some, None, refl, sym, ap, subst, ◌∙◌, arith}
 use Rattle.std.specs.Option.{option_map}
 use Rattle.hera_sets.specs.Rows.{Row}
 use Rattle.hera_meaning.specs.declared.schemas.Attr.{Attr}
 use Rattle.hera_meaning.specs.Deltas.{schema_of}
 use Rattle.rel_format.specs.Pages.{Format, used_by}
 use Rattle.rel_format.specs.Fields.{PageEnd, row_field}
-use Rattle.rel_format.specs.Table.{Book, Page, Stand, at_magic, at_row, behind_row, last_row, with_row_in, page_before, row_before, used_before, row_in, long_field, next, is_whole}
+use Rattle.rel_format.specs.Table.{Book, Page, Stand, at_magic, at_row, behind_row, last_row, with_row_in, page_before, row_before, used_before, row_in, long_field, next}
 use Rattle.rel_format.specs.Places.{Reaches, Stops}
 use Rattle.rel_format.proofs.Walks.{step_by}
 use Rattle.rel_format.proofs.Good.{used-push}

@@ -1,5 +1,5 @@
 -- The parts of a half's bytes that are the pages of its relations.
-use Rattle.std.specs.Prelude.{◌≡◌, ◌≤◌, ◌<◌, ℕ, ◌+◌, List, [], ◌∷◌, length, take, drop, Result, Ok, Err}
+use Rattle.std.specs.Prelude.{◌≡◌, ◌≤◌, ℕ, ◌+◌, List, [], ◌∷◌, length, take, drop}
 use Rattle.hera_meaning.specs.declared.schemas.RelDecl.{RelDecl}
 use Rattle.hera_meaning.specs.Catalogues.{IsCatalogue}
 use Rattle.hera_meaning.specs.Deltas.{State}

@@ -4,7 +4,7 @@ use Rattle.hera_sets.specs.Rows.{Row}
 use Rattle.hera_meaning.specs.declared.schemas.RelDecl.{RelDecl}
 use Rattle.rel_format.specs.Pages.{used_by}
 use Rattle.rel_format.specs.Fields.{PageEnd}
-use Rattle.rel_format.specs.Table.{Book, Page, Stand, at_page, behind_row, end_of_page, last_row, with_page}
+use Rattle.rel_format.specs.Table.{Book, Stand, at_page, behind_row, end_of_page, last_row, with_page}
 use Rattle.rel_pages.specs.declared.fields.PageEnd.{PageEnd as CodeEnd}
 
 abbrev pub told : CodeEnd → PageEnd

@@ -1,5 +1,5 @@
 -- The rows of one relation, read from its pages.
-use Rattle.std.specs.Prelude.{◌≡◌, ◌≤◌, ℕ, zero, suc, ◌+◌, ◌/◌, Bool, true, not, List, [], ◌∷◌, ◌++◌, Option, None, Some, length, take, drop, All}
+use Rattle.std.specs.Prelude.{◌≡◌, ◌≤◌, ℕ, zero, suc, ◌/◌, Bool, true, not, List, [], ◌∷◌, ◌++◌, Option, None, Some, length, take, drop, All}
 use Rattle.std.specs.Int.{from_be_bytes, w16}
 use Rattle.hera_sets.specs.Rows.{Row, IsAscending, is_below}
 use Rattle.hera_meaning.specs.declared.schemas.Attr.{Attr}

@@ -1,4 +1,4 @@
-use Rattle.std.proofs.Common.{◌≡◌, ◌≤◌, ◌+◌, ◌-◌, ◌++◌, ◌∷◌, [], ℕ, refl, sym, ap, subst, ◌∙◌, length, arith}
+use Rattle.std.proofs.Common.{◌+◌, ◌-◌, ◌∷◌, [], sym, subst, arith}
 use Rattle.std.proofs.lemmas.Result.{err_from_is_err_and}
 use Rattle.std.proofs.lemmas.List.{length-append}
 use Rattle.std.proofs.lemmas.List.Elements.{All-push}
@@ -8,7 +8,7 @@ use Rattle.hera_meaning.specs.declared.schemas.Attr.{Attr}
 use Rattle.hera_meaning.specs.Identifiers.{IsIdentifier}
 use Rattle.hera_meaning.specs.Schemas.{AreDistinct, names_of}
 use Rattle.hera_meaning.proofs.Names.{distinct_push}
-use Rattle.rel_format.specs.Table.{Stand, at_attr, behind_attr, with_attr, with_attrs}
+use Rattle.rel_format.specs.Table.{at_attr, behind_attr, with_attr, with_attrs}
 use Rattle.rel_format.specs.Places.{Reaches}
 use Rattle.rel_format.proofs.Steps.{fault_on, enter, leave, names_push}
 use Rattle.rel_format.proofs.header.attrs_at.Goals as goal

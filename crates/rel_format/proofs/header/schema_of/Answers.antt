@@ -1,9 +1,3 @@
-use Rattle.std.proofs.Common.{◌≡◌, ◌<◌, [], ◌∷◌, List, length, arith, ap, subst}
-use Rattle.hera_meaning.specs.declared.schemas.Attr.{Attr}
-use Rattle.hera_meaning.specs.declared.schemas.SchemaFault.TheVariants.{Empty, TooMany, Repeated}
-use Rattle.hera_meaning.specs.Schemas.{IsSchema, names_of}
-use Rattle.hera_meaning.specs.declared.schemas.SchemaFault.{SchemaFault}
-use Rattle.hera_meaning.specs.SchemaFaults.{IsSchemaFault}
 use Rattle.rel_format.proofs.Names.{no_schema_fault}
 use Rattle.rel_format.proofs.header.schema_of.Goals as goal
 

@@ -1,4 +1,3 @@
-use Rattle.std.proofs.Common.{◌≡◌}
 use Rattle.rel_format.proofs.Texts.{no_text_fault}
 use Rattle.rel_format.proofs.header.text_of.Goals as goal
 

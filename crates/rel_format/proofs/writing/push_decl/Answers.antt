@@ -1,4 +1,4 @@
-use Rattle.std.proofs.Common.{◌≡◌, ◌+◌, ◌++◌, ◌∷◌, List, ℕ, sym, ap, ◌∙◌, append_assoc, take, length}
+use Rattle.std.proofs.Common.{◌++◌, ◌∷◌, List, ℕ, sym, ap, ◌∙◌, append_assoc, take, length}
 use Rattle.std.specs.List.{flat_map}
 use Rattle.hera_meaning.specs.Identifiers.{IsIdentifier}
 use Rattle.hera_row.proofs.SchemaNames.{name_of_all}

@@ -1,4 +1,4 @@
-use Rattle.std.proofs.Common.{◌≡◌, ◌≤◌, ◌∙◌, List, ℕ, Err, refl, sym, ap, subst, length, arith}
+use Rattle.std.proofs.Common.{List, ℕ, Err, refl, subst, arith}
 use Rattle.std.proofs.lemmas.Result.{err_from_is_err_and}
 use Rattle.rel_format.specs.Pages.{format_one}
 use Rattle.rel_pages.specs.Parts.{IsBase}

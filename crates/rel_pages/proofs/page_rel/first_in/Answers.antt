@@ -1,4 +1,4 @@
-use Rattle.std.proofs.Common.{◌≡◌, ◌-◌, ◌/◌, ◌*◌, List, ℕ, sym, ap, subst, ◌∙◌, length, drop}
+use Rattle.std.proofs.Common.{◌-◌, ◌/◌, ◌*◌, List, ℕ, sym, ap, subst, ◌∙◌, length, drop}
 use Rattle.std.specs.List.{find}
 use Rattle.rel_pages.specs.Rels.{passes, pages_rows, ArePagesOf}
 use Rattle.rel_pages.proofs.Runs.{find_none}

@@ -1,6 +1,5 @@
-use Rattle.std.proofs.Common.{◌≡◌, ◌-◌, ◌+◌, ◌++◌, List, ℕ, Some, sym, ap, ◌∙◌, take, drop, subst}
+use Rattle.std.proofs.Common.{◌-◌, ◌+◌, List, ℕ, sym, ap, ◌∙◌, take, subst}
 use Rattle.std.specs.List.{find}
-use Rattle.std.specs.Option.{option_copied}
 use Rattle.rel_pages.specs.Rels.{passes}
 use Rattle.rel_pages.specs.Rels.{IsPage, ArePagesOf, page_rows, pages_rows}
 use Rattle.rel_pages.proofs.Runs.{page_first, find_none, find_some}

@@ -1,6 +1,5 @@
 use Rattle.std.specs.Prelude.{◌≡◌, ◌-◌}
 use Rattle.std.specs.List.{find}
-use Rattle.std.specs.Option.{option_copied}
 use Rattle.rel_pages.specs.Rels.{passes}
 use Rattle.rel_pages.specs.Rels.{pages_rows, ArePagesOf}
 use Rattle.rel_pages.proofs.page_rel.first_in_pages.Given as goal

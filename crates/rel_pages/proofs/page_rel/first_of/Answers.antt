@@ -1,10 +1,8 @@
-use Rattle.std.proofs.Common.{◌≡◌, ◌-◌, ◌+◌, ◌∷◌, List, ℕ, Some, sym, ap, ◌∙◌}
+use Rattle.std.proofs.Common.{sym, ap, ◌∙◌}
 use Rattle.std.specs.List.{find}
-use Rattle.std.specs.Option.{option_copied}
 use Rattle.std.proofs.lemmas.Bool.{cond-true, cond-false}
 use Rattle.rel_pages.specs.Rels.{passes}
-use Rattle.rel_pages.specs.Rels.{rows_from}
-use Rattle.rel_pages.proofs.Runs.{GoesOn, run_starts, run_on}
+use Rattle.rel_pages.proofs.Runs.{run_starts, run_on}
 use Rattle.rel_pages.proofs.page_rel.first_of.Goals as goal
 
 pub first_row-requires : goal.first_row-requires

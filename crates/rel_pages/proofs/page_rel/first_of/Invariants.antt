@@ -1,6 +1,5 @@
 use Rattle.std.specs.Prelude.{◌≡◌, ◌-◌}
 use Rattle.std.specs.List.{find}
-use Rattle.std.specs.Option.{option_copied}
 use Rattle.rel_pages.specs.Rels.{passes}
 use Rattle.rel_pages.specs.Rels.{rows_from, IsRun}
 use Rattle.rel_pages.proofs.page_rel.first_of.Given as goal

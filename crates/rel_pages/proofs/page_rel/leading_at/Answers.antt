@@ -1,7 +1,7 @@
 use Rattle.std.proofs.Common.{◌≡◌, ◌≤◌, ◌*◌, ◌∙◌, ℕ, List, true, sym, ap, subst, length, take, drop, arith}
 use Rattle.std.specs.Prelude.{is_some}
 use Rattle.hera_row.specs.Reading.{row_len_of}
-use Rattle.rel_pages.specs.Rels.{IsPage, leading, rows_counted}
+use Rattle.rel_pages.specs.Rels.{rows_counted}
 use Rattle.rel_pages.proofs.Searches.{page_here, run_leads}
 use Rattle.rel_pages.proofs.page_rel.leading_at.Goals as goal
 

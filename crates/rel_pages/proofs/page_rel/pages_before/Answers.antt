@@ -1,5 +1,5 @@
-use Rattle.std.proofs.Common.{◌≡◌, ◌<◌, ◌+◌, ◌-◌, ◌/◌, ◌*◌, List, sym, ap, subst, ◌∙◌, drop, take, arith}
-use Rattle.hera_sets.specs.Rows.{Row, IsAscending}
+use Rattle.std.proofs.Common.{◌<◌, ◌+◌, ◌-◌, ◌/◌, ◌*◌, sym, ap, subst, ◌∙◌, drop, take, arith}
+use Rattle.hera_sets.specs.Rows.{IsAscending}
 use Rattle.rel_pages.specs.Rels.{passes, pages_rows, leading}
 use Rattle.rel_pages.proofs.Searches.{page_here, none_before}
 use Rattle.rel_pages.proofs.page_rel.pages_before.Goals as goal

@@ -1,10 +1,9 @@
-use Rattle.std.proofs.Common.{◌≡◌, ◌≤◌, ◌+◌, ◌-◌, ℕ, suc, List, Some, None, refl, sym, ap, subst, ◌∙◌, drop, length, length-drop, arith}
+use Rattle.std.proofs.Common.{◌+◌, ℕ, suc, List, refl, sym, ap, ◌∙◌, length-drop, arith}
 use Rattle.std.specs.Option.{option_map}
 use Rattle.std.proofs.lemmas.Result.{err_from_is_err_and}
 use Rattle.hera_sets.specs.Rows.{Row}
 use Rattle.hera_meaning.specs.declared.schemas.RelDecl.{RelDecl}
 use Rattle.hera_meaning.specs.Deltas.{schema_of}
-use Rattle.rel_format.specs.Fields.{PageEnd}
 use Rattle.rel_format.specs.Table.{at_page, behind_row, page_before}
 use Rattle.rel_pages.specs.Reading.{told, RowsTo, PageTo}
 use Rattle.rel_pages.specs.declared.fields.PageEnd.{PageEnd as CodeEnd}

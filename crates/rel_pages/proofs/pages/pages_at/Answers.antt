@@ -1,13 +1,9 @@
-use Rattle.std.proofs.Common.{◌≡◌, ◌≤◌, ◌+◌, ◌-◌, ℕ, suc, List, Vec, Some, None, refl, sym, ap, subst, ◌∙◌, drop, length, get_or, arith}
-use Rattle.std.specs.Prelude.{replicate}
+use Rattle.std.proofs.Common.{◌≤◌, ◌+◌, ◌-◌, ℕ, List, Vec, None, sym, ap, subst, ◌∙◌, length, get_or, arith}
 use Rattle.std.specs.Global.{Global}
 use Rattle.std.specs.Option.{option_map}
 use Rattle.std.proofs.lemmas.Result.{err_from_is_err_and}
 use Rattle.std.proofs.lemmas.List.{length-set, length-replicate}
-use Rattle.rel_format.specs.Table.{at_page, at_rels}
-use Rattle.rel_format.specs.Places.{Reaches}
-use Rattle.rel_pages.specs.Reading.{told, PageTo, PagesTo}
-use Rattle.rel_pages.specs.declared.fields.PageEnd.{PageEnd as CodeEnd}
+use Rattle.rel_pages.specs.Reading.{told, PagesTo}
 use Rattle.rel_pages.proofs.PageSteps.{PagesOn, fault_in_page, no_count, counted, page_on, left_one, all_read, get_none, small_set}
 use Rattle.rel_pages.proofs.pages.pages_at.Goals as goal
 

@@ -1,6 +1,5 @@
-use Rattle.std.proofs.Common.{◌≡◌, ◌+◌, ◌-◌, Some, None, sym, ap, subst, ◌∙◌, drop, arith}
+use Rattle.std.proofs.Common.{arith}
 use Rattle.std.specs.Option.{option_map, option_copied}
-use Rattle.rel_format.specs.Fields.{row_field}
 use Rattle.rel_pages.specs.Reading.{told}
 use Rattle.rel_pages.proofs.RowSteps.{first_is, first_row_read, no_first_row, more_row_read, no_more_row, rows_end}
 use Rattle.rel_pages.proofs.pages.rows_at.Goals as goal

@@ -1,6 +1,6 @@
-use Rattle.std.proofs.Common.{◌≡◌, ◌∙◌, refl, sym, ap, length}
+use Rattle.std.proofs.Common.{refl, ap, length}
 use Rattle.rel_format.specs.Pages.{format_one}
-use Rattle.rel_pages.proofs.Bases.{EmptyIs, empty_is}
+use Rattle.rel_pages.proofs.Bases.{empty_is}
 use Rattle.rel_pages.proofs.base.Base.empty.Goals as goal
 
 pub invariant_of-result : goal.invariant_of-result

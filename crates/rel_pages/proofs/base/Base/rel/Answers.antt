@@ -1,6 +1,5 @@
-use Rattle.std.proofs.Common.{◌≡◌, ◌≤◌, ◌∙◌, List, ℕ, Some, sym, ap, subst, length, length-drop, take, drop, arith}
+use Rattle.std.proofs.Common.{◌∙◌, List, ℕ, Some, sym, ap, subst, length, length-drop, take, drop, arith}
 use Rattle.std.specs.Prelude.{slice_get}
-use Rattle.hera_meaning.specs.declared.schemas.RelDecl.{RelDecl}
 use Rattle.rel_pages.specs.Stored.{Stored}
 use Rattle.rel_pages.specs.Rels.{IsPaged, rows_in}
 use Rattle.rel_pages.proofs.Bases.{rel_part, no_rel}

@@ -1,4 +1,4 @@
-use Rattle.std.proofs.Common.{◌≡◌, sym, ap, ◌∙◌}
+use Rattle.std.proofs.Common.{ap, ◌∙◌}
 use Rattle.hera_sets.specs.Rows.{holds}
 use Rattle.rel_pages.specs.Rels.{rows_in}
 use Rattle.rel_pages.proofs.Searches.{is_that, held_from}
