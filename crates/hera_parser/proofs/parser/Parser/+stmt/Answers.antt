@@ -141,4 +141,4 @@ pub branch-returns-in_err-both-clause-sticks : goal.branch-returns-in_err-both-c
 branch-returns-in_err-both-clause-sticks t c h = stops (join (choose phrases.stmt 2 c.requires) (before (phrase phrases.else_part ∷ []) c.in_ok-head.ensures.reads)) (c.in_err-both.ensures.sticks (search rules))
 
 pub branch-returns-clause-reads : goal.branch-returns-clause-reads
-branch-returns-clause-reads t c = as_marks (c.branch.ensures ∙ append_assoc (node phrases.stmt 2 ++ hold c.in_ok-head.head.word ++ hold c.in_ok-head.head.bracket ++ expr_outline c.in_ok-head.head.condition ++ skip phrases.close_paren ++ block_outline c.in_ok-head.head.block) (flat_map else_if_row c.in_ok-both.both.0.items) (last_else c.in_ok-both.both.1)) (join (join (choose phrases.stmt 2 c.requires) (before (phrase phrases.else_part ∷ []) c.in_ok-head.ensures.reads)) c.in_ok-both.ensures.reads)
+branch-returns-clause-reads t c = as_marks (c.branch-word.ensures ∙ append_assoc (node phrases.stmt 2 ++ hold c.in_ok-head.head.word ++ hold c.in_ok-head.head.bracket ++ expr_outline c.in_ok-head.head.condition ++ skip phrases.close_paren ++ block_outline c.in_ok-head.head.block) (flat_map else_if_row c.in_ok-both.both.0.items) (last_else c.in_ok-both.both.1)) (join (join (choose phrases.stmt 2 c.requires) (before (phrase phrases.else_part ∷ []) c.in_ok-head.ensures.reads)) c.in_ok-both.ensures.reads)
