@@ -1,3 +1,5 @@
 pub mod Gate
+pub mod Places
 pub mod Prepare
 pub mod Record
+pub mod Table
