@@ -1,4 +1,5 @@
 pub mod Gate
+pub mod Halves
 pub mod Places
 pub mod Prepare
 pub mod Record
