@@ -1,6 +1,8 @@
+pub mod Complete
 pub mod Gates
 pub mod Halves
 pub mod Lengths
+pub mod Once
 pub mod Printed
 pub mod Records
 pub mod Steps
