@@ -1,0 +1,9 @@
+pub mod Complete
+pub mod Gates
+pub mod Halves
+pub mod Lengths
+pub mod Once
+pub mod Printed
+pub mod Records
+pub mod Steps
+pub mod Wholes
