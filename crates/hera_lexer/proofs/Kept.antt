@@ -10,7 +10,7 @@ use Rattle.hera_syntax.specs.Lexemes.{IsPiece, IsToken, ident, key, int, text, p
 use Rattle.hera_meaning.specs.Identifiers.{is_word}
 use Rattle.hera_syntax.specs.declared.token.PieceShape.TheVariants as shapes
 use Rattle.hera_syntax.specs.Lex.{size, Cuts, Lex, done, skip, keep}
-use Rattle.hera_syntax.specs.Tokens.{deep_at, AscendsFrom, HasValue, HaveValues, AreTokens}
+use Rattle.hera_syntax.specs.Tokens.{deep_at, AscendsFrom, HasValue, HaveValues, AreTokens, script_limit}
 use Rattle.hera_lexer.proofs.Bytes.{size-append}
 use Rattle.hera_lexer.proofs.Texts.{text_value}
 use Rattle.hera_lexer.proofs.Walk.{piece_some, scalars_front, scalars_back}
@@ -49,7 +49,7 @@ have_values at _ _ s (skip {piece = p} {more = x} {tokens = ts} l b c) = have_va
 have_values at _ _ s (keep {shape = k} {piece = p} {more = x} {kind} {tokens = ts} l t c) =
     (has_value k p kind (scalars_front p x s) l.looks t, have_values (at + size p) x ts (scalars_back p x s) c)
 
-pub are_tokens : (bytes : List ℕ) (ts : List Token) → Lex bytes ts → length bytes ≤ 1048576 → deep_at 0 ts ≡ None → AreTokens ts
+pub are_tokens : (bytes : List ℕ) (ts : List Token) → Lex bytes ts → length bytes ≤ script_limit → deep_at 0 ts ≡ None → AreTokens ts
 are_tokens bytes ts h short shallow = record {
   few = omega (arith, few 0 h.0 ts h.3, ap length h.2);
   ascending = ascends 0 h.0 ts h.3;

@@ -1,7 +1,7 @@
 ghost use Rattle.std.specs.Prelude.{◌≡◌, ℕ, List, Result, ◌⊎◌, ◌≤◌, length, IsUtf8, IfOk, IfErr, Err};
 ghost use Rattle.std.specs.Str.Lossy.{utf8_valid_len};
 ghost use Rattle.hera_syntax.specs.Lex.{Lex, LexFails};
-ghost use Rattle.hera_syntax.specs.Tokens.{deep_at};
+ghost use Rattle.hera_syntax.specs.Tokens.{deep_at, script_limit};
 ghost use Rattle.hera_syntax.specs.declared.token.Token.{Token};
 ghost use Rattle.hera_lexer.specs.Answers.{Answers, IsTokenFault};
 ghost use Rattle.hera_lexer.specs.declared.script.LexFault.{LexFault};
@@ -52,7 +52,7 @@ impl<T: Drop> From<AllocFailed<T>> for LexFault {
 
 /// The text, where the bytes are UTF-8.
 fn text_of(bytes: &[u8]) -> Result<&str, LexFault>
-    requires { length bytes.now ≤ 1048576 }
+    requires { length bytes.now ≤ script_limit }
     ensures ok { IfOk result (λ s. (s.now ≡ bytes.now) × IsUtf8 bytes.now) }
     ensures err { IfErr result (λ e. (e ≡ LexFault.BadUtf8 (utf8_valid_len bytes.now)) × ¬ (IsUtf8 bytes.now)) }
 {
@@ -66,7 +66,7 @@ fn text_of(bytes: &[u8]) -> Result<&str, LexFault>
 
 /// The tokens of a text.
 fn tokens_of(alloc: Global, text: &str) -> Result<Vec<Token>, LexFault>
-    requires { length text.now ≤ 1048576 }
+    requires { length text.now ≤ script_limit }
     ensures ok { IfOk result (λ tokens. Lex text.now tokens.items) }
     ensures bad_token { (at : ℕ) → result ≡ Err (LexFault.BadToken at) → LexFails text.now at }
     ensures others { IfErr result (λ e. IsTokenFault e) }
@@ -114,7 +114,7 @@ fn too_deep(tokens: &[Token]) -> Option<u32>
 /// A script is UTF-8. At each place the longest piece that matches is taken. Blanks and comments stand
 /// between tokens. `Ok` has exactly the tokens that the script is cut into, and its length.
 pub fn lex(alloc: Global, bytes: &[u8]) -> Result<Tokens, LexFault>
-    requires { length bytes.now ≤ 1048576 }
+    requires { length bytes.now ≤ script_limit }
     ensures { Answers bytes.now result }
 {
     let text = text_of(bytes)?;

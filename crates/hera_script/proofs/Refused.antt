@@ -16,7 +16,8 @@ use Rattle.hera_script.specs.declared.cause.Cause.{Cause}
 use Rattle.hera_script.specs.declared.cause.Cause.TheVariants.{BadUtf8, Syntax}
 use Rattle.hera_script.specs.declared.program.ScriptFault.{ScriptFault}
 use Rattle.hera_script.specs.declared.program.ScriptFault.TheVariants.{Refused, Memory}
-use Rattle.hera_script.specs.Refusing.{script_limit, HasTokens, IsRefused, IsTypeFault, unknown, repeated, mismatch, impure, no_return, too_many, bad_utf8, bad_token, too_deep, syntax, types, offset_or}
+use Rattle.hera_script.specs.Refusing.{HasTokens, IsRefused, IsTypeFault, unknown, repeated, mismatch, impure, no_return, too_many, bad_utf8, bad_token, too_deep, syntax, types, offset_or}
+use Rattle.hera_syntax.specs.Tokens.{script_limit}
 use Rattle.hera_script.specs.Faults.{of_lexing, of_typing, IsUnreadable, unreadable}
 
 -- ---- one refusal

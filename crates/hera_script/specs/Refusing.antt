@@ -4,7 +4,7 @@ use Rattle.std.specs.Str.Lossy.{utf8_valid_len}
 use Rattle.hera_syntax.specs.declared.token.Token.{Token}
 use Rattle.hera_syntax.specs.declared.tree.Tree.{Tree}
 use Rattle.hera_syntax.specs.Lex.{Lex, LexFails}
-use Rattle.hera_syntax.specs.Tokens.{deep_at}
+use Rattle.hera_syntax.specs.Tokens.{deep_at, script_limit}
 use Rattle.hera_syntax.specs.Trees.{IsTextOf, IsFaultAt}
 use Rattle.hera_host.specs.Tables.{Host}
 use Rattle.hera_rules.specs.declared.fault.TypeFault.{TypeFault}
@@ -13,10 +13,6 @@ use Rattle.hera_rules.specs.ReadActs.{script_of}
 use Rattle.hera_rules.specs.Programs.{FirstFault}
 use Rattle.hera_script.specs.declared.cause.Cause.{Cause}
 use Rattle.hera_script.specs.declared.cause.Cause.TheVariants.{TooLong, BadUtf8, BadToken, TooDeep, Syntax, Unknown, Repeated, Mismatch, Impure, NoReturn, TooMany}
-
--- the most bytes of a script
-abbrev pub script_limit : ℕ
-script_limit = 1048576
 
 -- the offset of a token, the script's length where there is no token
 abbrev pub offset_or : Option Token → ℕ → ℕ

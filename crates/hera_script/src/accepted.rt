@@ -9,7 +9,7 @@ ghost use Rattle.hera_syntax.specs.declared.tree.Tree.{Tree};
 ghost use Rattle.hera_syntax.specs.Trees.{IsTextOf};
 ghost use Rattle.hera_rules.specs.ReadActs.{script_of};
 ghost use Rattle.hera_rules.specs.Accepted.{Accepted};
-ghost use Rattle.hera_script.specs.Refusing.{script_limit};
+ghost use Rattle.hera_syntax.specs.Tokens.{script_limit};
 
 use hera_lexer::one_answer;
 use hera_parser::laws::one_tree;

@@ -4,7 +4,8 @@ ghost use Rattle.std.specs.Prelude.{◌≡◌, ◌≤◌, ℕ, List, length};
 ghost use Rattle.hera_meaning.specs.Trees.{Program_tree};
 ghost use Rattle.hera_host.specs.Tables.{Host};
 ghost use Rattle.hera_rules.specs.Accepted.{Accepted};
-ghost use Rattle.hera_script.specs.Refusing.{IsRefused, script_limit};
+ghost use Rattle.hera_script.specs.Refusing.{IsRefused};
+ghost use Rattle.hera_syntax.specs.Tokens.{script_limit};
 ghost use Rattle.hera_script.specs.declared.cause.Cause.{Cause};
 
 use crate::accepted::a_script_has_one_program;

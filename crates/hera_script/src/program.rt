@@ -6,7 +6,8 @@ ghost use Rattle.hera_syntax.specs.Trees.{IsTextOf};
 ghost use Rattle.hera_script.specs.Faults.{IsUnreadable};
 ghost use Rattle.hera_script.specs.declared.cause.Cause.{Cause};
 ghost use Rattle.hera_rules.specs.Accepted.{Accepted};
-ghost use Rattle.hera_script.specs.Refusing.{IsRefused, offset_or, script_limit};
+ghost use Rattle.hera_script.specs.Refusing.{IsRefused, offset_or};
+ghost use Rattle.hera_syntax.specs.Tokens.{script_limit};
 
 use crate::cause::Cause;
 use hera_host::HostTable;

@@ -4,6 +4,7 @@ use Rattle.hera_meaning.specs.declared.trees.Op.{Op}
 use Rattle.hera_meaning.specs.declared.trees.Op.TheVariants.{Add, Sub, Mul, Div, Rem, Eq, Ne, Lt, Le, Gt, Ge, Union, Minus, Inter, Smash, Merge}
 use Rattle.hera_meaning.specs.Identifiers.{IsIdentifier}
 use Rattle.hera_meaning.specs.Sound.{is_const}
+use Rattle.hera_syntax.specs.Tokens.{script_limit}
 use Rattle.hera_rules.specs.declared.words.Word.{Word}
 use Rattle.hera_rules.specs.declared.words.Pair.{Pair}
 use Rattle.hera_rules.specs.declared.words.Pair.TheVariants.{Sets, Join as as_join}
@@ -251,10 +252,10 @@ abbrev pub procs_nodes : List Proc_phrase → ℕ
 procs_nodes [] = 0
 procs_nodes (p ∷ ps) = 1 + acts_nodes p.block + procs_nodes ps
 
--- a script of at most 1,048,576 nodes, whose phrases are made as the grammar asks
+-- a script of at most script_limit nodes, whose phrases are made as the grammar asks
 pub record ScriptIsMade (s : Script) : Type 0 where
   pub relations : RelationsAreMade s.relations
   pub funcs : FuncsAreMade s.funcs
   pub procs : ProcsAreMade s.procs
   pub main : ActsAreMade s.main
-  pub few : funcs_nodes s.funcs + procs_nodes s.procs + acts_nodes s.main ≤ 1048576
+  pub few : funcs_nodes s.funcs + procs_nodes s.procs + acts_nodes s.main ≤ script_limit

@@ -25,7 +25,7 @@ use Rattle.hera_syntax.specs.declared.tree.Proc.{Proc}
 use Rattle.hera_syntax.specs.declared.tree.Main.{Main}
 use Rattle.hera_syntax.specs.declared.tree.Tree.{Tree}
 use Rattle.hera_syntax.specs.Grammar as phrases
-use Rattle.hera_syntax.specs.Tokens.{HasValue, HaveValues}
+use Rattle.hera_syntax.specs.Tokens.{HasValue, HaveValues, script_limit}
 use Rattle.hera_syntax.specs.Grammar.{Allows, terminal_of, Part, keep, leave, phrase, alternatives, alternative, Production}
 use Rattle.hera_syntax.specs.declared.token.Terminal.{Terminal}
 use Rattle.hera_syntax.specs.Trees.{IsTextOf, Obeys, keeps, leaves, produces}
@@ -311,7 +311,7 @@ relations_read (x ∷ rels) ps r g o =
     }
 
 -- the script of a text is made as the grammar asks
-pub script_made : (tree : Tree) (tokens : List Token) → IsTextOf tree tokens → length tokens ≤ 1048576 → HaveValues tokens → ScriptIsMade (script_of tree)
+pub script_made : (tree : Tree) (tokens : List Token) → IsTextOf tree tokens → length tokens ≤ script_limit → HaveValues tokens → ScriptIsMade (script_of tree)
 script_made tree tokens t few values =
     let fs : List Mark = flat_map func_row tree.funcs.items in
     let ps : List Mark = flat_map proc_row tree.procs.items in

@@ -7,7 +7,7 @@ ghost use Rattle.hera_host.specs.Tables.{Host, specs_of, AreHosts};
 ghost use Rattle.hera_syntax.specs.declared.token.Token.{Token};
 ghost use Rattle.hera_syntax.specs.declared.tree.Tree.{Tree};
 ghost use Rattle.hera_syntax.specs.Programs.{outline};
-ghost use Rattle.hera_syntax.specs.Tokens.{HaveValues};
+ghost use Rattle.hera_syntax.specs.Tokens.{HaveValues, script_limit};
 ghost use Rattle.hera_syntax.specs.Trees.{IsTextOf};
 ghost use Rattle.hera_rules.specs.ReadActs.{script_of};
 ghost use Rattle.hera_rules.specs.Programs.{ElabScript};
@@ -16,7 +16,7 @@ ghost use Rattle.hera_rules.specs.Programs.{ElabScript};
 /// that its operation takes, every slot that is read is readable there, all numbers are in range, and there
 /// are fewer than 2^32 instructions.
 pub fn typed_programs_are_sound()
-    ensures { (tree : Tree) → (tokens : List Token) → (hosts : List Host) → (p : Program_tree) → IsTextOf tree tokens → length tokens ≤ 1048576 → HaveValues tokens → AreHosts hosts → ElabScript hosts (script_of tree) p → Sound p (specs_of hosts) }
+    ensures { (tree : Tree) → (tokens : List Token) → (hosts : List Host) → (p : Program_tree) → IsTextOf tree tokens → length tokens ≤ script_limit → HaveValues tokens → AreHosts hosts → ElabScript hosts (script_of tree) p → Sound p (specs_of hosts) }
 {}
 
 /// Two trees of one outline have one script, so typing sees nothing of a tree but its outline.

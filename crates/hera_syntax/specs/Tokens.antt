@@ -7,6 +7,10 @@ use Rattle.hera_meaning.specs.Identifiers.{IsIdentifier}
 use Rattle.hera_meaning.specs.Scalars.{fits_int}
 use Rattle.hera_meaning.specs.Texts.{IsText}
 
+-- the most bytes of a script, and so the most tokens
+abbrev pub script_limit : ℕ
+script_limit = 1048576
+
 -- an opening bracket
 abbrev pub opens : TokenKind → Bool
 opens (kinds.Ident name) = false
@@ -47,10 +51,10 @@ abbrev pub HaveValues : List Token → Type 0
 HaveValues [] = Unit {0}
 HaveValues (t ∷ ts) = HasValue t.kind × HaveValues ts
 
--- at most 1,048,576 tokens, whose offsets ascend, with at most 64 open brackets, names of an identifier's
+-- at most script_limit tokens, whose offsets ascend, with at most 64 open brackets, names of an identifier's
 -- shape, ints in range and texts that are texts
 pub record AreTokens (tokens : List Token) : Type 0 where
-  pub few : length tokens ≤ 1048576
+  pub few : length tokens ≤ script_limit
   pub ascending : AscendsFrom 0 tokens
   pub shallow : deep_at 0 tokens ≡ None
   pub values : HaveValues tokens

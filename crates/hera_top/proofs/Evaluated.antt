@@ -10,6 +10,7 @@ use Rattle.hera_rules.specs.Accepted.{Accepted}
 use Rattle.hera_rules.specs.Bound.{bound}
 use Rattle.hera_bind.specs.Having.{AllHas}
 use Rattle.hera_bind.specs.Meaning.{Means}
+use Rattle.hera_syntax.specs.Tokens.{script_limit}
 use Rattle.hera_script.specs.declared.cause.Cause.{Cause}
 use Rattle.hera_script.specs.Refusing.{IsRefused}
 use Rattle.hera_top.specs.declared.refusal.Refusal.TheVariants.{Script}
@@ -17,7 +18,7 @@ use Rattle.hera_top.specs.declared.words.Command.TheVariants.{Eval}
 use Rattle.hera_top.specs.Outcome.{Outcome, refused, ran, ComesTo, refuses, performs}
 
 abbrev AreSound : Type 0
-AreSound = (bytes : List ℕ) → (hosts : List Host) → (p : Program_tree) → length bytes ≤ 1048576 → AreHosts hosts → Accepted bytes hosts p → Sound p (specs_of hosts)
+AreSound = (bytes : List ℕ) → (hosts : List Host) → (p : Program_tree) → length bytes ≤ script_limit → AreHosts hosts → Accepted bytes hosts p → Sound p (specs_of hosts)
 
 abbrev HaveTheirOwn : Type 0
 HaveTheirOwn = (p : Program_tree) → AllHas p.relations p.relations
@@ -30,7 +31,7 @@ IsEvaluated hosts turns script outcome =
     ((cause : Cause) × (at : ℕ) × IsRefused hosts script cause at × (outcome ≡ refused (Script cause at)))
     ⊎ ((p : Program_tree) × (report : Report) × Accepted script hosts p × Means script p.relations (empty_state p.relations) hosts turns report × (outcome ≡ ran report))
 
-means : AreSound → HaveTheirOwn → AreTheSame → (hosts : List Host) (turns : ℕ) (script : List ℕ) (p : Program_tree) → AreHosts hosts → length script ≤ 1048576 → Accepted script hosts p
+means : AreSound → HaveTheirOwn → AreTheSame → (hosts : List Host) (turns : ℕ) (script : List ℕ) (p : Program_tree) → AreHosts hosts → length script ≤ script_limit → Accepted script hosts p
     → Means script p.relations (empty_state p.relations) hosts turns (run_of p (empty_state p.relations) (specs_of hosts) turns)
 means sound own same hosts turns script p are short accepted =
     let is : Sound p (specs_of hosts) = sound script hosts p short are accepted in

@@ -4,7 +4,8 @@ use Rattle.hera_meaning.specs.Trees.{Program_tree}
 use Rattle.hera_host.specs.Tables.{Host}
 use Rattle.hera_rules.specs.Accepted.{Accepted}
 use Rattle.hera_script.specs.declared.cause.Cause.{Cause}
-use Rattle.hera_script.specs.Refusing.{IsRefused, script_limit}
+use Rattle.hera_script.specs.Refusing.{IsRefused}
+use Rattle.hera_syntax.specs.Tokens.{script_limit}
 use Rattle.hera_top.specs.declared.refusal.Refusal.TheVariants.{Script}
 use Rattle.hera_top.specs.declared.words.Command.{Command}
 use Rattle.hera_top.specs.declared.words.Command.TheVariants.{Check}

@@ -2,7 +2,8 @@
 use Rattle.std.proofs.Common.{◌≡◌, ℕ, ◌<◌, ⊎_elim, List, [], ◌++◌, length, Option, Some, None, sym, ap, ◌∙◌, subst, arith, length-append, append-nil}
 use Rattle.hera_host.specs.Tables.{Host}
 use Rattle.hera_top.specs.declared.words.Command.{Command}
-use Rattle.hera_script.specs.Refusing.{script_limit, IsRefused, too_long, bad_utf8, bad_token, too_deep, syntax, types}
+use Rattle.hera_script.specs.Refusing.{IsRefused, too_long, bad_utf8, bad_token, too_deep, syntax, types}
+use Rattle.hera_syntax.specs.Tokens.{script_limit}
 use Rattle.hera_top.specs.Outcome.{Outcome, ComesTo, refuses, performs, IsRead}
 use Rattle.hera_script.specs.declared.cause.Cause.{Cause}
 

@@ -13,7 +13,8 @@ use Rattle.rel_pages.specs.Stored.{empty_state}
 use Rattle.hera_rules.specs.Accepted.{Accepted}
 use Rattle.hera_script.specs.declared.cause.Cause.{Cause}
 use Rattle.hera_script.specs.Labels.{label_of}
-use Rattle.hera_script.specs.Refusing.{IsRefused, script_limit}
+use Rattle.hera_script.specs.Refusing.{IsRefused}
+use Rattle.hera_syntax.specs.Tokens.{script_limit}
 use Rattle.hera_top.specs.declared.refusal.Refusal.{Refusal}
 use Rattle.hera_top.specs.declared.refusal.Refusal.TheVariants.{Usage, Unread, Script}
 use Rattle.hera_top.specs.declared.words.Command.{Command}

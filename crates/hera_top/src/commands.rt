@@ -3,6 +3,7 @@ ghost use Rattle.hera_causes.specs.Causes.{Rose};
 ghost use Rattle.hera_meaning.specs.Plain.{program_of};
 ghost use Rattle.hera_meaning.specs.Sound.{Sound};
 ghost use Rattle.hera_host.specs.Tables.{specs_of};
+ghost use Rattle.hera_syntax.specs.Tokens.{script_limit};
 ghost use Rattle.hera_top.specs.Outcome.{outcome_of, IsSaid};
 ghost use Rattle.hera_top.specs.Passages.{passage};
 ghost use Rattle.hera_top.specs.Said.{SaysOutcome};
@@ -76,7 +77,7 @@ pub(crate) fn answer_script<W: Outside>(
     outside: &mut W,
     hosts: &HostTable,
 ) -> ExitStatus
-    requires short { length script.now ≤ 1048576 }
+    requires short { length script.now ≤ script_limit }
     requires no_hosts { (turns : ℕ) → command ≡ Command.Eval turns → hosts.now ≡ [] }
     ensures said { SaysOutcome hosts.now command script.now (number_of result) (passage W.told W.disk W.emitted W.output_faults W.device_faults W.moment W.left_since outside.old outside.new) }
     ensures later { W.output_faults outside.old ≤ W.output_faults outside.new }

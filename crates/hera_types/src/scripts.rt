@@ -10,7 +10,7 @@ ghost use Rattle.hera_rules.specs.Environments.{env_of};
 ghost use Rattle.hera_rules.specs.Programs.{ElabScript, FirstFault, env_row};
 ghost use Rattle.hera_rules.specs.ReadActs.{script_of};
 ghost use Rattle.hera_rules.specs.declared.fault.TypeFault.{TypeFault};
-ghost use Rattle.hera_syntax.specs.Tokens.{HaveValues};
+ghost use Rattle.hera_syntax.specs.Tokens.{HaveValues, script_limit};
 ghost use Rattle.hera_syntax.specs.Trees.{IsTextOf};
 ghost use Rattle.hera_syntax.specs.declared.token.Token.{Token};
 
@@ -29,7 +29,7 @@ use std::alloc::{AllocError, Global};
 /// The relations are checked first, then the names of funcs and procs, then their signatures, then the bodies
 /// with main last, each in the order of the text. `Memory` tells nothing of the script.
 pub fn elaborate(alloc: Global, tree: &Tree, hosts: &HostTable) -> Result<Program, TypeFault>
-    requires { (tokens : List Token) × IsTextOf tree.now tokens × (length tokens ≤ 1048576) × HaveValues tokens }
+    requires { (tokens : List Token) × IsTextOf tree.now tokens × (length tokens ≤ script_limit) × HaveValues tokens }
     ensures typed { IfOk result (λ p. ElabScript hosts.now (script_of tree.now) (program_of p)) }
     ensures sound { IfOk result (λ p. Sound (program_of p) (specs_of hosts.now)) }
     ensures fault { (fault : TypeFault) → result ≡ Err fault → (fault ≡ TypeFault.Memory) ⊎ FirstFault hosts.now (script_of tree.now) fault }
