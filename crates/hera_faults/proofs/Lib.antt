@@ -1,0 +1,4 @@
+mod First
+mod Words
+mod Pairs
+mod Phrases
