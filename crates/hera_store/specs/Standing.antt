@@ -34,6 +34,11 @@ pub record IsCommitOf (rels : List RelDecl) (delta : Delta) : Type 0 where
   pub proper : is_fail delta ≡ false
   pub known : IsDeltaOf rels delta
 
+-- the base's state is one of its catalogue, and each commit is one of it
+pub record AreOver (base : Stored) (commits : List Delta) : Type 0 where
+  pub state : IsState base.catalogue base.state
+  pub proper : All (IsCommitOf base.catalogue) commits
+
 -- what a delta does to a state, these deltas do one after another
 pub record IsSmashOf (rels : List RelDecl) (deltas : List Delta) (all : Delta) : Type 0 where
   pub proper : IsCommitOf rels all

@@ -7,6 +7,7 @@ mod files;
 mod making;
 mod opening;
 mod store;
+mod switching;
 
 pub use faults::{CheckFault, CommitFault, InitFault, OpenFault};
 pub use making::init_store;

@@ -200,9 +200,11 @@ fn as_one(alloc: Global, deltas: &[Delta]) -> Result<Vec<Delta>, AllocError>
     ensures { (rels : List RelDecl) → All (IsCommitOf rels) deltas.now → IfOk result (λ commits. AreAsGood rels deltas.now commits.items) }
 {
     let mut commits = Vec::new(alloc);
-    if !deltas.is_empty() {
-        commits.push(smash_all(alloc, deltas)?)?;
+    if deltas.is_empty() {
+        return Ok(commits);
     }
+    let all = smash_all(alloc, deltas)?;
+    commits.push(all)?;
     Ok(commits)
 }
 

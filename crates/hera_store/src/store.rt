@@ -10,7 +10,7 @@ ghost use Rattle.hera_volume.specs.declared.file_id.FileId.TheVariants.{Select};
 ghost use Rattle.rel_format.specs.Journal.{record_of};
 ghost use Rattle.commit_journal.specs.Gate.{IsWith};
 ghost use Rattle.commit_journal.specs.Prepare.{need_of};
-ghost use Rattle.hera_store.specs.Standing.{StandsFor, IsCommitOf, database_of, database_after, end_with, other_half, select_byte};
+ghost use Rattle.hera_store.specs.Standing.{StandsFor, IsCommitOf, AreOver, database_of, database_after, end_with, other_half, select_byte};
 ghost use Rattle.hera_store.specs.Faults.{IsRecordRefusal, IsCommitRefusal, IsCheckRefusal, commit_need, half_with};
 ghost use Rattle.hera_store.specs.Moments.{IsEither, IsStill};
 
@@ -45,14 +45,13 @@ impl From<AllocError> for CommitFault {
 }
 
 impl Model for Store {
-    ghost use Rattle.std.specs.Prelude.{◌≤◌, All};
-    ghost use Rattle.hera_store.specs.Standing.{Standing, IsCommitOf};
+    ghost use Rattle.hera_store.specs.Standing.{Standing, AreOver};
 
     ghost Value = { Standing };
 
     ghost view = { λ s. record { base = s.base; commits = s.commits.items; half = s.half; end = s.end; closed = s.closed } };
 
-    ghost invariant = { λ s. All (IsCommitOf s.base.catalogue) s.commits.items };
+    ghost invariant = { λ s. AreOver s.base s.commits.items };
 }
 
 impl Store {
@@ -64,7 +63,7 @@ impl Store {
         half: FileId,
         end: u64,
     ) -> Store
-        requires { All (IsCommitOf base.catalogue) commits.items }
+        requires { AreOver base commits.items }
         ensures { result ≡ record { base = base; commits = commits.items; half = half; end = end; closed = false } }
     {
         Store {
