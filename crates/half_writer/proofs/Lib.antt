@@ -1,0 +1,4 @@
+pub mod RowSizes
+pub mod Fills
+pub mod Pagings
+pub mod Wholes
