@@ -2,3 +2,4 @@ pub mod RowSizes
 pub mod Fills
 pub mod Pagings
 pub mod Wholes
+pub mod States
