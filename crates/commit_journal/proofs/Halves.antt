@@ -2,7 +2,7 @@
 use Rattle.std.proofs.Common.{◌≡◌, ◌≢◌, ◌≤◌, ◌<◌, ◌⊎◌, inl, inr, max, ℕ, ◌+◌, ◌-◌, ◌*◌, List, [], ◌∷◌, ◌++◌, length, take, drop, map, get_or, refl, sym, ap, subst, ◌∙◌, append_assoc, arith}
 use Rattle.std.specs.Prelude.{false, All}
 use Rattle.std.specs.List.{flat_map}
-use Rattle.std.proofs.lemmas.List.{length-append, length-take, take_at, get_or-append_right}
+use Rattle.std.proofs.lemmas.List.{length-append, length-take, take_at, drop_at, get_or-append_right}
 use Rattle.std.proofs.lemmas.List.Elements.{All-push}
 use Rattle.hera_meaning.specs.declared.schemas.RelDecl.{RelDecl}
 use Rattle.hera_meaning.specs.Catalogues.{IsCatalogue}
@@ -14,8 +14,9 @@ use Rattle.rel_format.proofs.Printed.{one_more}
 use Rattle.hera_volume.specs.Disk.{Disk, IsSettled}
 use Rattle.commit_journal.specs.Gate.{IsWithout, IsWith, IsEither, IsReady}
 use Rattle.commit_journal.specs.Prepare.{need_of}
-use Rattle.commit_journal.specs.Places.{IsJournal}
+use Rattle.commit_journal.specs.Places.{IsJournal, Stops}
 use Rattle.commit_journal.specs.Halves.{state_with, HasPages, IsHalfTo}
+use Rattle.commit_journal.proofs.Once.{printed_whole}
 use Rattle.commit_journal.proofs.Records.{few_atoms, length_record}
 
 -- ---- a journal behind its pages
@@ -45,6 +46,13 @@ half_read f bytes rels state at deltas end pages journal =
       };
       place = omega (arith, journal.place, size, pages.within, length-take at bytes, length-append front middle);
     }
+
+-- the journal of a half stands behind its pages, and is not damaged
+pub journal_undamaged : (f : Format) (bytes : List ℕ) (rels : List RelDecl) (state : State) (at place : ℕ) (h : IsHalf f bytes rels state) → length (pages_of f rels h.paged) ≡ at → Stops rels bytes at place → ⊥
+journal_undamaged f bytes rels state at place h size =
+    let journal = flat_map sealed h.deltas ++ h.gate ∷ h.rest in
+    let behind : drop at bytes ≡ journal = ap (λ (l : List ℕ). drop at l) (h.printed ∙ append_assoc (pages_of f rels h.paged) (flat_map sealed h.deltas) (h.gate ∷ h.rest)) ∙ drop_at (pages_of f rels h.paged) journal at size in
+    printed_whole rels (omega (arith, h.catalogue.few)) bytes at h.deltas h.gate h.rest h.records h.closed behind place
 
 -- ---- a record behind the last gate
 

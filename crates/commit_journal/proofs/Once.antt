@@ -49,3 +49,16 @@ module _ (rels : List RelDecl) (few : length rels ≤ 65536) (bytes : List ℕ) 
       let same = one_end (next rels) bytes (start, at_gate []) (end + 1) (start + length (flat_map sealed records) + 1) (at_end journal.records journal.gate) (at_end records gate) journal.reached refl (journal_printed rels few bytes start records gate rest valid shut printed) refl in
       let place : end + 1 ≡ start + length (flat_map sealed records) + 1 = ap (λ (z : ℕ × JournalStand). z.0) same in
       (journal.told ∙ ap (map atoms) (ap (λ (z : ℕ × JournalStand). records_at [] z.1) same), omega (arith, place))
+
+-- a journal is read in one way
+pub read_once : (rels : List RelDecl) (bytes : List ℕ) (start : ℕ) (deltas more : List Delta) (end other : ℕ) → IsJournal rels bytes start deltas end → IsJournal rels bytes start more other → (deltas ≡ more) × (end ≡ other)
+read_once rels bytes start deltas more end other x y =
+    let same = one_end (next rels) bytes (start, at_gate []) (end + 1) (other + 1) (at_end x.records x.gate) (at_end y.records y.gate) x.reached refl y.reached refl in
+    let place : end + 1 ≡ other + 1 = ap (λ (z : ℕ × JournalStand). z.0) same in
+    (x.told ∙ ap (map atoms) (ap (λ (z : ℕ × JournalStand). records_at [] z.1) same) ∙ sym y.told, omega (arith, place))
+
+-- and what is read is not damaged
+pub read_whole : (rels : List RelDecl) (bytes : List ℕ) (start : ℕ) (deltas : List Delta) (end at : ℕ) → IsJournal rels bytes start deltas end → Stops rels bytes start at → ⊥
+read_whole rels bytes start deltas end at journal stops =
+    let same = one_end (next rels) bytes (start, at_gate []) at (end + 1) stops.0 (at_end journal.records journal.gate) stops.1 stops.2 journal.reached refl in
+    both_ways _ stops.3 (ap (λ (z : ℕ × JournalStand). is_whole z.1) same)

@@ -3,8 +3,8 @@ ghost use Rattle.std.specs.Prelude.{◌≡◌, ◌≢◌, ◌≤◌, ◌⊎◌, 
 ghost use Rattle.std.specs.List.{flat_map};
 ghost use Rattle.hera_meaning.specs.declared.schemas.RelDecl.{RelDecl};
 ghost use Rattle.hera_meaning.specs.Deltas.{Atom, Delta, State, atoms, apply_of};
-ghost use Rattle.rel_format.specs.Pages.{Format};
-ghost use Rattle.rel_format.specs.Journal.{record_of, sealed, half_limit, IsRecordOf};
+ghost use Rattle.rel_format.specs.Pages.{Format, pages_of};
+ghost use Rattle.rel_format.specs.Journal.{record_of, sealed, half_limit, IsRecordOf, IsHalf};
 ghost use Rattle.rel_format.specs.Places.{Stops as StopsInPages};
 ghost use Rattle.commit_journal.specs.Gate.{IsEither};
 ghost use Rattle.commit_journal.specs.Prepare.{need_of};
@@ -41,4 +41,18 @@ pub fn a_printed_journal_is_read()
     ensures once { (rels : List RelDecl) (bytes : List ℕ) (first : ℕ) (records : List (List Atom)) (gate : ℕ) (rest : List ℕ) (deltas : List Delta) (end : ℕ) →
         length rels ≤ 65536 → All (IsRecordOf rels) records → gate ≢ 1 → drop first bytes ≡ flat_map sealed records ++ gate ∷ rest → IsJournal rels bytes first deltas end →
         (deltas ≡ map atoms records) × (end ≡ first + length (flat_map sealed records)) }
+{}
+
+/// A journal that is read is not damaged, and nothing else is read of it.
+pub fn a_journal_is_read_in_one_way()
+    ensures whole { (rels : List RelDecl) (bytes : List ℕ) (first : ℕ) (deltas : List Delta) (end : ℕ) (at : ℕ) →
+        IsJournal rels bytes first deltas end → ¬ Stops rels bytes first at }
+    ensures once { (rels : List RelDecl) (bytes : List ℕ) (first : ℕ) (deltas : List Delta) (end : ℕ) (others : List Delta) (place : ℕ) →
+        IsJournal rels bytes first deltas end → IsJournal rels bytes first others place → (deltas ≡ others) × (end ≡ place) }
+{}
+
+/// Where a journal is damaged, the bytes are no half whose pages end before that journal.
+pub fn a_damaged_journal_is_no_half()
+    ensures { (f : Format) (bytes : List ℕ) (rels : List RelDecl) (state : State) (first : ℕ) (at : ℕ) →
+        Stops rels bytes first at → (half : IsHalf f bytes rels state) → length (pages_of f rels half.paged) ≢ first }
 {}

@@ -13,3 +13,6 @@ pub use prepared::{PrepareFault, Prepared};
 pub use preparing::prepare;
 pub use scanning::{Journal, ScanFault, scan};
 pub use sealing::seal;
+
+#[cfg(test)]
+mod tests;

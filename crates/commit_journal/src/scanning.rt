@@ -134,9 +134,11 @@ fn record_at(
 /// gate that is not open, behind which nothing is read. `Damaged` tells the place of the first field
 /// that breaks its rule or does not lie wholly in the bytes.
 pub fn scan(alloc: Global, bytes: &[u8], at: usize, rels: &Catalogue) -> Result<Journal, ScanFault>
-    requires { at ≤ length bytes.now }
     ensures { JournalIs rels.now bytes.now at result }
 {
+    if at > bytes.len() {
+        return Err(damaged(at));
+    }
     let mut deltas = Vec::new(alloc);
     let mut gate = at;
     loop {
