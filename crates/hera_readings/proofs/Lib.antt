@@ -1,0 +1,11 @@
+pub mod Vecs
+pub mod Nodes
+pub mod Fits
+pub mod Chains
+pub mod Makes
+pub mod Made_exprs
+pub mod Made_acts
+pub mod Made
+pub mod Trees
+pub mod Ends
+pub mod Texts
