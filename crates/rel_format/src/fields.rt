@@ -10,6 +10,7 @@ ghost use Rattle.rel_format.specs.Fields.{piece, is_identifier, new_name, count_
 
 use hera_meaning::{Attr, Kind};
 use hera_row::{Catalogue, is_name};
+use hera_sets::is_same;
 
 /// The most relations of a catalogue.
 const RELATIONS_LIMIT: u16 = 256;
@@ -139,12 +140,11 @@ fn has_rel(rels: &Catalogue, name: &[u8]) -> bool
 }
 
 /// Whether the bytes begin with these eight.
-#[tactic(auto, unfolding(hera_sets::specs::Rows::is_same))]
 fn magic_field<'a>(bytes: &'a [u8], magic: &[u8]) -> Option<&'a [u8]>
     ensures { option_copied result ≡ magic_field magic.now bytes.now }
 {
     match piece(bytes, 8) {
-        Some(front) if front.cmp(magic).is_eq() => Some(front),
+        Some(front) if is_same(front, magic) => Some(front),
         _ => None,
     }
 }
@@ -164,11 +164,10 @@ fn any_named(attrs: &[Attr], name: &[u8]) -> bool
 }
 
 /// Whether the attribute has this name.
-#[tactic(auto, unfolding(hera_sets::specs::Rows::is_same))]
 fn is_named(attr: &Attr, name: &[u8]) -> bool
     ensures { result ≡ is_same name.now attr.now.name }
 {
-    name.cmp(attr.name.bytes()).is_eq()
+    is_same(name, attr.name.bytes())
 }
 
 // ---- the same at a place

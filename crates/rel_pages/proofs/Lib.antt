@@ -7,3 +7,4 @@ pub mod Searches
 pub mod Prints
 pub mod Halves
 pub mod Bases
+pub mod Evens

@@ -95,6 +95,10 @@ passes_on (From b) x r h lt = by (is_below r b.now) refl
         not_true false g = refl
         not_true true g = sym g
 
+pub ascending_back : (xs ys : List Row) → IsAscending (xs ++ ys) → IsAscending ys
+ascending_back [] ys up = up
+ascending_back (x ∷ xs) ys up = ascending_back xs ys up.1
+
 below_there : (x : Row) (xs : List Row) (r : Row) (ys : List Row) → IsBelowAll x (xs ++ r ∷ ys) → is_below x r ≡ true
 below_there x [] r ys h = h.0
 below_there x (y ∷ xs) r ys h = below_there x xs r ys h.1

@@ -10,6 +10,7 @@ ghost use Rattle.rel_pages.specs.Reading.{told};
 
 use hera_meaning::Schema;
 use hera_row::row_len;
+use hera_sets::is_below;
 
 /// The end of a page: its relation, the bytes used in it, and its last row.
 #[derive(Clone, Copy)]
@@ -128,13 +129,12 @@ pub(crate) fn row_count_at(bytes: &[u8], at: usize) -> Option<u16>
 }
 
 /// Whether the row lies past the bound.
-#[tactic(auto, unfolding(hera_sets::specs::Rows::is_below))]
 pub(crate) fn is_past(bound: Option<&[u8]>, row: &[u8]) -> bool
     ensures { result ≡ is_past (option_copied bound.entry) row.now }
 {
     match bound {
         None => true,
-        Some(low) => low.cmp(row).is_lt(),
+        Some(low) => is_below(low, row),
     }
 }
 

@@ -1,14 +1,15 @@
 //! The rows of one relation, in the bytes of its pages.
-ghost use Rattle.std.specs.Prelude.{◌≡◌, ◌<◌, ◌≤◌, ◌+◌, ◌*◌, ◌++◌, length, List, ℕ, true, is_some, Option, None, Some, take, drop};
+ghost use Rattle.std.specs.Prelude.{◌≡◌, ◌<◌, ◌≤◌, ◌+◌, ◌*◌, ◌++◌, length, List, ℕ, true, is_some, Option, IfSome, None, Some, take, drop};
 ghost use Rattle.std.specs.List.{find};
 ghost use Rattle.std.specs.Option.{option_copied};
-ghost use Rattle.hera_sets.specs.Rows.{is_same, IsAscending};
+ghost use Rattle.hera_sets.specs.Rows.{IsAscending};
 ghost use Rattle.hera_row.specs.Reading.{row_len_of};
 ghost use Rattle.rel_pages.specs.Rels.{IsPaged, rows_in, rows_from, page_rows, pages_rows, rows_counted, leading, passes, IsPage, ArePagesOf, IsRun};
 
 use crate::fields::first_len;
-use hera_meaning::Schema;
+use hera_meaning::{Kind, Schema};
 use hera_rows::Sorted;
+use hera_sets::{is_below, is_same};
 use std::marker::Model;
 
 /// The bytes of a page before its rows.
@@ -61,23 +62,14 @@ impl<'a> Sorted for PageRel<'a> {
     }
 }
 
-/// Whether both are the same bytes.
-#[tactic(auto, unfolding(hera_sets::specs::Rows::is_same))]
-fn is_same(a: &[u8], b: &[u8]) -> bool
-    ensures { result ≡ is_same a.now b.now }
-{
-    a.cmp(b).is_eq()
-}
-
 /// Whether the row is one of those that are looked for.
-#[tactic(auto, unfolding(hera_sets::specs::Rows::is_below))]
 fn passes(bound: Bound<'_>, row: &[u8]) -> bool
     ensures { result ≡ passes bound.entry row.now }
 {
     match bound {
         Bound::Any => true,
-        Bound::Past(low) => low.cmp(row).is_lt(),
-        Bound::From(low) => !row.cmp(low).is_lt(),
+        Bound::Past(low) => is_below(low, row),
+        Bound::From(low) => !is_below(row, low),
     }
 }
 
@@ -137,7 +129,8 @@ fn first_in_pages<'r>(
     count: usize,
     bound: Bound<'_>,
 ) -> Option<&'r [u8]>
-    requires { ArePagesOf schema.now page count pages.now }
+    requires pages { ArePagesOf schema.now page count pages.now }
+    requires ascending { IsAscending (pages_rows schema.now page count pages.now) }
     ensures { option_copied result ≡ find (passes bound.entry) (pages_rows schema.now page count pages.entry.now) }
 {
     let mut left = pages;
@@ -152,12 +145,94 @@ fn first_in_pages<'r>(
     None
 }
 
-/// The first row of a page that is looked for.
+/// The first row of a page that is looked for. Where all rows have one length it is searched, else
+/// the rows are passed over one by one.
 fn first_in_page<'r>(schema: &Schema, page: &'r [u8], bound: Bound<'_>) -> Option<&'r [u8]>
-    requires { IsPage schema.now page.now }
+    requires page { IsPage schema.now page.now }
+    requires ascending { IsAscending (page_rows schema.now page.now) }
     ensures { option_copied result ≡ find (passes bound.entry) (page_rows schema.now page.entry.now) }
 {
-    first_of(schema, page.split_at(PAGE_HEAD).1, row_count(page), bound)
+    let count = row_count(page);
+    let rows = page.split_at(PAGE_HEAD).1;
+    match one_width(schema) {
+        Some(width) => first_of_even(schema, rows, width, count, bound),
+        None => first_of(schema, rows, count, bound),
+    }
+}
+
+/// The length of every row of the schema, where it has no text.
+fn one_width(schema: &Schema) -> Option<usize>
+    ensures { IfSome result (λ width. (bytes : List ℕ) (n : ℕ) → row_len_of schema.now bytes ≡ Some n → n ≡ width) }
+{
+    let mut width = 0;
+    for place in 0..schema.len() {
+        match schema.attr(place).kind {
+            Kind::Int => width += 8,
+            Kind::Bool => width += 1,
+            Kind::Text => return None,
+        }
+    }
+    Some(width)
+}
+
+/// The first of so many rows of one length that is looked for.
+fn first_of_even<'r>(
+    schema: &Schema,
+    bytes: &'r [u8],
+    width: usize,
+    count: usize,
+    bound: Bound<'_>,
+) -> Option<&'r [u8]>
+    requires run { IsRun schema.now count bytes.now }
+    requires ascending { IsAscending (rows_from schema.now count bytes.now) }
+    requires even { (front : List ℕ) (n : ℕ) → row_len_of schema.now front ≡ Some n → n ≡ width }
+    ensures { option_copied result ≡ find (passes bound.entry) (rows_from schema.now count bytes.entry.now) }
+{
+    let before = rows_before(schema, bytes, width, count, bound);
+    first_of(
+        schema,
+        bytes.split_at(before * width).1,
+        count - before,
+        bound,
+    )
+}
+
+/// So many rows of one length that none of them is looked for: all before the last one that is not
+/// looked for.
+fn rows_before(schema: &Schema, bytes: &[u8], width: usize, count: usize, bound: Bound<'_>) -> usize
+    requires run { IsRun schema.now count bytes.now }
+    requires ascending { IsAscending (rows_from schema.now count bytes.now) }
+    requires even { (front : List ℕ) (n : ℕ) → row_len_of schema.now front ≡ Some n → n ≡ width }
+    ensures within { result ≤ count }
+    ensures none { find (passes bound.entry) (rows_from schema.now result bytes.now) ≡ None }
+{
+    let mut low = 0;
+    let mut high = count;
+    while high - low > 1 {
+        let middle = low + (high - low) / 2;
+        if passes(bound, even_row(schema, bytes, width, count, middle)) {
+            high = middle;
+        } else {
+            low = middle;
+        }
+    }
+    low
+}
+
+/// The row of this number, of so many rows of one length.
+fn even_row<'r>(
+    schema: &Schema,
+    bytes: &'r [u8],
+    width: usize,
+    count: usize,
+    number: usize,
+) -> &'r [u8]
+    requires run { IsRun schema.now count bytes.now }
+    requires even { (front : List ℕ) (n : ℕ) → row_len_of schema.now front ≡ Some n → n ≡ width }
+    requires within { number < count }
+    ensures { result.now ≡ leading schema.now (drop (number * width) bytes.entry.now) }
+{
+    first_row(schema, bytes.split_at(number * width).1).0
 }
 
 /// How many rows a page has.
