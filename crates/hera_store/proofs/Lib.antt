@@ -5,3 +5,4 @@ pub mod Commits
 pub mod EmptyHalves
 pub mod Smashes
 pub mod Fillings
+pub mod Printings

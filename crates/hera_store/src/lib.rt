@@ -6,6 +6,7 @@ mod faults;
 mod files;
 mod making;
 mod opening;
+mod printing;
 mod store;
 mod switching;
 

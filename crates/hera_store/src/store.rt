@@ -14,6 +14,8 @@ ghost use Rattle.hera_store.specs.Standing.{StandsFor, IsCommitOf, AreOver, data
 ghost use Rattle.hera_store.specs.Faults.{IsRecordRefusal, IsCommitRefusal, IsCheckRefusal, commit_need, half_with};
 ghost use Rattle.hera_store.specs.Moments.{IsEither, IsStill};
 
+use crate::printing::half_bytes;
+use crate::switching::switch_to;
 use crate::{CheckFault, CommitFault};
 use commit_journal::{PrepareFault, Prepared, prepare, seal};
 use delta_atoms::Delta;
@@ -186,7 +188,22 @@ impl Store {
         if self.closed {
             return Err(CheckFault::Closed);
         }
-        Err(CheckFault::Memory)
+        let bytes = half_bytes(self.alloc, &self.base, &self.commits, limit)?;
+        match switch_to(outside, other_half(self.half), &bytes) {
+            Ok(()) => Ok(()),
+            Err(_) => Err(CheckFault::Device),
+        }
+    }
+}
+
+/// The other of two halves.
+fn other_half(half: FileId) -> FileId
+    ensures { result ≡ other_half half }
+{
+    match half {
+        FileId::Left => FileId::Right,
+        FileId::Right => FileId::Left,
+        FileId::Select => FileId::Select,
     }
 }
 
