@@ -6,3 +6,5 @@ pub mod EmptyHalves
 pub mod Smashes
 pub mod Fillings
 pub mod Printings
+pub mod Renewals
+pub mod Founds

@@ -43,7 +43,9 @@ take_one [] i rows e = absurd (none_is_not rows e)
 take_one (x ∷ s) zero rows e =
     let same : x ≡ rows = cc in
     ap (λ (r : List Row). r ∷ []) same
-take_one (x ∷ s) (suc i) rows e = ap (λ (t : State). x ∷ t) (take_one s i rows e)
+take_one (x ∷ s) (suc i) rows e =
+    let next : suc i + 1 ≡ suc (i + 1) = omega arith in
+    ap (λ (k : ℕ). take k (x ∷ s)) next ∙ ap (λ (t : State). x ∷ t) (take_one s i rows e)
 
 same_after : (s : State) (ds : List Delta) → after_all s ds ≡ state_with s ds
 same_after s [] = refl
@@ -110,10 +112,10 @@ length_four : (n : ℕ) → length (to_be_bytes w32 n) ≡ 4
 length_four n = refl
 
 module _ (rels : List RelDecl) (s : State) (limit : ℕ) (decls : All IsDecl rels) (valid : IsState rels s) where
-  db : Database
+  abbrev pub db : Database
   db = record { catalogue = rels; state = s }
 
-  head : ℕ
+  abbrev pub head : ℕ
   head = length (header_of format_one rels)
 
   need_is : (i : ℕ) → need_of (written_of format_one rels limit (take i s)) ≡ head + 5 + 8192 * page_count 8192 (take i s)
@@ -144,7 +146,9 @@ module _ (rels : List RelDecl) (s : State) (limit : ℕ) (decls : All IsDecl rel
     where
       by : (i ≡ 0) ⊎ (need_of w ≤ limit) → (full.0.added ≡ 0) ⊎ (need ≤ limit + 8192) → (page_count 8192 (take i s) + full.0.added ≡ 0) ⊎ (need ≤ limit + 8192)
       by r (inr near) = inr near
-      by (inl first) (inl none) = inl (ap (λ (k : ℕ). page_count 8192 (take k s) + full.0.added) first ∙ none)
+      by (inl first) (inl none) =
+          let empty : page_count 8192 (take i s) ≡ 0 = ap (λ (k : ℕ). page_count 8192 (take k s)) first in
+          inl (omega (arith, empty, none))
       by (inr fits) (inl none) = absurd (omega (arith, full.0.past, full.0.sum, fits, ap (pages_size 8192) none))
 
   -- once all are added
@@ -159,7 +163,7 @@ module _ (rels : List RelDecl) (s : State) (limit : ℕ) (decls : All IsDecl rel
         pages = 0;
         few = omega arith;
         sum = omega (arith, full.0, from, same);
-        past = full.2;
+        past = omega (arith, full.0, full.2);
         first = inl refl;
       }, full.1, omega (arith, half_length, none, full.0, full.2, from, same))
 

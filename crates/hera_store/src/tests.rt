@@ -4,10 +4,11 @@ ghost use Rattle.hera_store.specs.Standing.{IsCommitOf};
 
 use super::*;
 use delta_atoms::Delta;
+use hera_causes::Failed;
 use hera_meaning::{Attr, Kind, RelId, Schema, Sign, Text};
 use hera_row::{Catalogue, check_row, has_names, is_name};
 use hera_rows::Sorted;
-use hera_volume::{FileId, MemOutside, Outside, write_and_sync};
+use hera_volume::{FileId, MemOutside, Outside, rewrite_and_sync};
 use std::alloc::{AllocError, Global};
 use std::process::Abort;
 use std::test::Fail;
@@ -124,5 +125,81 @@ fn a_stop_at_each_call_leaves_before_or_after(rt: HostRuntime) -> Result<(), Fai
             }
         }
     }
+    Ok(())
+}
+
+/// Puts these bytes into `select` and into the right half.
+fn put<W: Outside>(outside: &mut W, select: &[u8], half: &[u8]) -> Result<(), Failed> {
+    rewrite_and_sync(outside, FileId::Right, half)?;
+    rewrite_and_sync(outside, FileId::Select, select)
+}
+
+#[test]
+fn damaged_files_tell_their_place(rt: HostRuntime) -> Result<(), Fail> {
+    let alloc = rt.alloc();
+    let rels = catalogue(&rt, alloc)?;
+    let table: [(&[u8], &[u8], FileId, u64); 4] = [
+        (b"\x01\x01", b"", FileId::Select, 1),
+        (b"\x01", b"HERA000", FileId::Right, 0),
+        (
+            b"\x01",
+            b"HERA0001\0\x01\x01R\x01\x01a\x04\0\0\0\0\0",
+            FileId::Right,
+            15,
+        ),
+        (
+            b"\x01",
+            b"HERA0001\0\x01\x01R\x01\x01a\x01\0\0\0\0\x01\0\0\0\x01\x03",
+            FileId::Right,
+            25,
+        ),
+    ];
+    for (select, half, damaged, place) in table {
+        let mut outside = MemOutside::new(alloc, Vec::new(alloc), None, Vec::new(alloc));
+        assert!(rt; put(&mut outside, select, half).is_ok());
+        let made = init_store(alloc, &mut outside, &rels);
+        assert!(rt; matches!(made, Err(InitFault::Exists)));
+        match open_store(alloc, &mut outside) {
+            Err(OpenFault::Damaged { file, at }) => {
+                assert!(rt; file == damaged && at == place);
+            }
+            _ => assert!(rt; false, "place {place}"),
+        }
+        assert_eq!(rt; outside.file(FileId::Right), half);
+    }
+    Ok(())
+}
+
+/// The needs that a commit of {+R(1)} and then a checkpoint tell, each within one byte too few.
+fn needs<W: Outside>(
+    alloc: Global,
+    outside: &mut W,
+    catalogue: &Catalogue,
+) -> Result<[u128; 2], Fail> {
+    let mut needs = [0, 0];
+    init_store(alloc, outside, catalogue)?;
+    let mut store = open_store(alloc, outside)?;
+    if let Some(delta) = plus(alloc, store.base().catalogue())? {
+        if let Err(CommitFault::Full { need, .. }) = store.commit(outside, delta, 36) {
+            needs[0] = need;
+        }
+    }
+    if let Some(delta) = plus(alloc, store.base().catalogue())? {
+        store.commit(outside, delta, 37)?;
+    }
+    if let Err(CheckFault::Full { need, .. }) = store.checkpoint(outside, 8212) {
+        needs[1] = need;
+    }
+    Ok(needs)
+}
+
+#[test]
+fn what_is_too_long_is_not_written(rt: HostRuntime) -> Result<(), Fail> {
+    let alloc = rt.alloc();
+    let rels = catalogue(&rt, alloc)?;
+    let mut outside = MemOutside::new(alloc, Vec::new(alloc), None, Vec::new(alloc));
+    assert_eq!(rt; needs(alloc, &mut outside, &rels)?, [37, 8213]);
+    assert_eq!(rt; outside.calls(), 21);
+    assert_eq!(rt; outside.file(FileId::Left).len(), 37);
     Ok(())
 }
