@@ -10,6 +10,7 @@ ghost use Rattle.hera_volume.specs.declared.file_id.FileId.TheVariants.{Select};
 ghost use Rattle.rel_format.specs.Journal.{record_of};
 ghost use Rattle.commit_journal.specs.Gate.{IsWith};
 ghost use Rattle.commit_journal.specs.Prepare.{need_of};
+ghost use Rattle.hera_store.specs.Databases.{Holds};
 ghost use Rattle.hera_store.specs.Standing.{StandsFor, IsCommitOf, AreOver, database_of, database_after, end_with, other_half, select_byte};
 ghost use Rattle.hera_store.specs.Faults.{IsRecordRefusal, IsCommitRefusal, IsCheckRefusal, commit_need, half_with};
 ghost use Rattle.hera_store.specs.Moments.{IsEither, IsStill};
@@ -169,7 +170,8 @@ impl Store {
         ensures settled { W.told → OnOk result ((f : FileId) → IsSettled (W.disk outside.new f)) }
         ensures selects { W.told → OnOk result ((W.disk outside.new Select).bytes ≡ select_byte (other_half self.half) ∷ []) }
         ensures renewed { W.told → OnOk result ((W.disk outside.new (other_half self.half)).bytes ≡ half_with (database_of self)) }
-        ensures former { W.told → self.closed ≡ false → W.disk outside.new self.half ≡ W.disk outside.old self.half }
+        ensures holds { W.told → OnOk result (Holds (λ f. (W.disk outside.new f).bytes) (database_of self)) }
+        ensures former { W.told → W.disk outside.new self.half ≡ W.disk outside.old self.half }
         // Why it is refused.
         ensures closed { result ≡ Err CheckFault.Closed → self.closed ≡ true }
         ensures stays_closed { self.closed ≡ true → result ≡ Err CheckFault.Closed }
