@@ -21,13 +21,17 @@ pub record Standing : Type 0 where
   pub end : ℕ
   pub closed : Bool
 
+-- the base's catalogue, with its state after commits in order
+abbrev pub database_over : Stored → List Delta → Database
+database_over base commits = record { catalogue = base.catalogue; state = state_with base.state commits }
+
 -- the database for which it stands
 abbrev pub database_of : Standing → Database
-database_of store = record { catalogue = store.base.catalogue; state = state_with store.base.state store.commits }
+database_of store = database_over store.base store.commits
 
 -- the same with one commit more
 abbrev pub database_after : Standing → Delta → Database
-database_after store delta = record { catalogue = store.base.catalogue; state = state_with store.base.state (store.commits ++ delta ∷ []) }
+database_after store delta = database_over store.base (store.commits ++ delta ∷ [])
 
 -- it is not `fail`, and names relations and rows of the catalogue
 pub record IsCommitOf (rels : List RelDecl) (delta : Delta) : Type 0 where
