@@ -9,3 +9,6 @@ pub mod Made
 pub mod Trees
 pub mod Ends
 pub mod Texts
+pub mod Tokens
+pub mod Placed
+pub mod Faults

@@ -5,3 +5,4 @@ mod Distinct
 mod Lines
 mod One
 mod Evaluated
+mod Covered

@@ -15,6 +15,8 @@ ghost use Rattle.hera_top.specs.declared.refusal.Refusal.{Refusal};
 ghost use Rattle.hera_top.specs.Outcome.{Outcome, prints, ran, refused, ComesTo, IsRead};
 
 use hera_bind::laws::a_program_is_bound_to_its_own_relations;
+use hera_readings::{faults_have_places, some_tokens, some_tree};
+use hera_rules::typing_is_exact;
 use hera_script::{a_script_has_one_answer, accepted_programs_are_sound};
 
 /// A command comes to one outcome for a script: so each refusal stands for its cause alone, and what runs is the one
@@ -25,6 +27,17 @@ pub fn one_outcome()
         → (outcome ≡ prints (codes "accepted\n")) ↔ ((length script ≤ script_limit) × ((p : Program_tree) × Accepted script hosts p)) }
 {
     a_script_has_one_answer();
+}
+
+/// A command comes to an outcome for each script: no script is left out of the definitions of what is refused and what
+/// is accepted.
+pub fn some_outcome()
+    ensures { (hosts : List Host) (command : Command) (script : List ℕ) → (outcome : Outcome) × ComesTo hosts command script outcome }
+{
+    some_tokens();
+    some_tree();
+    faults_have_places();
+    typing_is_exact();
 }
 
 /// Where a source tells what it has left, the outcome of what came from it is the outcome of all of that.
