@@ -130,5 +130,4 @@ impl<'a> Parser<'a> {
         let given = Box::new(alloc, part)?;
         Ok((given, Some(name)))
     }
-
 }

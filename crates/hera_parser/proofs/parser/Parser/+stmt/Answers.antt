@@ -3,7 +3,7 @@ use Rattle.std.specs.List.{flat_map}
 use Rattle.hera_syntax.specs.Grammar.{phrase, keep, leave, word}
 use Rattle.hera_syntax.specs.Grammar as phrases
 use Rattle.hera_syntax.specs.Outline.{expr_outline, hold, node, skip}
-use Rattle.hera_syntax.specs.Programs.{block_outline, else_if_row, last_else, stmt_row}
+use Rattle.hera_syntax.specs.Programs.{block_outline, else_if_row, last_else, stmt_outline, stmt_row}
 use Rattle.hera_parser.specs.Pieces.{else_if_rest}
 use Rattle.hera_parser.proofs.Steps.{choose, next, next_choose, stops, stops_list, join, idle, before, as_marks, rows_first, rows_more, items_start, items_more}
 use Rattle.hera_parser.proofs.Joined.{got, shortened}
