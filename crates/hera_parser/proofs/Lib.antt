@@ -7,3 +7,4 @@ pub mod Steps
 pub mod Choices
 pub mod Levels
 pub mod OneFault
+pub mod Joined

@@ -6,7 +6,7 @@ ghost use Rattle.hera_syntax.specs.Grammar as phrases;
 ghost use Rattle.hera_syntax.specs.Programs.{attr_outline, attrs_outline, kind_outline, param_outline, params_outline, schema_outline, some_params_outline, type_outline};
 ghost use Rattle.hera_parser.specs.Reading.{Tells, Gives, Sticks};
 
-use crate::parser::{Parser, Stop};
+use crate::parser::{Items, Parser, Stop, joined};
 use crate::terminals::{
     CLOSE_PAREN, COMMA, DELTA, KIND_WORDS, NAME, PAREN, REL, TUPLE, TYPE_STARTS,
 };
@@ -42,12 +42,15 @@ impl<'a> Parser<'a> {
         ensures shorter { OnOk result (length self.new < length self.old) }
     {
         let first = self.attr()?;
-        let mut rest = Vec::new(alloc);
+        let mut items = Items::new(alloc, first);
         'rest: while self.next_is(&[COMMA]) {
-            self.skip(COMMA)?;
-            let item = self.attr()?;
-            rest.push(item)?;
+            let before = self.ended_by(items, COMMA)?;
+            let item = self.attr();
+            let both = joined(before, item)?;
+            let (before, item) = both;
+            items = before.with(item)?;
         }
+        let Items { first, rest } = items;
         Ok(Attrs::new(first, rest))
     }
 
@@ -62,8 +65,10 @@ impl<'a> Parser<'a> {
             return Ok(SchemaTree::name(name));
         }
         let bracket = self.keep(PAREN)?;
-        let attrs = self.attrs(alloc)?;
-        self.skip(CLOSE_PAREN)?;
+        let attrs = self.attrs(alloc);
+        let part = joined(bracket, attrs)?;
+        let part = self.ended_by(part, CLOSE_PAREN)?;
+        let (bracket, attrs) = part;
         Ok(SchemaTree::written(bracket, attrs))
     }
 
@@ -138,7 +143,8 @@ impl<'a> Parser<'a> {
         ensures shorter { OnOk result (length self.new < length self.old) }
     {
         let type_tree = self.type_tree(alloc)?;
-        let name = self.keep(NAME)?;
+        let both = self.kept_behind(type_tree, NAME)?;
+        let (type_tree, name) = both;
         Ok(Param::new(type_tree, name))
     }
 
@@ -149,12 +155,15 @@ impl<'a> Parser<'a> {
         ensures shorter { OnOk result (length self.new < length self.old) }
     {
         let first = self.param(alloc)?;
-        let mut rest = Vec::new(alloc);
+        let mut items = Items::new(alloc, first);
         'rest: while self.next_is(&[COMMA]) {
-            self.skip(COMMA)?;
-            let item = self.param(alloc)?;
-            rest.push(item)?;
+            let before = self.ended_by(items, COMMA)?;
+            let item = self.param(alloc);
+            let both = joined(before, item)?;
+            let (before, item) = both;
+            items = before.with(item)?;
         }
+        let Items { first, rest } = items;
         Ok(Params::new(first, rest))
     }
 

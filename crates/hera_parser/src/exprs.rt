@@ -7,7 +7,7 @@ ghost use Rattle.hera_syntax.specs.Operators.{operand_of, operators_of};
 ghost use Rattle.hera_syntax.specs.Outline.{args_outline, atom_outline, atoms_outline, binding_outline, bindings_outline, expr_outline, line_outline, lines_outline, operand_outline, post_outline, prefix_outline, prime_outline, production_of, some_args_outline, tail_outline};
 ghost use Rattle.hera_parser.specs.Reading.{BeginsNone, Tells, Gives, Sticks};
 
-use crate::parser::{Items, Parser, Stop};
+use crate::parser::{Items, Parser, Stop, joined, joined_box};
 use crate::terminals::{
     BRACE, BULK, BY, CLOSE_BRACE, CLOSE_PAREN, CLOSE_SQUARE, CMP_OPS, COLON, COMMA, EQUALS,
     EXPR_STARTS, FAIL, FALSE, FOLD_WORDS, GROUP, IN, INT, MEASURE_WORDS, NAME, PAIR_WORDS, PAREN,
@@ -54,8 +54,10 @@ impl<'a> Parser<'a> {
         let first = self.operand(alloc, level)?;
         let mut items = Items::new(alloc, first);
         'rest: while self.next_is(level.operators()) {
-            let tail = self.tail(alloc, level)?;
-            items = items.with(tail)?;
+            let tail = self.tail(alloc, level);
+            let both = joined(items, tail)?;
+            let (before, tail) = both;
+            items = before.with(tail)?;
         }
         let Items { first, rest } = items;
         Ok(Expr::chain(level, first, rest))
@@ -72,7 +74,9 @@ impl<'a> Parser<'a> {
         if !self.next_is(CMP_OPS) {
             return Ok(Expr::comparison(first, Vec::new(alloc)));
         }
-        let tail = self.tail(alloc, Level::Comparisons)?;
+        let tail = self.tail(alloc, Level::Comparisons);
+        let both = joined(first, tail)?;
+        let (first, tail) = both;
         let alone = Items::new(alloc, first);
         let items = alone.with(tail)?;
         let Items { first, rest } = items;
@@ -145,8 +149,10 @@ impl<'a> Parser<'a> {
         ensures shorter { OnOk result (length self.new < length self.old) }
     {
         let bracket = self.keep(PAREN)?;
-        let inner = self.level(alloc, Level::Whens)?;
-        let inner = self.ended_box(alloc, inner, CLOSE_PAREN)?;
+        let inner = self.level(alloc, Level::Whens);
+        let part = joined_box(alloc, bracket, inner)?;
+        let part = self.ended_by(part, CLOSE_PAREN)?;
+        let (bracket, inner) = part;
         Ok(Prime::paren(bracket, inner))
     }
 
@@ -159,8 +165,10 @@ impl<'a> Parser<'a> {
         ensures shorter { OnOk result (length self.new < length self.old) }
     {
         let bracket = self.keep(SQUARE)?;
-        let bindings = self.bindings(alloc)?;
-        let bindings = self.ended_box(alloc, bindings, CLOSE_SQUARE)?;
+        let bindings = self.bindings(alloc);
+        let part = joined_box(alloc, bracket, bindings)?;
+        let part = self.ended_by(part, CLOSE_SQUARE)?;
+        let (bracket, bindings) = part;
         Ok(Prime::row(bracket, bindings))
     }
 
@@ -174,11 +182,13 @@ impl<'a> Parser<'a> {
     {
         let bracket = self.keep(BRACE)?;
         if !self.next_is(SIGNS) {
-            self.skip(CLOSE_BRACE)?;
-            return Ok(Prime::empty_delta(bracket));
+            let empty = self.ended_by(bracket, CLOSE_BRACE)?;
+            return Ok(Prime::empty_delta(empty));
         }
-        let atoms = self.atoms(alloc)?;
-        let atoms = self.ended_box(alloc, atoms, CLOSE_BRACE)?;
+        let atoms = self.atoms(alloc);
+        let part = joined_box(alloc, bracket, atoms)?;
+        let part = self.ended_by(part, CLOSE_BRACE)?;
+        let (bracket, atoms) = part;
         Ok(Prime::delta(bracket, atoms))
     }
 
@@ -191,16 +201,19 @@ impl<'a> Parser<'a> {
         ensures shorter { OnOk result (length self.new < length self.old) }
     {
         let word = self.keep(ROWS)?;
-        let bracket = self.keep(PAREN)?;
-        let name = self.keep(NAME)?;
-        self.skip(CLOSE_PAREN)?;
-        let brace = self.keep(BRACE)?;
+        let opened = self.kept_behind(word, PAREN)?;
+        let named = self.kept_behind(opened, NAME)?;
+        let closed = self.ended_by(named, CLOSE_PAREN)?;
+        let head = self.kept_behind(closed, BRACE)?;
         if !self.next_is(PAREN) {
-            self.skip(CLOSE_BRACE)?;
+            let empty = self.ended_by(head, CLOSE_BRACE)?;
+            let (((word, bracket), name), brace) = empty;
             return Ok(Prime::empty_rows(word, bracket, name, brace));
         }
-        let lines = self.lines(alloc)?;
-        let lines = self.ended_box(alloc, lines, CLOSE_BRACE)?;
+        let lines = self.lines(alloc);
+        let part = joined_box(alloc, head, lines)?;
+        let part = self.ended_by(part, CLOSE_BRACE)?;
+        let ((((word, bracket), name), brace), lines) = part;
         Ok(Prime::rows(word, bracket, name, brace, lines))
     }
 
@@ -213,14 +226,16 @@ impl<'a> Parser<'a> {
         ensures shorter { OnOk result (length self.new < length self.old) }
     {
         let word = self.keep(WALK_WORDS)?;
-        let bracket = self.keep(PAREN)?;
-        let name = self.keep(NAME)?;
-        self.skip(IN)?;
-        let over = self.level(alloc, Level::Whens)?;
-        let over = self.ended_box(alloc, over, COLON)?;
-        let body = self.level(alloc, Level::Whens)?;
-        let both = self.ended_box_behind(alloc, over, body, CLOSE_PAREN)?;
-        let (over, body) = both;
+        let head = self.kept_behind(word, PAREN)?;
+        let head = self.kept_behind(head, NAME)?;
+        let head = self.ended_by(head, IN)?;
+        let over = self.level(alloc, Level::Whens);
+        let part = joined_box(alloc, head, over)?;
+        let part = self.ended_by(part, COLON)?;
+        let body = self.level(alloc, Level::Whens);
+        let part = joined_box(alloc, part, body)?;
+        let part = self.ended_by(part, CLOSE_PAREN)?;
+        let ((((word, bracket), name), over), body) = part;
         Ok(Prime::walk(word, bracket, name, over, body))
     }
 
@@ -233,12 +248,14 @@ impl<'a> Parser<'a> {
         ensures shorter { OnOk result (length self.new < length self.old) }
     {
         let word = self.keep(PROJECT)?;
-        let bracket = self.keep(PAREN)?;
-        let over = self.level(alloc, Level::Whens)?;
-        let over = self.ended_box(alloc, over, SEMICOLON)?;
-        let both = self.names_behind(alloc, over)?;
-        let both = self.ended_by(both, CLOSE_PAREN)?;
-        let (over, names) = both;
+        let head = self.kept_behind(word, PAREN)?;
+        let over = self.level(alloc, Level::Whens);
+        let part = joined_box(alloc, head, over)?;
+        let part = self.ended_by(part, SEMICOLON)?;
+        let names = self.names(alloc);
+        let part = joined(part, names)?;
+        let part = self.ended_by(part, CLOSE_PAREN)?;
+        let (((word, bracket), over), names) = part;
         Ok(Prime::project(word, bracket, over, names))
     }
 
@@ -251,12 +268,14 @@ impl<'a> Parser<'a> {
         ensures shorter { OnOk result (length self.new < length self.old) }
     {
         let word = self.keep(RENAME)?;
-        let bracket = self.keep(PAREN)?;
-        let over = self.level(alloc, Level::Whens)?;
-        let over = self.ended_box(alloc, over, SEMICOLON)?;
-        let both = self.renamings_behind(alloc, over)?;
-        let both = self.ended_by(both, CLOSE_PAREN)?;
-        let (over, renamings) = both;
+        let head = self.kept_behind(word, PAREN)?;
+        let over = self.level(alloc, Level::Whens);
+        let part = joined_box(alloc, head, over)?;
+        let part = self.ended_by(part, SEMICOLON)?;
+        let renamings = self.renamings(alloc);
+        let part = joined(part, renamings)?;
+        let part = self.ended_by(part, CLOSE_PAREN)?;
+        let (((word, bracket), over), renamings) = part;
         Ok(Prime::rename(word, bracket, over, renamings))
     }
 
@@ -269,12 +288,14 @@ impl<'a> Parser<'a> {
         ensures shorter { OnOk result (length self.new < length self.old) }
     {
         let word = self.keep(PAIR_WORDS)?;
-        let bracket = self.keep(PAREN)?;
-        let left = self.level(alloc, Level::Whens)?;
-        let left = self.ended_box(alloc, left, COMMA)?;
-        let right = self.level(alloc, Level::Whens)?;
-        let both = self.ended_box_behind(alloc, left, right, CLOSE_PAREN)?;
-        let (left, right) = both;
+        let head = self.kept_behind(word, PAREN)?;
+        let left = self.level(alloc, Level::Whens);
+        let part = joined_box(alloc, head, left)?;
+        let part = self.ended_by(part, COMMA)?;
+        let right = self.level(alloc, Level::Whens);
+        let part = joined_box(alloc, part, right)?;
+        let part = self.ended_by(part, CLOSE_PAREN)?;
+        let (((word, bracket), left), right) = part;
         Ok(Prime::pair(word, bracket, left, right))
     }
 
@@ -287,15 +308,18 @@ impl<'a> Parser<'a> {
         ensures shorter { OnOk result (length self.new < length self.old) }
     {
         let word = self.keep(GROUP)?;
-        let bracket = self.keep(PAREN)?;
-        let over = self.level(alloc, Level::Whens)?;
-        let over = self.ended_box(alloc, over, SEMICOLON)?;
-        let over = self.ended_by(over, BY)?;
-        let both = self.names_behind(alloc, over)?;
-        let both = self.ended_by(both, SEMICOLON)?;
-        let all = self.aggs_behind(alloc, both)?;
-        let all = self.ended_by(all, CLOSE_PAREN)?;
-        let ((over, names), aggs) = all;
+        let head = self.kept_behind(word, PAREN)?;
+        let over = self.level(alloc, Level::Whens);
+        let part = joined_box(alloc, head, over)?;
+        let part = self.ended_by(part, SEMICOLON)?;
+        let part = self.ended_by(part, BY)?;
+        let names = self.names(alloc);
+        let part = joined(part, names)?;
+        let part = self.ended_by(part, SEMICOLON)?;
+        let aggs = self.aggs(alloc);
+        let part = joined(part, aggs)?;
+        let part = self.ended_by(part, CLOSE_PAREN)?;
+        let ((((word, bracket), over), names), aggs) = part;
         Ok(Prime::group(word, bracket, over, names, aggs))
     }
 
@@ -308,9 +332,11 @@ impl<'a> Parser<'a> {
         ensures shorter { OnOk result (length self.new < length self.old) }
     {
         let word = self.keep(MEASURE_WORDS)?;
-        let bracket = self.keep(PAREN)?;
-        let over = self.level(alloc, Level::Whens)?;
-        let over = self.ended_box(alloc, over, CLOSE_PAREN)?;
+        let head = self.kept_behind(word, PAREN)?;
+        let over = self.level(alloc, Level::Whens);
+        let part = joined_box(alloc, head, over)?;
+        let part = self.ended_by(part, CLOSE_PAREN)?;
+        let ((word, bracket), over) = part;
         Ok(Prime::measure(word, bracket, over))
     }
 
@@ -323,12 +349,13 @@ impl<'a> Parser<'a> {
         ensures shorter { OnOk result (length self.new < length self.old) }
     {
         let word = self.keep(FOLD_WORDS)?;
-        let bracket = self.keep(PAREN)?;
-        let over = self.level(alloc, Level::Whens)?;
-        let over = self.ended_box(alloc, over, COMMA)?;
-        let both = self.kept_behind(over, NAME)?;
-        let both = self.ended_by(both, CLOSE_PAREN)?;
-        let (over, name) = both;
+        let head = self.kept_behind(word, PAREN)?;
+        let over = self.level(alloc, Level::Whens);
+        let part = joined_box(alloc, head, over)?;
+        let part = self.ended_by(part, COMMA)?;
+        let part = self.kept_behind(part, NAME)?;
+        let part = self.ended_by(part, CLOSE_PAREN)?;
+        let (((word, bracket), over), name) = part;
         Ok(Prime::fold(word, bracket, over, name))
     }
 
@@ -341,12 +368,14 @@ impl<'a> Parser<'a> {
         ensures shorter { OnOk result (length self.new < length self.old) }
     {
         let word = self.keep(BULK)?;
-        let bracket = self.keep(PAREN)?;
-        let sign = self.keep(SIGNS)?;
-        let name = self.keep(NAME)?;
-        self.skip(COMMA)?;
-        let over = self.level(alloc, Level::Whens)?;
-        let over = self.ended_box(alloc, over, CLOSE_PAREN)?;
+        let head = self.kept_behind(word, PAREN)?;
+        let head = self.kept_behind(head, SIGNS)?;
+        let head = self.kept_behind(head, NAME)?;
+        let head = self.ended_by(head, COMMA)?;
+        let over = self.level(alloc, Level::Whens);
+        let part = joined_box(alloc, head, over)?;
+        let part = self.ended_by(part, CLOSE_PAREN)?;
+        let ((((word, bracket), sign), name), over) = part;
         Ok(Prime::bulk(word, bracket, sign, name, over))
     }
 
@@ -359,11 +388,13 @@ impl<'a> Parser<'a> {
         ensures shorter { OnOk result (length self.new < length self.old) }
     {
         let word = self.keep(PART_WORDS)?;
-        let bracket = self.keep(PAREN)?;
-        let name = self.keep(NAME)?;
-        self.skip(COMMA)?;
-        let over = self.level(alloc, Level::Whens)?;
-        let over = self.ended_box(alloc, over, CLOSE_PAREN)?;
+        let head = self.kept_behind(word, PAREN)?;
+        let head = self.kept_behind(head, NAME)?;
+        let head = self.ended_by(head, COMMA)?;
+        let over = self.level(alloc, Level::Whens);
+        let part = joined_box(alloc, head, over)?;
+        let part = self.ended_by(part, CLOSE_PAREN)?;
+        let (((word, bracket), name), over) = part;
         Ok(Prime::part(word, bracket, name, over))
     }
 
@@ -379,13 +410,16 @@ impl<'a> Parser<'a> {
         if !self.next_is(PAREN) {
             return Ok(Prime::name(name));
         }
-        let bracket = self.keep(PAREN)?;
+        let head = self.kept_behind(name, PAREN)?;
         if !self.next_is(EXPR_STARTS) {
-            self.skip(CLOSE_PAREN)?;
+            let empty = self.ended_by(head, CLOSE_PAREN)?;
+            let (name, bracket) = empty;
             return Ok(Prime::empty_call(name, bracket));
         }
-        let args = self.args(alloc)?;
-        let args = self.ended_box(alloc, args, CLOSE_PAREN)?;
+        let args = self.args(alloc);
+        let part = joined_box(alloc, head, args)?;
+        let part = self.ended_by(part, CLOSE_PAREN)?;
+        let ((name, bracket), args) = part;
         Ok(Prime::call(name, bracket, args))
     }
 
@@ -475,7 +509,9 @@ impl<'a> Parser<'a> {
         let mut items = Items::new(alloc, first);
         'rest: while self.next_is(&[COMMA]) {
             let before = self.ended_by(items, COMMA)?;
-            let item = self.level(alloc, Level::Whens)?;
+            let item = self.level(alloc, Level::Whens);
+            let both = joined(before, item)?;
+            let (before, item) = both;
             items = before.with(item)?;
         }
         let Items { first, rest } = items;
@@ -493,7 +529,9 @@ impl<'a> Parser<'a> {
         let mut items = Items::new(alloc, first);
         'rest: while self.next_is(&[COMMA]) {
             let before = self.ended_by(items, COMMA)?;
-            let item = self.binding(alloc)?;
+            let item = self.binding(alloc);
+            let both = joined(before, item)?;
+            let (before, item) = both;
             items = before.with(item)?;
         }
         let Items { first, rest } = items;
@@ -511,7 +549,9 @@ impl<'a> Parser<'a> {
         let mut items = Items::new(alloc, first);
         'rest: while self.next_is(&[COMMA]) {
             let before = self.ended_by(items, COMMA)?;
-            let item = self.atom(alloc)?;
+            let item = self.atom(alloc);
+            let both = joined(before, item)?;
+            let (before, item) = both;
             items = before.with(item)?;
         }
         let Items { first, rest } = items;
@@ -529,7 +569,9 @@ impl<'a> Parser<'a> {
         let mut items = Items::new(alloc, first);
         'rest: while self.next_is(&[COMMA]) {
             let before = self.ended_by(items, COMMA)?;
-            let item = self.line(alloc)?;
+            let item = self.line(alloc);
+            let both = joined(before, item)?;
+            let (before, item) = both;
             items = before.with(item)?;
         }
         let Items { first, rest } = items;
@@ -544,8 +586,10 @@ impl<'a> Parser<'a> {
         ensures shorter { OnOk result (length self.new < length self.old) }
     {
         let name = self.keep(NAME)?;
-        self.skip(EQUALS)?;
-        let value = self.level(alloc, Level::Whens)?;
+        let head = self.ended_by(name, EQUALS)?;
+        let value = self.level(alloc, Level::Whens);
+        let part = joined(head, value)?;
+        let (name, value) = part;
         Ok(Binding::new(name, value))
     }
 
@@ -557,10 +601,12 @@ impl<'a> Parser<'a> {
         ensures shorter { OnOk result (length self.new < length self.old) }
     {
         let sign = self.keep(SIGNS)?;
-        let name = self.keep(NAME)?;
-        let bracket = self.keep(PAREN)?;
-        let args = self.args(alloc)?;
-        let args = self.ended_by(args, CLOSE_PAREN)?;
+        let head = self.kept_behind(sign, NAME)?;
+        let head = self.kept_behind(head, PAREN)?;
+        let args = self.args(alloc);
+        let part = joined(head, args)?;
+        let part = self.ended_by(part, CLOSE_PAREN)?;
+        let (((sign, name), bracket), args) = part;
         Ok(Atom::new(sign, name, bracket, args))
     }
 
@@ -572,8 +618,10 @@ impl<'a> Parser<'a> {
         ensures shorter { OnOk result (length self.new < length self.old) }
     {
         let bracket = self.keep(PAREN)?;
-        let args = self.args(alloc)?;
-        let args = self.ended_by(args, CLOSE_PAREN)?;
+        let args = self.args(alloc);
+        let part = joined(bracket, args)?;
+        let part = self.ended_by(part, CLOSE_PAREN)?;
+        let (bracket, args) = part;
         Ok(Line::new(bracket, args))
     }
 

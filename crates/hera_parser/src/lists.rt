@@ -6,7 +6,7 @@ ghost use Rattle.hera_syntax.specs.Grammar as phrases;
 ghost use Rattle.hera_syntax.specs.Outline.{agg_outline, aggs_outline, field_outline, named_agg_outline, names_outline, renaming_outline, renamings_outline};
 ghost use Rattle.hera_parser.specs.Reading.{Gives, Sticks};
 
-use crate::parser::{Parser, Stop};
+use crate::parser::{Items, Parser, Stop, joined};
 use crate::terminals::{CLOSE_PAREN, COMMA, COUNT, DOT, EQUALS, FOLD_WORDS, NAME, PAREN};
 use hera_syntax::{AggTree, NamedAgg, NamedAggs, Names, Renaming, Renamings, Token};
 use std::alloc::Global;
@@ -47,12 +47,15 @@ impl<'a> Parser<'a> {
         ensures shorter { OnOk result (length self.new < length self.old) }
     {
         let first = self.renaming()?;
-        let mut rest = Vec::new(alloc);
+        let mut items = Items::new(alloc, first);
         'rest: while self.next_is(&[COMMA]) {
-            self.skip(COMMA)?;
-            let item = self.renaming()?;
-            rest.push(item)?;
+            let before = self.ended_by(items, COMMA)?;
+            let item = self.renaming();
+            let both = joined(before, item)?;
+            let (before, item) = both;
+            items = before.with(item)?;
         }
+        let Items { first, rest } = items;
         Ok(Renamings::new(first, rest))
     }
 
@@ -67,9 +70,10 @@ impl<'a> Parser<'a> {
             return Ok(AggTree::count(count));
         }
         let word = self.keep(FOLD_WORDS)?;
-        let bracket = self.keep(PAREN)?;
-        let name = self.keep(NAME)?;
-        self.skip(CLOSE_PAREN)?;
+        let head = self.kept_behind(word, PAREN)?;
+        let head = self.kept_behind(head, NAME)?;
+        let head = self.ended_by(head, CLOSE_PAREN)?;
+        let ((word, bracket), name) = head;
         Ok(AggTree::of(word, bracket, name))
     }
 
@@ -80,8 +84,10 @@ impl<'a> Parser<'a> {
         ensures shorter { OnOk result (length self.new < length self.old) }
     {
         let name = self.keep(NAME)?;
-        self.skip(EQUALS)?;
-        let agg = self.agg()?;
+        let head = self.ended_by(name, EQUALS)?;
+        let agg = self.agg();
+        let both = joined(head, agg)?;
+        let (name, agg) = both;
         Ok(NamedAgg::new(name, agg))
     }
 
@@ -92,12 +98,15 @@ impl<'a> Parser<'a> {
         ensures shorter { OnOk result (length self.new < length self.old) }
     {
         let first = self.named_agg()?;
-        let mut rest = Vec::new(alloc);
+        let mut items = Items::new(alloc, first);
         'rest: while self.next_is(&[COMMA]) {
-            self.skip(COMMA)?;
-            let item = self.named_agg()?;
-            rest.push(item)?;
+            let before = self.ended_by(items, COMMA)?;
+            let item = self.named_agg();
+            let both = joined(before, item)?;
+            let (before, item) = both;
+            items = before.with(item)?;
         }
+        let Items { first, rest } = items;
         Ok(NamedAggs::new(first, rest))
     }
 
@@ -120,42 +129,5 @@ impl<'a> Parser<'a> {
         let name = self.keep(NAME)?;
         let given = Box::new(alloc, part)?;
         Ok((given, Some(name)))
-    }
-
-    /// `name (',' name)*`, beside the part that stands before it.
-    pub fn names_behind<T: Drop>(&mut self, alloc: Global, part: T) -> Result<(T, Names), Stop>
-        ensures same { IfOk result (λ both. both.0 ≡ part) }
-        ensures reads { IfOk result (λ both. Gives (phrase phrases.names ∷ []) self.old (names_outline both.1) [] self.new) }
-        ensures sticks { IsErrOf result Stop.Syntax → Sticks (phrase phrases.names ∷ []) self.old self.new }
-        ensures shorter { OnOk result (length self.new < length self.old) }
-    {
-        let names = self.names(alloc)?;
-        Ok((part, names))
-    }
-
-    /// `name '=' name (',' name '=' name)*`, beside the part that stands before it.
-    pub fn renamings_behind<T: Drop>(
-        &mut self,
-        alloc: Global,
-        part: T,
-    ) -> Result<(T, Renamings), Stop>
-        ensures same { IfOk result (λ both. both.0 ≡ part) }
-        ensures reads { IfOk result (λ both. Gives (phrase phrases.renamings ∷ []) self.old (renamings_outline both.1) [] self.new) }
-        ensures sticks { IsErrOf result Stop.Syntax → Sticks (phrase phrases.renamings ∷ []) self.old self.new }
-        ensures shorter { OnOk result (length self.new < length self.old) }
-    {
-        let renamings = self.renamings(alloc)?;
-        Ok((part, renamings))
-    }
-
-    /// `name '=' agg (',' name '=' agg)*`, beside the part that stands before it.
-    pub fn aggs_behind<T: Drop>(&mut self, alloc: Global, part: T) -> Result<(T, NamedAggs), Stop>
-        ensures same { IfOk result (λ both. both.0 ≡ part) }
-        ensures reads { IfOk result (λ both. Gives (phrase phrases.aggs ∷ []) self.old (aggs_outline both.1) [] self.new) }
-        ensures sticks { IsErrOf result Stop.Syntax → Sticks (phrase phrases.aggs ∷ []) self.old self.new }
-        ensures shorter { OnOk result (length self.new < length self.old) }
-    {
-        let aggs = self.aggs(alloc)?;
-        Ok((part, aggs))
     }
 }

@@ -1,4 +1,4 @@
-ghost use Rattle.std.specs.Prelude.{◌≡◌, ◌≤◌, ◌<◌, [], ◌∷◌, ◌++◌, length, List, drop, IfOk, OnOk, IsErrOf};
+ghost use Rattle.std.specs.Prelude.{◌≡◌, ◌≤◌, ◌<◌, [], ◌∷◌, ◌++◌, length, List, drop, IfOk, OnOk, IsErrOf, Ok};
 ghost use Rattle.hera_syntax.specs.Grammar.{keep, leave};
 ghost use Rattle.hera_syntax.specs.Outline.{hold, skip};
 ghost use Rattle.hera_syntax.specs.declared.token.Token.{Token};
@@ -83,6 +83,32 @@ pub fn pushed<T: Drop>(list: Vec<T>, item: T) -> Result<Vec<T>, AllocError>
     Ok(longer)
 }
 
+/// The part that stands before, beside what was read behind it. The error is that of the reading.
+pub fn joined<A: Drop, T: Drop>(before: A, read: Result<T, Stop>) -> Result<(A, T), Stop>
+    ensures same { IfOk result (λ both. both.0 ≡ before) }
+    ensures read { IfOk result (λ both. read ≡ Ok both.1) }
+    ensures stops { IsErrOf result Stop.Syntax → IsErrOf read Stop.Syntax }
+{
+    let part = read?;
+    Ok((before, part))
+}
+
+/// The part that stands before, beside what was read behind it in a box. The error is that of the
+/// reading, or want of memory.
+pub fn joined_box<A: Drop, T: Drop>(
+    alloc: Global,
+    before: A,
+    read: Result<T, Stop>,
+) -> Result<(A, Box<T>), Stop>
+    ensures same { IfOk result (λ both. both.0 ≡ before) }
+    ensures read { IfOk result (λ both. read ≡ Ok both.1.value) }
+    ensures stops { IsErrOf result Stop.Syntax → IsErrOf read Stop.Syntax }
+{
+    let part = read?;
+    let given = Box::new(alloc, part)?;
+    Ok((before, given))
+}
+
 impl<'a> Model for Parser<'a> {
     ghost Value = { List Token };
 
@@ -162,41 +188,6 @@ impl<'a> Parser<'a> {
     {
         self.skip(terminal)?;
         Ok(part)
-    }
-
-    /// Passes over the next token, which has to be this one, and hands back the part that it ends in a box.
-    pub fn ended_box<T: Drop>(
-        &mut self,
-        alloc: Global,
-        part: T,
-        terminal: Terminal,
-    ) -> Result<Box<T>, Stop>
-        ensures same { IfOk result (λ given. given.value ≡ part) }
-        ensures reads { OnOk result (Gives (leave terminal ∷ []) self.old (skip terminal) [] self.new) }
-        ensures sticks { IsErrOf result Stop.Syntax → Sticks (leave terminal ∷ []) self.old self.new }
-        ensures shorter { OnOk result (length self.new < length self.old) }
-    {
-        self.skip(terminal)?;
-        Ok(Box::new(alloc, part)?)
-    }
-
-    /// Passes over the next token, which has to be this one, and hands back the part that it ends in a box,
-    /// beside the part that stands before it.
-    pub fn ended_box_behind<A: Drop, T: Drop>(
-        &mut self,
-        alloc: Global,
-        before: A,
-        part: T,
-        terminal: Terminal,
-    ) -> Result<(A, Box<T>), Stop>
-        ensures before { IfOk result (λ both. both.0 ≡ before) }
-        ensures same { IfOk result (λ both. both.1.value ≡ part) }
-        ensures reads { OnOk result (Gives (leave terminal ∷ []) self.old (skip terminal) [] self.new) }
-        ensures sticks { IsErrOf result Stop.Syntax → Sticks (leave terminal ∷ []) self.old self.new }
-        ensures shorter { OnOk result (length self.new < length self.old) }
-    {
-        let given = self.ended_box(alloc, part, terminal)?;
-        Ok((before, given))
     }
 
     /// A copy of the next token, which has to be one of these and is taken, beside the part that stands

@@ -1,30 +1,19 @@
 // Declarations, and the whole program.
 
-ghost use Rattle.std.specs.Prelude.{◌≡◌, ◌<◌, ◌≤◌, [], ◌∷◌, ◌++◌, length, IfOk, OnOk, IsErrOf};
+ghost use Rattle.std.specs.Prelude.{◌<◌, ◌≤◌, [], ◌∷◌, ◌++◌, length, IfOk, OnOk, IsErrOf};
 ghost use Rattle.hera_syntax.specs.Grammar.{phrase};
 ghost use Rattle.hera_syntax.specs.Grammar as phrases;
 ghost use Rattle.hera_syntax.specs.Outline.{node};
-ghost use Rattle.hera_syntax.specs.Programs.{block_outline, func_outline, func_row, last_main_outline, main_outline, outline, proc_outline, proc_row, relation_outline, relation_row};
+ghost use Rattle.hera_syntax.specs.Programs.{func_outline, func_row, last_main_outline, main_outline, outline, proc_outline, proc_row, relation_outline, relation_row};
 ghost use Rattle.std.specs.List.{flat_map};
 ghost use Rattle.hera_parser.specs.Reading.{Gives, Sticks};
 
-use crate::parser::{Parser, Stop, pushed};
+use crate::parser::{Parser, Stop, joined, pushed};
 use crate::terminals::{CLOSE_PAREN, FUNC, MAIN, NAME, PAREN, PROC, RELATION, SEMICOLON};
-use hera_syntax::{Block, Func, Main, Proc, Relation, Tree};
+use hera_syntax::{Func, Main, Proc, Relation, Tree};
 use std::alloc::Global;
 
 impl<'a> Parser<'a> {
-    /// A block, beside the part that stands before it.
-    fn block_behind<T: Drop>(&mut self, alloc: Global, part: T) -> Result<(T, Block), Stop>
-        ensures same { IfOk result (λ both. both.0 ≡ part) }
-        ensures reads { IfOk result (λ both. Gives (phrase phrases.block ∷ []) self.old (block_outline both.1) [] self.new) }
-        ensures sticks { IsErrOf result Stop.Syntax → Sticks (phrase phrases.block ∷ []) self.old self.new }
-        ensures shorter { OnOk result (length self.new < length self.old) }
-    {
-        let block = self.block(alloc)?;
-        Ok((part, block))
-    }
-
     /// A relation.
     fn relation(&mut self, alloc: Global) -> Result<Relation, Stop>
         ensures reads { IfOk result (λ tree. Gives (phrase phrases.relation ∷ []) self.old (relation_outline tree) [] self.new) }
@@ -32,11 +21,13 @@ impl<'a> Parser<'a> {
         ensures shorter { OnOk result (length self.new < length self.old) }
     {
         let word = self.keep(RELATION)?;
-        let name = self.keep(NAME)?;
-        let bracket = self.keep(PAREN)?;
-        let attrs = self.attrs(alloc)?;
-        self.skip(CLOSE_PAREN)?;
-        self.skip(SEMICOLON)?;
+        let head = self.kept_behind(word, NAME)?;
+        let head = self.kept_behind(head, PAREN)?;
+        let attrs = self.attrs(alloc);
+        let part = joined(head, attrs)?;
+        let part = self.ended_by(part, CLOSE_PAREN)?;
+        let part = self.ended_by(part, SEMICOLON)?;
+        let (((word, name), bracket), attrs) = part;
         Ok(Relation::new(word, name, bracket, attrs))
     }
 
@@ -47,13 +38,16 @@ impl<'a> Parser<'a> {
         ensures shorter { OnOk result (length self.new < length self.old) }
     {
         let word = self.keep(FUNC)?;
-        let type_tree = self.type_tree(alloc)?;
-        let name = self.keep(NAME)?;
-        let bracket = self.keep(PAREN)?;
-        let params = self.some_params(alloc)?;
-        let params = self.ended_by(params, CLOSE_PAREN)?;
-        let both = self.block_behind(alloc, params)?;
-        let (params, block) = both;
+        let type_tree = self.type_tree(alloc);
+        let head = joined(word, type_tree)?;
+        let head = self.kept_behind(head, NAME)?;
+        let head = self.kept_behind(head, PAREN)?;
+        let params = self.some_params(alloc);
+        let part = joined(head, params)?;
+        let part = self.ended_by(part, CLOSE_PAREN)?;
+        let block = self.block(alloc);
+        let part = joined(part, block)?;
+        let (((((word, type_tree), name), bracket), params), block) = part;
         Ok(Func::new(word, type_tree, name, bracket, params, block))
     }
 
@@ -64,12 +58,14 @@ impl<'a> Parser<'a> {
         ensures shorter { OnOk result (length self.new < length self.old) }
     {
         let word = self.keep(PROC)?;
-        let name = self.keep(NAME)?;
-        let bracket = self.keep(PAREN)?;
-        let params = self.some_params(alloc)?;
-        let params = self.ended_by(params, CLOSE_PAREN)?;
-        let both = self.block_behind(alloc, params)?;
-        let (params, block) = both;
+        let head = self.kept_behind(word, NAME)?;
+        let head = self.kept_behind(head, PAREN)?;
+        let params = self.some_params(alloc);
+        let part = joined(head, params)?;
+        let part = self.ended_by(part, CLOSE_PAREN)?;
+        let block = self.block(alloc);
+        let part = joined(part, block)?;
+        let ((((word, name), bracket), params), block) = part;
         Ok(Proc::new(word, name, bracket, params, block))
     }
 
@@ -105,8 +101,10 @@ impl<'a> Parser<'a> {
     {
         let mut all = Vec::new(alloc);
         'all: while self.next_is(RELATION) {
-            let item = self.relation(alloc)?;
-            all.push(item)?;
+            let item = self.relation(alloc);
+            let both = joined(all, item)?;
+            let (before, item) = both;
+            all = pushed(before, item)?;
         }
         Ok(all)
     }
@@ -119,8 +117,10 @@ impl<'a> Parser<'a> {
     {
         let mut all = Vec::new(alloc);
         'all: while self.next_is(FUNC) {
-            let item = self.func(alloc)?;
-            all = pushed(all, item)?;
+            let item = self.func(alloc);
+            let both = joined(all, item)?;
+            let (before, item) = both;
+            all = pushed(before, item)?;
         }
         Ok(all)
     }
@@ -133,8 +133,10 @@ impl<'a> Parser<'a> {
     {
         let mut all = Vec::new(alloc);
         'all: while self.next_is(PROC) {
-            let item = self.procedure(alloc)?;
-            all = pushed(all, item)?;
+            let item = self.procedure(alloc);
+            let both = joined(all, item)?;
+            let (before, item) = both;
+            all = pushed(before, item)?;
         }
         Ok(all)
     }
@@ -146,9 +148,13 @@ impl<'a> Parser<'a> {
         ensures no_longer { OnOk result (length self.new ≤ length self.old) }
     {
         let relations = self.relations(alloc)?;
-        let funcs = self.funcs(alloc)?;
-        let procs = self.procs(alloc)?;
-        let main = self.last_main(alloc)?;
+        let funcs = self.funcs(alloc);
+        let parts = joined(relations, funcs)?;
+        let procs = self.procs(alloc);
+        let parts = joined(parts, procs)?;
+        let main = self.last_main(alloc);
+        let parts = joined(parts, main)?;
+        let (((relations, funcs), procs), main) = parts;
         Ok(Tree::new(relations, funcs, procs, main))
     }
 }

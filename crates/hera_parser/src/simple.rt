@@ -6,7 +6,7 @@ ghost use Rattle.hera_syntax.specs.Grammar as phrases;
 ghost use Rattle.hera_syntax.specs.Programs.{some_value_outline, stmt_outline};
 ghost use Rattle.hera_parser.specs.Reading.{Tells, Gives, Sticks};
 
-use crate::parser::{Parser, Stop};
+use crate::parser::{Parser, Stop, joined};
 use crate::terminals::{
     APPLY, ASSERT, CLOSE_PAREN, COMMIT, EQUALS, EXPR_STARTS, NAME, PAREN, PRINT, RETURN, ROLLBACK,
     SEMICOLON,
@@ -23,10 +23,12 @@ impl<'a> Parser<'a> {
         ensures shorter { OnOk result (length self.new < length self.old) }
     {
         let type_tree = self.type_tree(alloc)?;
-        let name = self.keep(NAME)?;
-        self.skip(EQUALS)?;
-        let value = self.expr(alloc)?;
-        let value = self.ended_by(value, SEMICOLON)?;
+        let head = self.kept_behind(type_tree, NAME)?;
+        let head = self.ended_by(head, EQUALS)?;
+        let value = self.expr(alloc);
+        let part = joined(head, value)?;
+        let part = self.ended_by(part, SEMICOLON)?;
+        let ((type_tree, name), value) = part;
         Ok(StmtTree::declare(type_tree, name, value))
     }
 
@@ -38,8 +40,10 @@ impl<'a> Parser<'a> {
         ensures shorter { OnOk result (length self.new < length self.old) }
     {
         let word = self.keep(PRINT)?;
-        let value = self.expr(alloc)?;
-        let value = self.ended_by(value, SEMICOLON)?;
+        let value = self.expr(alloc);
+        let part = joined(word, value)?;
+        let part = self.ended_by(part, SEMICOLON)?;
+        let (word, value) = part;
         Ok(StmtTree::print(word, value))
     }
 
@@ -51,8 +55,10 @@ impl<'a> Parser<'a> {
         ensures shorter { OnOk result (length self.new < length self.old) }
     {
         let word = self.keep(APPLY)?;
-        let value = self.expr(alloc)?;
-        let value = self.ended_by(value, SEMICOLON)?;
+        let value = self.expr(alloc);
+        let part = joined(word, value)?;
+        let part = self.ended_by(part, SEMICOLON)?;
+        let (word, value) = part;
         Ok(StmtTree::apply(word, value))
     }
 
@@ -64,8 +70,10 @@ impl<'a> Parser<'a> {
         ensures shorter { OnOk result (length self.new < length self.old) }
     {
         let word = self.keep(ASSERT)?;
-        let value = self.expr(alloc)?;
-        let value = self.ended_by(value, SEMICOLON)?;
+        let value = self.expr(alloc);
+        let part = joined(word, value)?;
+        let part = self.ended_by(part, SEMICOLON)?;
+        let (word, value) = part;
         Ok(StmtTree::assert(word, value))
     }
 
@@ -101,8 +109,10 @@ impl<'a> Parser<'a> {
         ensures shorter { OnOk result (length self.new < length self.old) }
     {
         let word = self.keep(RETURN)?;
-        let value = self.some_value(alloc)?;
-        let value = self.ended_by(value, SEMICOLON)?;
+        let value = self.some_value(alloc);
+        let part = joined(word, value)?;
+        let part = self.ended_by(part, SEMICOLON)?;
+        let (word, value) = part;
         Ok(StmtTree::give_back(word, value))
     }
 
@@ -128,15 +138,19 @@ impl<'a> Parser<'a> {
     {
         let name = self.keep(NAME)?;
         if self.next_is(&[EQUALS]) {
-            self.skip(EQUALS)?;
-            let value = self.expr(alloc)?;
-            let value = self.ended_by(value, SEMICOLON)?;
+            let target = self.ended_by(name, EQUALS)?;
+            let value = self.expr(alloc);
+            let assigned = joined(target, value)?;
+            let assigned = self.ended_by(assigned, SEMICOLON)?;
+            let (name, value) = assigned;
             return Ok(StmtTree::assign(name, value));
         }
-        let bracket = self.keep(PAREN)?;
-        let args = self.some_args(alloc)?;
-        let args = self.ended_by(args, CLOSE_PAREN)?;
-        let args = self.ended_by(args, SEMICOLON)?;
+        let head = self.kept_behind(name, PAREN)?;
+        let args = self.some_args(alloc);
+        let part = joined(head, args)?;
+        let part = self.ended_by(part, CLOSE_PAREN)?;
+        let part = self.ended_by(part, SEMICOLON)?;
+        let ((name, bracket), args) = part;
         Ok(StmtTree::call(name, bracket, args))
     }
 }

@@ -8,7 +8,7 @@ ghost use Rattle.std.specs.List.{flat_map};
 ghost use Rattle.hera_parser.specs.Pieces.{else_if_rest};
 ghost use Rattle.hera_parser.specs.Reading.{Tells, Gives, Sticks};
 
-use crate::parser::{Parser, Stop, pushed};
+use crate::parser::{Items, Parser, Stop, joined, pushed};
 use crate::terminals::{
     APPLY, ASSERT, BRACE, CLOSE_BRACE, CLOSE_PAREN, COMMIT, ELSE, FOREACH, IF, IN, NAME, PAREN,
     PRINT, ROLLBACK, STMT_STARTS, TYPE_STARTS, WHILE,
@@ -25,13 +25,16 @@ impl<'a> Parser<'a> {
         ensures shorter { OnOk result (length self.new < length self.old) }
     {
         let bracket = self.keep(BRACE)?;
-        let mut stmts = Vec::new(alloc);
+        let mut items = Items::new(alloc, bracket);
         'stmts: while self.next_is(STMT_STARTS) {
-            let stmt = self.stmt(alloc)?;
-            stmts = pushed(stmts, stmt)?;
+            let stmt = self.stmt(alloc);
+            let both = joined(items, stmt)?;
+            let (before, stmt) = both;
+            items = before.with(stmt)?;
         }
-        let all = self.ended_by(stmts, CLOSE_BRACE)?;
-        Ok(Block::new(bracket, all))
+        let all = self.ended_by(items, CLOSE_BRACE)?;
+        let Items { first, rest } = all;
+        Ok(Block::new(first, rest))
     }
 
     /// A statement.
@@ -82,10 +85,13 @@ impl<'a> Parser<'a> {
         ensures shorter { OnOk result (length self.new < length self.old) }
     {
         let word = self.keep(words)?;
-        let bracket = self.keep(PAREN)?;
-        let condition = self.expr(alloc)?;
-        let condition = self.ended_by(condition, CLOSE_PAREN)?;
-        let block = self.block(alloc)?;
+        let head = self.kept_behind(word, PAREN)?;
+        let condition = self.expr(alloc);
+        let part = joined(head, condition)?;
+        let part = self.ended_by(part, CLOSE_PAREN)?;
+        let block = self.block(alloc);
+        let part = joined(part, block)?;
+        let (((word, bracket), condition), block) = part;
         Ok(ElseIf::new(word, bracket, condition, block))
     }
 
@@ -116,12 +122,15 @@ impl<'a> Parser<'a> {
         ensures shorter { OnOk result (length self.new < length self.old) }
     {
         let word = self.keep(FOREACH)?;
-        let bracket = self.keep(PAREN)?;
-        let name = self.keep(NAME)?;
-        self.skip(IN)?;
-        let over = self.expr(alloc)?;
-        let over = self.ended_by(over, CLOSE_PAREN)?;
-        let block = self.block(alloc)?;
+        let head = self.kept_behind(word, PAREN)?;
+        let head = self.kept_behind(head, NAME)?;
+        let head = self.ended_by(head, IN)?;
+        let over = self.expr(alloc);
+        let part = joined(head, over)?;
+        let part = self.ended_by(part, CLOSE_PAREN)?;
+        let block = self.block(alloc);
+        let part = joined(part, block)?;
+        let ((((word, bracket), name), over), block) = part;
         Ok(StmtTree::foreach(word, bracket, name, over, block))
     }
 
@@ -136,10 +145,14 @@ impl<'a> Parser<'a> {
         'elses: while self.next_is(&[ELSE]) {
             let before = self.ended_by(items, ELSE)?;
             if !self.next_is(IF) {
-                let last = self.block(alloc)?;
+                let last = self.block(alloc);
+                let end = joined(before, last)?;
+                let (before, last) = end;
                 return Ok((before, Some(last)));
             }
-            let item = self.guarded(alloc, IF)?;
+            let item = self.guarded(alloc, IF);
+            let both = joined(before, item)?;
+            let (before, item) = both;
             items = pushed(before, item)?;
         }
         Ok((items, None))
@@ -154,8 +167,9 @@ impl<'a> Parser<'a> {
         ensures shorter { OnOk result (length self.new < length self.old) }
     {
         let head = self.guarded(alloc, IF)?;
-        let both = self.elses(alloc)?;
-        let (else_ifs, last) = both;
+        let rest = self.elses(alloc);
+        let both = joined(head, rest)?;
+        let (head, (else_ifs, last)) = both;
         let ElseIf {
             word,
             bracket,

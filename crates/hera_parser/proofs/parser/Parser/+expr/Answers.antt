@@ -1,9 +1,12 @@
 use Rattle.std.proofs.Common.{rules, arith, refl, sym, ap, ◌∙◌, ◌++◌, ◌∷◌, []}
-use Rattle.hera_syntax.specs.Grammar.{phrase}
+use Rattle.hera_syntax.specs.declared.expr.Level.TheVariants as levels
+use Rattle.hera_syntax.specs.Grammar.{phrase, keep}
 use Rattle.hera_syntax.specs.Grammar as phrases
-use Rattle.hera_syntax.specs.Outline.{aggs_outline, args_outline, args_row, atom_outline, atoms_outline, atoms_row, binding_outline, bindings_outline, bindings_row, expr_outline, hold, line_outline, lines_outline, lines_row, more_of, names_outline, node, operand_outline, prime_outline, production_of, renamings_outline, tail_row}
+use Rattle.hera_syntax.specs.Operators.{operand_of, operators_of}
+use Rattle.hera_syntax.specs.Outline.{aggs_outline, args_outline, args_row, atom_outline, atoms_outline, atoms_row, binding_outline, bindings_outline, bindings_row, expr_outline, hold, line_outline, lines_outline, lines_row, more_of, names_outline, node, operand_outline, prime_outline, production_of, renamings_outline, tail_outline, tail_row}
 use Rattle.hera_parser.specs.Reading.{next_terminal}
 use Rattle.hera_parser.proofs.Steps.{choose, next, next_choose, stops, stops_list, join, idle, before, as_marks, items_start, items_more}
+use Rattle.hera_parser.proofs.Joined.{got, shortened}
 use Rattle.hera_parser.proofs.Choices.{told, other}
 use Rattle.hera_parser.proofs.Levels.{begins, goes_on, ends, lower, told_by, keeps_as, sticks_as, compared_none, compared_one}
 use Rattle.hera_parser.proofs.parser.Parser.+expr.Goals as goal
@@ -17,13 +20,13 @@ chain-returns-in_err-first-clause-sticks t c h = stops (begins c.args.level) (c.
 pub chain-rest-init : goal.chain-rest-init
 chain-rest-init t c = record { reads = items_start operand_outline (tail_row c.args.level) (node (production_of c.args.level) 0) (next (begins c.args.level) c.in_ok-first.ensures.reads) c.new-items.ensures.first c.new-items.ensures.alone; shorter = search rules }
 
-pub chain-returns-in_err-tail-clause-sticks : goal.chain-returns-in_err-tail-clause-sticks
-chain-returns-in_err-tail-clause-sticks t c h = stops_list (phrase (more_of c.args.level) ∷ []) (join c.rest.invariant.reads (goes_on c.args.level c.requires (told_by (next_terminal c.rest.self) c.next_is.ensures c.operators.ensures c.rest-test.true))) (c.in_err-tail.ensures.sticks (search rules))
+pub chain-returns-in_err-both-clause-sticks : goal.chain-returns-in_err-both-clause-sticks
+chain-returns-in_err-both-clause-sticks t c h = stops_list (phrase (more_of c.args.level) ∷ []) (join c.rest.invariant.reads (goes_on c.args.level c.requires (told_by (next_terminal c.rest.self) c.next_is.ensures c.operators.ensures c.rest-test.true))) (c.tail-tail.ensures.sticks (c.in_err-both.ensures.stops (search rules)))
 
 pub chain-rest-preserved : goal.chain-rest-preserved
 chain-rest-preserved t c = record {
-  reads = items_more operand_outline (tail_row c.args.level) (node (production_of c.args.level) 0) c.rest.items.rest.items c.in_ok-tail.tail c.rest.invariant.reads (join (goes_on c.args.level c.requires (told_by (next_terminal c.rest.self) c.next_is.ensures c.operators.ensures c.rest-test.true)) (before (phrase (more_of c.args.level) ∷ []) c.in_ok-tail.ensures.reads)) c.in_ok-items.ensures.first c.in_ok-items.ensures.one_more;
-  shorter = omega (arith, c.rest.invariant.shorter, c.in_ok-tail.ensures.shorter);
+  reads = items_more operand_outline (tail_row c.args.level) (node (production_of c.args.level) 0) c.rest.items.rest.items c.in_ok-both.both.1 c.rest.invariant.reads (join (goes_on c.args.level c.requires (told_by (next_terminal c.rest.self) c.next_is.ensures c.operators.ensures c.rest-test.true)) (before (phrase (more_of c.args.level) ∷ []) (got tail_outline (keep (operators_of c.args.level) ∷ phrase (operand_of c.args.level) ∷ []) c.in_ok-both.ensures.read c.tail-tail.ensures.reads))) (c.in_ok-items.ensures.first ∙ ap (λ i. i.first) c.in_ok-both.ensures.same) (c.in_ok-items.ensures.one_more ∙ ap (λ i. i.rest.items ++ c.in_ok-both.both.1 ∷ []) c.in_ok-both.ensures.same);
+  shorter = omega (arith, c.rest.invariant.shorter, shortened c.in_ok-both.ensures.read c.tail-tail.ensures.shorter);
 }
 
 pub chain-returns-clause-reads : goal.chain-returns-clause-reads
@@ -35,11 +38,14 @@ comparison-returns-in_err-first-clause-sticks t c h = stops (choose phrases.cmp 
 pub comparison-returns-then-not-next_is-clause-reads : goal.comparison-returns-then-not-next_is-clause-reads
 comparison-returns-then-not-next_is-clause-reads t c = as_marks (compared_none (node phrases.cmp 0 ++ operand_outline c.in_ok-first.first) c.comparison.ensures c.new.ensures.items) (next (next (choose phrases.cmp 0 (record { number = refl })) c.in_ok-first.ensures.reads) (choose phrases.more_cmp 1 (other phrases.more_cmp ((sym c.next_is.ensures ∙ c.if-not-next_is.true), tt))))
 
-pub comparison-returns-in_err-tail-clause-sticks : goal.comparison-returns-in_err-tail-clause-sticks
-comparison-returns-in_err-tail-clause-sticks t c h = stops (next (choose phrases.cmp 0 (record { number = refl })) c.in_ok-first.ensures.reads) (stops_list [] (choose phrases.more_cmp 0 (told phrases.more_cmp 0 refl (sym c.next_is.ensures ∙ c.if-not-next_is.false))) (c.in_err-tail.ensures.sticks (search rules)))
+pub comparison-returns-in_err-both-clause-sticks : goal.comparison-returns-in_err-both-clause-sticks
+comparison-returns-in_err-both-clause-sticks t c h = stops (next (choose phrases.cmp 0 (record { number = refl })) c.in_ok-first.ensures.reads) (stops_list [] (choose phrases.more_cmp 0 (told phrases.more_cmp 0 refl (sym c.next_is.ensures ∙ c.if-not-next_is.false))) (c.tail-tail.ensures.sticks (c.in_err-both.ensures.stops (search rules))))
 
 pub comparison-returns-clause-reads : goal.comparison-returns-clause-reads
-comparison-returns-clause-reads t c = as_marks (compared_one c.in_ok-first.first c.in_ok-tail.tail c.comparison-2.ensures (c.in_ok-items.ensures.first ∙ c.new-alone.ensures.first) c.in_ok-items.ensures.one_more c.new-alone.ensures.alone) (next (next (choose phrases.cmp 0 (record { number = refl })) c.in_ok-first.ensures.reads) (join (choose phrases.more_cmp 0 (told phrases.more_cmp 0 refl (sym c.next_is.ensures ∙ c.if-not-next_is.false))) (before [] c.in_ok-tail.ensures.reads)))
+comparison-returns-clause-reads t c = as_marks (compared_one c.in_ok-first.first c.in_ok-both.both.1 c.comparison-2.ensures (c.in_ok-items.ensures.first ∙ (c.new-alone.ensures.first ∙ c.in_ok-both.ensures.same)) c.in_ok-items.ensures.one_more c.new-alone.ensures.alone) (next (next (choose phrases.cmp 0 (record { number = refl })) c.in_ok-first.ensures.reads) (join (choose phrases.more_cmp 0 (told phrases.more_cmp 0 refl (sym c.next_is.ensures ∙ c.if-not-next_is.false))) (before [] (got tail_outline (keep (operators_of levels.Comparisons) ∷ phrase (operand_of levels.Comparisons) ∷ []) c.in_ok-both.ensures.read c.tail-tail.ensures.reads))))
+
+pub comparison-returns-clause-shorter : goal.comparison-returns-clause-shorter
+comparison-returns-clause-shorter t c = omega (arith, c.in_ok-first.ensures.shorter, shortened c.in_ok-both.ensures.read c.tail-tail.ensures.shorter)
 
 pub tail-returns-in_err-op-clause-sticks : goal.tail-returns-in_err-op-clause-sticks
 tail-returns-in_err-op-clause-sticks t c h = stops idle (sticks_as c.operators.ensures (c.in_err-op.ensures.sticks (search rules)))
@@ -80,275 +86,314 @@ post-returns-clause-reads t c = as_marks c.new.ensures (next (next (choose phras
 pub paren-returns-in_err-bracket-clause-sticks : goal.paren-returns-in_err-bracket-clause-sticks
 paren-returns-in_err-bracket-clause-sticks t c h = stops (choose phrases.prime 6 c.requires) (c.in_err-bracket.ensures.sticks (search rules))
 
-pub paren-returns-in_err-inner-clause-sticks : goal.paren-returns-in_err-inner-clause-sticks
-paren-returns-in_err-inner-clause-sticks t c h = stops (next (choose phrases.prime 6 c.requires) c.in_ok-bracket.ensures.reads) (c.in_err-inner.ensures.sticks (search rules))
+pub paren-returns-in_err-part-clause-sticks : goal.paren-returns-in_err-part-clause-sticks
+paren-returns-in_err-part-clause-sticks t c h = stops (next (choose phrases.prime 6 c.requires) c.in_ok-bracket.ensures.reads) (c.level-inner.ensures.sticks (c.in_err-part.ensures.stops (search rules)))
 
-pub paren-returns-in_err-inner-2-clause-sticks : goal.paren-returns-in_err-inner-2-clause-sticks
-paren-returns-in_err-inner-2-clause-sticks t c h = stops (next (next (choose phrases.prime 6 c.requires) c.in_ok-bracket.ensures.reads) c.in_ok-inner.ensures.reads) (c.in_err-inner-2.ensures.sticks (search rules))
+pub paren-returns-in_err-part-2-clause-sticks : goal.paren-returns-in_err-part-2-clause-sticks
+paren-returns-in_err-part-2-clause-sticks t c h = stops (next (next (choose phrases.prime 6 c.requires) c.in_ok-bracket.ensures.reads) (got expr_outline (phrase phrases.expr ∷ []) c.in_ok-part.ensures.read c.level-inner.ensures.reads)) (c.in_err-part-2.ensures.sticks (search rules))
 
 pub paren-returns-clause-reads : goal.paren-returns-clause-reads
-paren-returns-clause-reads t c = as_marks c.paren.ensures (next (next (next (choose phrases.prime 6 c.requires) c.in_ok-bracket.ensures.reads) (as_marks (ap expr_outline c.in_ok-inner-2.ensures.same) c.in_ok-inner.ensures.reads)) c.in_ok-inner-2.ensures.reads)
+paren-returns-clause-reads t c = as_marks c.paren.ensures (next (next (next (choose phrases.prime 6 c.requires) (as_marks (ap (λ b. hold b.0) c.in_ok-part-2.ensures.same ∙ ap hold c.in_ok-part.ensures.same) c.in_ok-bracket.ensures.reads)) (as_marks (ap (λ b. expr_outline b.1.value) c.in_ok-part-2.ensures.same) (got expr_outline (phrase phrases.expr ∷ []) c.in_ok-part.ensures.read c.level-inner.ensures.reads))) c.in_ok-part-2.ensures.reads)
+
+pub paren-returns-clause-shorter : goal.paren-returns-clause-shorter
+paren-returns-clause-shorter t c = omega (arith, c.in_ok-bracket.ensures.shorter, shortened c.in_ok-part.ensures.read c.level-inner.ensures.shorter, c.in_ok-part-2.ensures.shorter)
 
 pub row-returns-in_err-bracket-clause-sticks : goal.row-returns-in_err-bracket-clause-sticks
 row-returns-in_err-bracket-clause-sticks t c h = stops (choose phrases.prime 7 c.requires) (c.in_err-bracket.ensures.sticks (search rules))
 
-pub row-returns-in_err-bindings-clause-sticks : goal.row-returns-in_err-bindings-clause-sticks
-row-returns-in_err-bindings-clause-sticks t c h = stops (next (choose phrases.prime 7 c.requires) c.in_ok-bracket.ensures.reads) (c.in_err-bindings.ensures.sticks (search rules))
+pub row-returns-in_err-part-clause-sticks : goal.row-returns-in_err-part-clause-sticks
+row-returns-in_err-part-clause-sticks t c h = stops (next (choose phrases.prime 7 c.requires) c.in_ok-bracket.ensures.reads) (c.bindings-bindings.ensures.sticks (c.in_err-part.ensures.stops (search rules)))
 
-pub row-returns-in_err-bindings-2-clause-sticks : goal.row-returns-in_err-bindings-2-clause-sticks
-row-returns-in_err-bindings-2-clause-sticks t c h = stops (next (next (choose phrases.prime 7 c.requires) c.in_ok-bracket.ensures.reads) c.in_ok-bindings.ensures.reads) (c.in_err-bindings-2.ensures.sticks (search rules))
+pub row-returns-in_err-part-2-clause-sticks : goal.row-returns-in_err-part-2-clause-sticks
+row-returns-in_err-part-2-clause-sticks t c h = stops (next (next (choose phrases.prime 7 c.requires) c.in_ok-bracket.ensures.reads) (got bindings_outline (phrase phrases.bindings ∷ []) c.in_ok-part.ensures.read c.bindings-bindings.ensures.reads)) (c.in_err-part-2.ensures.sticks (search rules))
 
 pub row-returns-clause-reads : goal.row-returns-clause-reads
-row-returns-clause-reads t c = as_marks c.row.ensures (next (next (next (choose phrases.prime 7 c.requires) c.in_ok-bracket.ensures.reads) (as_marks (ap bindings_outline c.in_ok-bindings-2.ensures.same) c.in_ok-bindings.ensures.reads)) c.in_ok-bindings-2.ensures.reads)
+row-returns-clause-reads t c = as_marks c.row.ensures (next (next (next (choose phrases.prime 7 c.requires) (as_marks (ap (λ b. hold b.0) c.in_ok-part-2.ensures.same ∙ ap hold c.in_ok-part.ensures.same) c.in_ok-bracket.ensures.reads)) (as_marks (ap (λ b. bindings_outline b.1.value) c.in_ok-part-2.ensures.same) (got bindings_outline (phrase phrases.bindings ∷ []) c.in_ok-part.ensures.read c.bindings-bindings.ensures.reads))) c.in_ok-part-2.ensures.reads)
+
+pub row-returns-clause-shorter : goal.row-returns-clause-shorter
+row-returns-clause-shorter t c = omega (arith, c.in_ok-bracket.ensures.shorter, shortened c.in_ok-part.ensures.read c.bindings-bindings.ensures.shorter, c.in_ok-part-2.ensures.shorter)
 
 pub delta-returns-in_err-bracket-clause-sticks : goal.delta-returns-in_err-bracket-clause-sticks
 delta-returns-in_err-bracket-clause-sticks t c h = stops (choose phrases.prime 8 c.requires) (c.in_err-bracket.ensures.sticks (search rules))
 
-pub delta-returns-in_err-skip-clause-sticks : goal.delta-returns-in_err-skip-clause-sticks
-delta-returns-in_err-skip-clause-sticks t c h = stops (next_choose 1 (next (choose phrases.prime 8 c.requires) c.in_ok-bracket.ensures.reads) (other phrases.some_atoms ((sym c.next_is.ensures ∙ c.if-not-next_is.true), tt))) (c.in_err-skip.ensures.sticks (search rules))
+pub delta-returns-in_err-empty-clause-sticks : goal.delta-returns-in_err-empty-clause-sticks
+delta-returns-in_err-empty-clause-sticks t c h = stops (next_choose 1 (next (choose phrases.prime 8 c.requires) c.in_ok-bracket.ensures.reads) (other phrases.some_atoms ((sym c.next_is.ensures ∙ c.if-not-next_is.true), tt))) (c.in_err-empty.ensures.sticks (search rules))
 
 pub delta-returns-then-not-next_is-clause-reads : goal.delta-returns-then-not-next_is-clause-reads
-delta-returns-then-not-next_is-clause-reads t c = as_marks c.empty_delta.ensures (next (next_choose 1 (next (choose phrases.prime 8 c.requires) c.in_ok-bracket.ensures.reads) (other phrases.some_atoms ((sym c.next_is.ensures ∙ c.if-not-next_is.true), tt))) c.in_ok-skip.ensures.reads)
+delta-returns-then-not-next_is-clause-reads t c = as_marks c.empty_delta.ensures (next (next_choose 1 (next (choose phrases.prime 8 c.requires) (as_marks (ap hold c.in_ok-empty.ensures.same) c.in_ok-bracket.ensures.reads)) (other phrases.some_atoms ((sym c.next_is.ensures ∙ c.if-not-next_is.true), tt))) c.in_ok-empty.ensures.reads)
 
-pub delta-returns-in_err-atoms-clause-sticks : goal.delta-returns-in_err-atoms-clause-sticks
-delta-returns-in_err-atoms-clause-sticks t c h = stops (next_choose 0 (next (choose phrases.prime 8 c.requires) c.in_ok-bracket.ensures.reads) (told phrases.some_atoms 0 refl (sym c.next_is.ensures ∙ c.if-not-next_is.false))) (c.in_err-atoms.ensures.sticks (search rules))
+pub delta-returns-in_err-part-clause-sticks : goal.delta-returns-in_err-part-clause-sticks
+delta-returns-in_err-part-clause-sticks t c h = stops (next_choose 0 (next (choose phrases.prime 8 c.requires) c.in_ok-bracket.ensures.reads) (told phrases.some_atoms 0 refl (sym c.next_is.ensures ∙ c.if-not-next_is.false))) (c.atoms-atoms.ensures.sticks (c.in_err-part.ensures.stops (search rules)))
 
-pub delta-returns-in_err-atoms-2-clause-sticks : goal.delta-returns-in_err-atoms-2-clause-sticks
-delta-returns-in_err-atoms-2-clause-sticks t c h = stops (next (next_choose 0 (next (choose phrases.prime 8 c.requires) c.in_ok-bracket.ensures.reads) (told phrases.some_atoms 0 refl (sym c.next_is.ensures ∙ c.if-not-next_is.false))) c.in_ok-atoms.ensures.reads) (c.in_err-atoms-2.ensures.sticks (search rules))
+pub delta-returns-in_err-part-2-clause-sticks : goal.delta-returns-in_err-part-2-clause-sticks
+delta-returns-in_err-part-2-clause-sticks t c h = stops (next (next_choose 0 (next (choose phrases.prime 8 c.requires) c.in_ok-bracket.ensures.reads) (told phrases.some_atoms 0 refl (sym c.next_is.ensures ∙ c.if-not-next_is.false))) (got atoms_outline (phrase phrases.atoms ∷ []) c.in_ok-part.ensures.read c.atoms-atoms.ensures.reads)) (c.in_err-part-2.ensures.sticks (search rules))
 
 pub delta-returns-clause-reads : goal.delta-returns-clause-reads
-delta-returns-clause-reads t c = as_marks c.delta.ensures (next (next (next_choose 0 (next (choose phrases.prime 8 c.requires) c.in_ok-bracket.ensures.reads) (told phrases.some_atoms 0 refl (sym c.next_is.ensures ∙ c.if-not-next_is.false))) (as_marks (ap atoms_outline c.in_ok-atoms-2.ensures.same) c.in_ok-atoms.ensures.reads)) c.in_ok-atoms-2.ensures.reads)
+delta-returns-clause-reads t c = as_marks c.delta.ensures (next (next (next_choose 0 (next (choose phrases.prime 8 c.requires) (as_marks (ap (λ b. hold b.0) c.in_ok-part-2.ensures.same ∙ ap hold c.in_ok-part.ensures.same) c.in_ok-bracket.ensures.reads)) (told phrases.some_atoms 0 refl (sym c.next_is.ensures ∙ c.if-not-next_is.false))) (as_marks (ap (λ b. atoms_outline b.1.value) c.in_ok-part-2.ensures.same) (got atoms_outline (phrase phrases.atoms ∷ []) c.in_ok-part.ensures.read c.atoms-atoms.ensures.reads))) c.in_ok-part-2.ensures.reads)
+
+pub delta-returns-clause-shorter : goal.delta-returns-clause-shorter
+delta-returns-clause-shorter t c = omega (arith, c.in_ok-bracket.ensures.shorter, shortened c.in_ok-part.ensures.read c.atoms-atoms.ensures.shorter, c.in_ok-part-2.ensures.shorter)
 
 pub rows-returns-in_err-word-clause-sticks : goal.rows-returns-in_err-word-clause-sticks
 rows-returns-in_err-word-clause-sticks t c h = stops (choose phrases.prime 9 c.requires) (c.in_err-word.ensures.sticks (search rules))
 
-pub rows-returns-in_err-bracket-clause-sticks : goal.rows-returns-in_err-bracket-clause-sticks
-rows-returns-in_err-bracket-clause-sticks t c h = stops (next (choose phrases.prime 9 c.requires) c.in_ok-word.ensures.reads) (c.in_err-bracket.ensures.sticks (search rules))
+pub rows-returns-in_err-opened-clause-sticks : goal.rows-returns-in_err-opened-clause-sticks
+rows-returns-in_err-opened-clause-sticks t c h = stops (next (choose phrases.prime 9 c.requires) c.in_ok-word.ensures.reads) (c.in_err-opened.ensures.sticks (search rules))
 
-pub rows-returns-in_err-name-clause-sticks : goal.rows-returns-in_err-name-clause-sticks
-rows-returns-in_err-name-clause-sticks t c h = stops (next (next (choose phrases.prime 9 c.requires) c.in_ok-word.ensures.reads) c.in_ok-bracket.ensures.reads) (c.in_err-name.ensures.sticks (search rules))
+pub rows-returns-in_err-named-clause-sticks : goal.rows-returns-in_err-named-clause-sticks
+rows-returns-in_err-named-clause-sticks t c h = stops (next (next (choose phrases.prime 9 c.requires) c.in_ok-word.ensures.reads) c.in_ok-opened.ensures.reads) (c.in_err-named.ensures.sticks (search rules))
 
-pub rows-returns-in_err-skip-clause-sticks : goal.rows-returns-in_err-skip-clause-sticks
-rows-returns-in_err-skip-clause-sticks t c h = stops (next (next (next (choose phrases.prime 9 c.requires) c.in_ok-word.ensures.reads) c.in_ok-bracket.ensures.reads) c.in_ok-name.ensures.reads) (c.in_err-skip.ensures.sticks (search rules))
+pub rows-returns-in_err-closed-clause-sticks : goal.rows-returns-in_err-closed-clause-sticks
+rows-returns-in_err-closed-clause-sticks t c h = stops (next (next (next (choose phrases.prime 9 c.requires) c.in_ok-word.ensures.reads) c.in_ok-opened.ensures.reads) c.in_ok-named.ensures.reads) (c.in_err-closed.ensures.sticks (search rules))
 
-pub rows-returns-in_err-brace-clause-sticks : goal.rows-returns-in_err-brace-clause-sticks
-rows-returns-in_err-brace-clause-sticks t c h = stops (next (next (next (next (choose phrases.prime 9 c.requires) c.in_ok-word.ensures.reads) c.in_ok-bracket.ensures.reads) c.in_ok-name.ensures.reads) c.in_ok-skip.ensures.reads) (c.in_err-brace.ensures.sticks (search rules))
+pub rows-returns-in_err-head-clause-sticks : goal.rows-returns-in_err-head-clause-sticks
+rows-returns-in_err-head-clause-sticks t c h = stops (next (next (next (next (choose phrases.prime 9 c.requires) c.in_ok-word.ensures.reads) c.in_ok-opened.ensures.reads) c.in_ok-named.ensures.reads) c.in_ok-closed.ensures.reads) (c.in_err-head.ensures.sticks (search rules))
 
-pub rows-returns-in_err-skip-2-clause-sticks : goal.rows-returns-in_err-skip-2-clause-sticks
-rows-returns-in_err-skip-2-clause-sticks t c h = stops (next_choose 1 (next (next (next (next (next (choose phrases.prime 9 c.requires) c.in_ok-word.ensures.reads) c.in_ok-bracket.ensures.reads) c.in_ok-name.ensures.reads) c.in_ok-skip.ensures.reads) c.in_ok-brace.ensures.reads) (other phrases.some_lines ((sym c.next_is.ensures ∙ c.if-not-next_is.true), tt))) (c.in_err-skip-2.ensures.sticks (search rules))
+pub rows-returns-in_err-empty-clause-sticks : goal.rows-returns-in_err-empty-clause-sticks
+rows-returns-in_err-empty-clause-sticks t c h = stops (next_choose 1 (next (next (next (next (next (choose phrases.prime 9 c.requires) c.in_ok-word.ensures.reads) c.in_ok-opened.ensures.reads) c.in_ok-named.ensures.reads) c.in_ok-closed.ensures.reads) c.in_ok-head.ensures.reads) (other phrases.some_lines ((sym c.next_is.ensures ∙ c.if-not-next_is.true), tt))) (c.in_err-empty.ensures.sticks (search rules))
 
 pub rows-returns-then-not-next_is-clause-reads : goal.rows-returns-then-not-next_is-clause-reads
-rows-returns-then-not-next_is-clause-reads t c = as_marks c.empty_rows.ensures (next (next_choose 1 (next (next (next (next (next (choose phrases.prime 9 c.requires) c.in_ok-word.ensures.reads) c.in_ok-bracket.ensures.reads) c.in_ok-name.ensures.reads) c.in_ok-skip.ensures.reads) c.in_ok-brace.ensures.reads) (other phrases.some_lines ((sym c.next_is.ensures ∙ c.if-not-next_is.true), tt))) c.in_ok-skip-2.ensures.reads)
+rows-returns-then-not-next_is-clause-reads t c = as_marks c.empty_rows.ensures (next (next_choose 1 (next (next (next (next (next (choose phrases.prime 9 c.requires) (as_marks (ap (λ b. hold b.0.0.0) c.in_ok-empty.ensures.same ∙ (ap (λ b. hold b.0.0) c.in_ok-head.ensures.same ∙ (ap (λ b. hold b.0.0) c.in_ok-closed.ensures.same ∙ (ap (λ b. hold b.0) c.in_ok-named.ensures.same ∙ ap hold c.in_ok-opened.ensures.same)))) c.in_ok-word.ensures.reads)) (as_marks (ap (λ b. hold b.0.0.1) c.in_ok-empty.ensures.same ∙ (ap (λ b. hold b.0.1) c.in_ok-head.ensures.same ∙ (ap (λ b. hold b.0.1) c.in_ok-closed.ensures.same ∙ ap (λ b. hold b.1) c.in_ok-named.ensures.same))) c.in_ok-opened.ensures.reads)) (as_marks (ap (λ b. hold b.0.1) c.in_ok-empty.ensures.same ∙ (ap (λ b. hold b.1) c.in_ok-head.ensures.same ∙ ap (λ b. hold b.1) c.in_ok-closed.ensures.same)) c.in_ok-named.ensures.reads)) c.in_ok-closed.ensures.reads) (as_marks (ap (λ b. hold b.1) c.in_ok-empty.ensures.same) c.in_ok-head.ensures.reads)) (other phrases.some_lines ((sym c.next_is.ensures ∙ c.if-not-next_is.true), tt))) c.in_ok-empty.ensures.reads)
 
-pub rows-returns-in_err-lines-clause-sticks : goal.rows-returns-in_err-lines-clause-sticks
-rows-returns-in_err-lines-clause-sticks t c h = stops (next_choose 0 (next (next (next (next (next (choose phrases.prime 9 c.requires) c.in_ok-word.ensures.reads) c.in_ok-bracket.ensures.reads) c.in_ok-name.ensures.reads) c.in_ok-skip.ensures.reads) c.in_ok-brace.ensures.reads) (told phrases.some_lines 0 refl (sym c.next_is.ensures ∙ c.if-not-next_is.false))) (c.in_err-lines.ensures.sticks (search rules))
+pub rows-returns-in_err-part-clause-sticks : goal.rows-returns-in_err-part-clause-sticks
+rows-returns-in_err-part-clause-sticks t c h = stops (next_choose 0 (next (next (next (next (next (choose phrases.prime 9 c.requires) c.in_ok-word.ensures.reads) c.in_ok-opened.ensures.reads) c.in_ok-named.ensures.reads) c.in_ok-closed.ensures.reads) c.in_ok-head.ensures.reads) (told phrases.some_lines 0 refl (sym c.next_is.ensures ∙ c.if-not-next_is.false))) (c.lines-lines.ensures.sticks (c.in_err-part.ensures.stops (search rules)))
 
-pub rows-returns-in_err-lines-2-clause-sticks : goal.rows-returns-in_err-lines-2-clause-sticks
-rows-returns-in_err-lines-2-clause-sticks t c h = stops (next (next_choose 0 (next (next (next (next (next (choose phrases.prime 9 c.requires) c.in_ok-word.ensures.reads) c.in_ok-bracket.ensures.reads) c.in_ok-name.ensures.reads) c.in_ok-skip.ensures.reads) c.in_ok-brace.ensures.reads) (told phrases.some_lines 0 refl (sym c.next_is.ensures ∙ c.if-not-next_is.false))) c.in_ok-lines.ensures.reads) (c.in_err-lines-2.ensures.sticks (search rules))
+pub rows-returns-in_err-part-2-clause-sticks : goal.rows-returns-in_err-part-2-clause-sticks
+rows-returns-in_err-part-2-clause-sticks t c h = stops (next (next_choose 0 (next (next (next (next (next (choose phrases.prime 9 c.requires) c.in_ok-word.ensures.reads) c.in_ok-opened.ensures.reads) c.in_ok-named.ensures.reads) c.in_ok-closed.ensures.reads) c.in_ok-head.ensures.reads) (told phrases.some_lines 0 refl (sym c.next_is.ensures ∙ c.if-not-next_is.false))) (got lines_outline (phrase phrases.lines ∷ []) c.in_ok-part.ensures.read c.lines-lines.ensures.reads)) (c.in_err-part-2.ensures.sticks (search rules))
 
 pub rows-returns-clause-reads : goal.rows-returns-clause-reads
-rows-returns-clause-reads t c = as_marks c.rows.ensures (next (next (next_choose 0 (next (next (next (next (next (choose phrases.prime 9 c.requires) c.in_ok-word.ensures.reads) c.in_ok-bracket.ensures.reads) c.in_ok-name.ensures.reads) c.in_ok-skip.ensures.reads) c.in_ok-brace.ensures.reads) (told phrases.some_lines 0 refl (sym c.next_is.ensures ∙ c.if-not-next_is.false))) (as_marks (ap lines_outline c.in_ok-lines-2.ensures.same) c.in_ok-lines.ensures.reads)) c.in_ok-lines-2.ensures.reads)
+rows-returns-clause-reads t c = as_marks c.rows.ensures (next (next (next_choose 0 (next (next (next (next (next (choose phrases.prime 9 c.requires) (as_marks (ap (λ b. hold b.0.0.0.0) c.in_ok-part-2.ensures.same ∙ (ap (λ b. hold b.0.0.0) c.in_ok-part.ensures.same ∙ (ap (λ b. hold b.0.0) c.in_ok-head.ensures.same ∙ (ap (λ b. hold b.0.0) c.in_ok-closed.ensures.same ∙ (ap (λ b. hold b.0) c.in_ok-named.ensures.same ∙ ap hold c.in_ok-opened.ensures.same))))) c.in_ok-word.ensures.reads)) (as_marks (ap (λ b. hold b.0.0.0.1) c.in_ok-part-2.ensures.same ∙ (ap (λ b. hold b.0.0.1) c.in_ok-part.ensures.same ∙ (ap (λ b. hold b.0.1) c.in_ok-head.ensures.same ∙ (ap (λ b. hold b.0.1) c.in_ok-closed.ensures.same ∙ ap (λ b. hold b.1) c.in_ok-named.ensures.same)))) c.in_ok-opened.ensures.reads)) (as_marks (ap (λ b. hold b.0.0.1) c.in_ok-part-2.ensures.same ∙ (ap (λ b. hold b.0.1) c.in_ok-part.ensures.same ∙ (ap (λ b. hold b.1) c.in_ok-head.ensures.same ∙ ap (λ b. hold b.1) c.in_ok-closed.ensures.same))) c.in_ok-named.ensures.reads)) c.in_ok-closed.ensures.reads) (as_marks (ap (λ b. hold b.0.1) c.in_ok-part-2.ensures.same ∙ ap (λ b. hold b.1) c.in_ok-part.ensures.same) c.in_ok-head.ensures.reads)) (told phrases.some_lines 0 refl (sym c.next_is.ensures ∙ c.if-not-next_is.false))) (as_marks (ap (λ b. lines_outline b.1.value) c.in_ok-part-2.ensures.same) (got lines_outline (phrase phrases.lines ∷ []) c.in_ok-part.ensures.read c.lines-lines.ensures.reads))) c.in_ok-part-2.ensures.reads)
+
+pub rows-returns-clause-shorter : goal.rows-returns-clause-shorter
+rows-returns-clause-shorter t c = omega (arith, c.in_ok-word.ensures.shorter, c.in_ok-opened.ensures.shorter, c.in_ok-named.ensures.shorter, c.in_ok-closed.ensures.shorter, c.in_ok-head.ensures.shorter, shortened c.in_ok-part.ensures.read c.lines-lines.ensures.shorter, c.in_ok-part-2.ensures.shorter)
 
 pub walk-returns-in_err-word-clause-sticks : goal.walk-returns-in_err-word-clause-sticks
 walk-returns-in_err-word-clause-sticks t c h = stops (choose phrases.prime 10 c.requires) (c.in_err-word.ensures.sticks (search rules))
 
-pub walk-returns-in_err-bracket-clause-sticks : goal.walk-returns-in_err-bracket-clause-sticks
-walk-returns-in_err-bracket-clause-sticks t c h = stops (next (choose phrases.prime 10 c.requires) c.in_ok-word.ensures.reads) (c.in_err-bracket.ensures.sticks (search rules))
+pub walk-returns-in_err-head-clause-sticks : goal.walk-returns-in_err-head-clause-sticks
+walk-returns-in_err-head-clause-sticks t c h = stops (next (choose phrases.prime 10 c.requires) c.in_ok-word.ensures.reads) (c.in_err-head.ensures.sticks (search rules))
 
-pub walk-returns-in_err-name-clause-sticks : goal.walk-returns-in_err-name-clause-sticks
-walk-returns-in_err-name-clause-sticks t c h = stops (next (next (choose phrases.prime 10 c.requires) c.in_ok-word.ensures.reads) c.in_ok-bracket.ensures.reads) (c.in_err-name.ensures.sticks (search rules))
+pub walk-returns-in_err-head-2-clause-sticks : goal.walk-returns-in_err-head-2-clause-sticks
+walk-returns-in_err-head-2-clause-sticks t c h = stops (next (next (choose phrases.prime 10 c.requires) c.in_ok-word.ensures.reads) c.in_ok-head.ensures.reads) (c.in_err-head-2.ensures.sticks (search rules))
 
-pub walk-returns-in_err-skip-clause-sticks : goal.walk-returns-in_err-skip-clause-sticks
-walk-returns-in_err-skip-clause-sticks t c h = stops (next (next (next (choose phrases.prime 10 c.requires) c.in_ok-word.ensures.reads) c.in_ok-bracket.ensures.reads) c.in_ok-name.ensures.reads) (c.in_err-skip.ensures.sticks (search rules))
+pub walk-returns-in_err-head-3-clause-sticks : goal.walk-returns-in_err-head-3-clause-sticks
+walk-returns-in_err-head-3-clause-sticks t c h = stops (next (next (next (choose phrases.prime 10 c.requires) c.in_ok-word.ensures.reads) c.in_ok-head.ensures.reads) c.in_ok-head-2.ensures.reads) (c.in_err-head-3.ensures.sticks (search rules))
 
-pub walk-returns-in_err-over-clause-sticks : goal.walk-returns-in_err-over-clause-sticks
-walk-returns-in_err-over-clause-sticks t c h = stops (next (next (next (next (choose phrases.prime 10 c.requires) c.in_ok-word.ensures.reads) c.in_ok-bracket.ensures.reads) c.in_ok-name.ensures.reads) c.in_ok-skip.ensures.reads) (c.in_err-over.ensures.sticks (search rules))
+pub walk-returns-in_err-part-clause-sticks : goal.walk-returns-in_err-part-clause-sticks
+walk-returns-in_err-part-clause-sticks t c h = stops (next (next (next (next (choose phrases.prime 10 c.requires) c.in_ok-word.ensures.reads) c.in_ok-head.ensures.reads) c.in_ok-head-2.ensures.reads) c.in_ok-head-3.ensures.reads) (c.level-over.ensures.sticks (c.in_err-part.ensures.stops (search rules)))
 
-pub walk-returns-in_err-over-2-clause-sticks : goal.walk-returns-in_err-over-2-clause-sticks
-walk-returns-in_err-over-2-clause-sticks t c h = stops (next (next (next (next (next (choose phrases.prime 10 c.requires) c.in_ok-word.ensures.reads) c.in_ok-bracket.ensures.reads) c.in_ok-name.ensures.reads) c.in_ok-skip.ensures.reads) c.in_ok-over.ensures.reads) (c.in_err-over-2.ensures.sticks (search rules))
+pub walk-returns-in_err-part-2-clause-sticks : goal.walk-returns-in_err-part-2-clause-sticks
+walk-returns-in_err-part-2-clause-sticks t c h = stops (next (next (next (next (next (choose phrases.prime 10 c.requires) c.in_ok-word.ensures.reads) c.in_ok-head.ensures.reads) c.in_ok-head-2.ensures.reads) c.in_ok-head-3.ensures.reads) (got expr_outline (phrase phrases.expr ∷ []) c.in_ok-part.ensures.read c.level-over.ensures.reads)) (c.in_err-part-2.ensures.sticks (search rules))
 
-pub walk-returns-in_err-body-clause-sticks : goal.walk-returns-in_err-body-clause-sticks
-walk-returns-in_err-body-clause-sticks t c h = stops (next (next (next (next (next (next (choose phrases.prime 10 c.requires) c.in_ok-word.ensures.reads) c.in_ok-bracket.ensures.reads) c.in_ok-name.ensures.reads) c.in_ok-skip.ensures.reads) c.in_ok-over.ensures.reads) c.in_ok-over-2.ensures.reads) (c.in_err-body.ensures.sticks (search rules))
+pub walk-returns-in_err-part-3-clause-sticks : goal.walk-returns-in_err-part-3-clause-sticks
+walk-returns-in_err-part-3-clause-sticks t c h = stops (next (next (next (next (next (next (choose phrases.prime 10 c.requires) c.in_ok-word.ensures.reads) c.in_ok-head.ensures.reads) c.in_ok-head-2.ensures.reads) c.in_ok-head-3.ensures.reads) (got expr_outline (phrase phrases.expr ∷ []) c.in_ok-part.ensures.read c.level-over.ensures.reads)) c.in_ok-part-2.ensures.reads) (c.level-body.ensures.sticks (c.in_err-part-3.ensures.stops (search rules)))
 
-pub walk-returns-in_err-both-clause-sticks : goal.walk-returns-in_err-both-clause-sticks
-walk-returns-in_err-both-clause-sticks t c h = stops (next (next (next (next (next (next (next (choose phrases.prime 10 c.requires) c.in_ok-word.ensures.reads) c.in_ok-bracket.ensures.reads) c.in_ok-name.ensures.reads) c.in_ok-skip.ensures.reads) c.in_ok-over.ensures.reads) c.in_ok-over-2.ensures.reads) c.in_ok-body.ensures.reads) (c.in_err-both.ensures.sticks (search rules))
+pub walk-returns-in_err-part-4-clause-sticks : goal.walk-returns-in_err-part-4-clause-sticks
+walk-returns-in_err-part-4-clause-sticks t c h = stops (next (next (next (next (next (next (next (choose phrases.prime 10 c.requires) c.in_ok-word.ensures.reads) c.in_ok-head.ensures.reads) c.in_ok-head-2.ensures.reads) c.in_ok-head-3.ensures.reads) (got expr_outline (phrase phrases.expr ∷ []) c.in_ok-part.ensures.read c.level-over.ensures.reads)) c.in_ok-part-2.ensures.reads) (got expr_outline (phrase phrases.expr ∷ []) c.in_ok-part-3.ensures.read c.level-body.ensures.reads)) (c.in_err-part-4.ensures.sticks (search rules))
 
 pub walk-returns-clause-reads : goal.walk-returns-clause-reads
-walk-returns-clause-reads t c = as_marks c.walk.ensures (next (next (next (next (next (next (next (next (choose phrases.prime 10 c.requires) c.in_ok-word.ensures.reads) c.in_ok-bracket.ensures.reads) c.in_ok-name.ensures.reads) c.in_ok-skip.ensures.reads) (as_marks (ap (λ b. expr_outline b.value) c.in_ok-both.ensures.before ∙ ap expr_outline c.in_ok-over-2.ensures.same) c.in_ok-over.ensures.reads)) c.in_ok-over-2.ensures.reads) (as_marks (ap expr_outline c.in_ok-both.ensures.same) c.in_ok-body.ensures.reads)) c.in_ok-both.ensures.reads)
+walk-returns-clause-reads t c = as_marks c.walk.ensures (next (next (next (next (next (next (next (next (choose phrases.prime 10 c.requires) (as_marks (ap (λ b. hold b.0.0.0.0) c.in_ok-part-4.ensures.same ∙ (ap (λ b. hold b.0.0.0) c.in_ok-part-3.ensures.same ∙ (ap (λ b. hold b.0.0.0) c.in_ok-part-2.ensures.same ∙ (ap (λ b. hold b.0.0) c.in_ok-part.ensures.same ∙ (ap (λ b. hold b.0.0) c.in_ok-head-3.ensures.same ∙ (ap (λ b. hold b.0) c.in_ok-head-2.ensures.same ∙ ap hold c.in_ok-head.ensures.same)))))) c.in_ok-word.ensures.reads)) (as_marks (ap (λ b. hold b.0.0.0.1) c.in_ok-part-4.ensures.same ∙ (ap (λ b. hold b.0.0.1) c.in_ok-part-3.ensures.same ∙ (ap (λ b. hold b.0.0.1) c.in_ok-part-2.ensures.same ∙ (ap (λ b. hold b.0.1) c.in_ok-part.ensures.same ∙ (ap (λ b. hold b.0.1) c.in_ok-head-3.ensures.same ∙ ap (λ b. hold b.1) c.in_ok-head-2.ensures.same))))) c.in_ok-head.ensures.reads)) (as_marks (ap (λ b. hold b.0.0.1) c.in_ok-part-4.ensures.same ∙ (ap (λ b. hold b.0.1) c.in_ok-part-3.ensures.same ∙ (ap (λ b. hold b.0.1) c.in_ok-part-2.ensures.same ∙ (ap (λ b. hold b.1) c.in_ok-part.ensures.same ∙ ap (λ b. hold b.1) c.in_ok-head-3.ensures.same)))) c.in_ok-head-2.ensures.reads)) c.in_ok-head-3.ensures.reads) (as_marks (ap (λ b. expr_outline b.0.1.value) c.in_ok-part-4.ensures.same ∙ (ap (λ b. expr_outline b.1.value) c.in_ok-part-3.ensures.same ∙ ap (λ b. expr_outline b.1.value) c.in_ok-part-2.ensures.same)) (got expr_outline (phrase phrases.expr ∷ []) c.in_ok-part.ensures.read c.level-over.ensures.reads))) c.in_ok-part-2.ensures.reads) (as_marks (ap (λ b. expr_outline b.1.value) c.in_ok-part-4.ensures.same) (got expr_outline (phrase phrases.expr ∷ []) c.in_ok-part-3.ensures.read c.level-body.ensures.reads))) c.in_ok-part-4.ensures.reads)
+
+pub walk-returns-clause-shorter : goal.walk-returns-clause-shorter
+walk-returns-clause-shorter t c = omega (arith, c.in_ok-word.ensures.shorter, c.in_ok-head.ensures.shorter, c.in_ok-head-2.ensures.shorter, c.in_ok-head-3.ensures.shorter, shortened c.in_ok-part.ensures.read c.level-over.ensures.shorter, c.in_ok-part-2.ensures.shorter, shortened c.in_ok-part-3.ensures.read c.level-body.ensures.shorter, c.in_ok-part-4.ensures.shorter)
 
 pub project-returns-in_err-word-clause-sticks : goal.project-returns-in_err-word-clause-sticks
 project-returns-in_err-word-clause-sticks t c h = stops (choose phrases.prime 11 c.requires) (c.in_err-word.ensures.sticks (search rules))
 
-pub project-returns-in_err-bracket-clause-sticks : goal.project-returns-in_err-bracket-clause-sticks
-project-returns-in_err-bracket-clause-sticks t c h = stops (next (choose phrases.prime 11 c.requires) c.in_ok-word.ensures.reads) (c.in_err-bracket.ensures.sticks (search rules))
+pub project-returns-in_err-head-clause-sticks : goal.project-returns-in_err-head-clause-sticks
+project-returns-in_err-head-clause-sticks t c h = stops (next (choose phrases.prime 11 c.requires) c.in_ok-word.ensures.reads) (c.in_err-head.ensures.sticks (search rules))
 
-pub project-returns-in_err-over-clause-sticks : goal.project-returns-in_err-over-clause-sticks
-project-returns-in_err-over-clause-sticks t c h = stops (next (next (choose phrases.prime 11 c.requires) c.in_ok-word.ensures.reads) c.in_ok-bracket.ensures.reads) (c.in_err-over.ensures.sticks (search rules))
+pub project-returns-in_err-part-clause-sticks : goal.project-returns-in_err-part-clause-sticks
+project-returns-in_err-part-clause-sticks t c h = stops (next (next (choose phrases.prime 11 c.requires) c.in_ok-word.ensures.reads) c.in_ok-head.ensures.reads) (c.level-over.ensures.sticks (c.in_err-part.ensures.stops (search rules)))
 
-pub project-returns-in_err-over-2-clause-sticks : goal.project-returns-in_err-over-2-clause-sticks
-project-returns-in_err-over-2-clause-sticks t c h = stops (next (next (next (choose phrases.prime 11 c.requires) c.in_ok-word.ensures.reads) c.in_ok-bracket.ensures.reads) c.in_ok-over.ensures.reads) (c.in_err-over-2.ensures.sticks (search rules))
+pub project-returns-in_err-part-2-clause-sticks : goal.project-returns-in_err-part-2-clause-sticks
+project-returns-in_err-part-2-clause-sticks t c h = stops (next (next (next (choose phrases.prime 11 c.requires) c.in_ok-word.ensures.reads) c.in_ok-head.ensures.reads) (got expr_outline (phrase phrases.expr ∷ []) c.in_ok-part.ensures.read c.level-over.ensures.reads)) (c.in_err-part-2.ensures.sticks (search rules))
 
-pub project-returns-in_err-both-clause-sticks : goal.project-returns-in_err-both-clause-sticks
-project-returns-in_err-both-clause-sticks t c h = stops (next (next (next (next (choose phrases.prime 11 c.requires) c.in_ok-word.ensures.reads) c.in_ok-bracket.ensures.reads) c.in_ok-over.ensures.reads) c.in_ok-over-2.ensures.reads) (c.in_err-both.ensures.sticks (search rules))
+pub project-returns-in_err-part-3-clause-sticks : goal.project-returns-in_err-part-3-clause-sticks
+project-returns-in_err-part-3-clause-sticks t c h = stops (next (next (next (next (choose phrases.prime 11 c.requires) c.in_ok-word.ensures.reads) c.in_ok-head.ensures.reads) (got expr_outline (phrase phrases.expr ∷ []) c.in_ok-part.ensures.read c.level-over.ensures.reads)) c.in_ok-part-2.ensures.reads) (c.names-names.ensures.sticks (c.in_err-part-3.ensures.stops (search rules)))
 
-pub project-returns-in_err-both-2-clause-sticks : goal.project-returns-in_err-both-2-clause-sticks
-project-returns-in_err-both-2-clause-sticks t c h = stops (next (next (next (next (next (choose phrases.prime 11 c.requires) c.in_ok-word.ensures.reads) c.in_ok-bracket.ensures.reads) c.in_ok-over.ensures.reads) c.in_ok-over-2.ensures.reads) c.in_ok-both.ensures.reads) (c.in_err-both-2.ensures.sticks (search rules))
+pub project-returns-in_err-part-4-clause-sticks : goal.project-returns-in_err-part-4-clause-sticks
+project-returns-in_err-part-4-clause-sticks t c h = stops (next (next (next (next (next (choose phrases.prime 11 c.requires) c.in_ok-word.ensures.reads) c.in_ok-head.ensures.reads) (got expr_outline (phrase phrases.expr ∷ []) c.in_ok-part.ensures.read c.level-over.ensures.reads)) c.in_ok-part-2.ensures.reads) (got names_outline (phrase phrases.names ∷ []) c.in_ok-part-3.ensures.read c.names-names.ensures.reads)) (c.in_err-part-4.ensures.sticks (search rules))
 
 pub project-returns-clause-reads : goal.project-returns-clause-reads
-project-returns-clause-reads t c = as_marks c.project.ensures (next (next (next (next (next (next (choose phrases.prime 11 c.requires) c.in_ok-word.ensures.reads) c.in_ok-bracket.ensures.reads) (as_marks (ap (λ b. expr_outline b.0.value) c.in_ok-both-2.ensures.same ∙ (ap (λ b. expr_outline b.value) c.in_ok-both.ensures.same ∙ ap expr_outline c.in_ok-over-2.ensures.same)) c.in_ok-over.ensures.reads)) c.in_ok-over-2.ensures.reads) (as_marks (ap (λ b. names_outline b.1) c.in_ok-both-2.ensures.same) c.in_ok-both.ensures.reads)) c.in_ok-both-2.ensures.reads)
+project-returns-clause-reads t c = as_marks c.project.ensures (next (next (next (next (next (next (choose phrases.prime 11 c.requires) (as_marks (ap (λ b. hold b.0.0.0) c.in_ok-part-4.ensures.same ∙ (ap (λ b. hold b.0.0) c.in_ok-part-3.ensures.same ∙ (ap (λ b. hold b.0.0) c.in_ok-part-2.ensures.same ∙ (ap (λ b. hold b.0) c.in_ok-part.ensures.same ∙ ap hold c.in_ok-head.ensures.same)))) c.in_ok-word.ensures.reads)) (as_marks (ap (λ b. hold b.0.0.1) c.in_ok-part-4.ensures.same ∙ (ap (λ b. hold b.0.1) c.in_ok-part-3.ensures.same ∙ (ap (λ b. hold b.0.1) c.in_ok-part-2.ensures.same ∙ ap (λ b. hold b.1) c.in_ok-part.ensures.same))) c.in_ok-head.ensures.reads)) (as_marks (ap (λ b. expr_outline b.0.1.value) c.in_ok-part-4.ensures.same ∙ (ap (λ b. expr_outline b.1.value) c.in_ok-part-3.ensures.same ∙ ap (λ b. expr_outline b.1.value) c.in_ok-part-2.ensures.same)) (got expr_outline (phrase phrases.expr ∷ []) c.in_ok-part.ensures.read c.level-over.ensures.reads))) c.in_ok-part-2.ensures.reads) (as_marks (ap (λ b. names_outline b.1) c.in_ok-part-4.ensures.same) (got names_outline (phrase phrases.names ∷ []) c.in_ok-part-3.ensures.read c.names-names.ensures.reads))) c.in_ok-part-4.ensures.reads)
+
+pub project-returns-clause-shorter : goal.project-returns-clause-shorter
+project-returns-clause-shorter t c = omega (arith, c.in_ok-word.ensures.shorter, c.in_ok-head.ensures.shorter, shortened c.in_ok-part.ensures.read c.level-over.ensures.shorter, c.in_ok-part-2.ensures.shorter, shortened c.in_ok-part-3.ensures.read c.names-names.ensures.shorter, c.in_ok-part-4.ensures.shorter)
 
 pub rename-returns-in_err-word-clause-sticks : goal.rename-returns-in_err-word-clause-sticks
 rename-returns-in_err-word-clause-sticks t c h = stops (choose phrases.prime 12 c.requires) (c.in_err-word.ensures.sticks (search rules))
 
-pub rename-returns-in_err-bracket-clause-sticks : goal.rename-returns-in_err-bracket-clause-sticks
-rename-returns-in_err-bracket-clause-sticks t c h = stops (next (choose phrases.prime 12 c.requires) c.in_ok-word.ensures.reads) (c.in_err-bracket.ensures.sticks (search rules))
+pub rename-returns-in_err-head-clause-sticks : goal.rename-returns-in_err-head-clause-sticks
+rename-returns-in_err-head-clause-sticks t c h = stops (next (choose phrases.prime 12 c.requires) c.in_ok-word.ensures.reads) (c.in_err-head.ensures.sticks (search rules))
 
-pub rename-returns-in_err-over-clause-sticks : goal.rename-returns-in_err-over-clause-sticks
-rename-returns-in_err-over-clause-sticks t c h = stops (next (next (choose phrases.prime 12 c.requires) c.in_ok-word.ensures.reads) c.in_ok-bracket.ensures.reads) (c.in_err-over.ensures.sticks (search rules))
+pub rename-returns-in_err-part-clause-sticks : goal.rename-returns-in_err-part-clause-sticks
+rename-returns-in_err-part-clause-sticks t c h = stops (next (next (choose phrases.prime 12 c.requires) c.in_ok-word.ensures.reads) c.in_ok-head.ensures.reads) (c.level-over.ensures.sticks (c.in_err-part.ensures.stops (search rules)))
 
-pub rename-returns-in_err-over-2-clause-sticks : goal.rename-returns-in_err-over-2-clause-sticks
-rename-returns-in_err-over-2-clause-sticks t c h = stops (next (next (next (choose phrases.prime 12 c.requires) c.in_ok-word.ensures.reads) c.in_ok-bracket.ensures.reads) c.in_ok-over.ensures.reads) (c.in_err-over-2.ensures.sticks (search rules))
+pub rename-returns-in_err-part-2-clause-sticks : goal.rename-returns-in_err-part-2-clause-sticks
+rename-returns-in_err-part-2-clause-sticks t c h = stops (next (next (next (choose phrases.prime 12 c.requires) c.in_ok-word.ensures.reads) c.in_ok-head.ensures.reads) (got expr_outline (phrase phrases.expr ∷ []) c.in_ok-part.ensures.read c.level-over.ensures.reads)) (c.in_err-part-2.ensures.sticks (search rules))
 
-pub rename-returns-in_err-both-clause-sticks : goal.rename-returns-in_err-both-clause-sticks
-rename-returns-in_err-both-clause-sticks t c h = stops (next (next (next (next (choose phrases.prime 12 c.requires) c.in_ok-word.ensures.reads) c.in_ok-bracket.ensures.reads) c.in_ok-over.ensures.reads) c.in_ok-over-2.ensures.reads) (c.in_err-both.ensures.sticks (search rules))
+pub rename-returns-in_err-part-3-clause-sticks : goal.rename-returns-in_err-part-3-clause-sticks
+rename-returns-in_err-part-3-clause-sticks t c h = stops (next (next (next (next (choose phrases.prime 12 c.requires) c.in_ok-word.ensures.reads) c.in_ok-head.ensures.reads) (got expr_outline (phrase phrases.expr ∷ []) c.in_ok-part.ensures.read c.level-over.ensures.reads)) c.in_ok-part-2.ensures.reads) (c.renamings-renamings.ensures.sticks (c.in_err-part-3.ensures.stops (search rules)))
 
-pub rename-returns-in_err-both-2-clause-sticks : goal.rename-returns-in_err-both-2-clause-sticks
-rename-returns-in_err-both-2-clause-sticks t c h = stops (next (next (next (next (next (choose phrases.prime 12 c.requires) c.in_ok-word.ensures.reads) c.in_ok-bracket.ensures.reads) c.in_ok-over.ensures.reads) c.in_ok-over-2.ensures.reads) c.in_ok-both.ensures.reads) (c.in_err-both-2.ensures.sticks (search rules))
+pub rename-returns-in_err-part-4-clause-sticks : goal.rename-returns-in_err-part-4-clause-sticks
+rename-returns-in_err-part-4-clause-sticks t c h = stops (next (next (next (next (next (choose phrases.prime 12 c.requires) c.in_ok-word.ensures.reads) c.in_ok-head.ensures.reads) (got expr_outline (phrase phrases.expr ∷ []) c.in_ok-part.ensures.read c.level-over.ensures.reads)) c.in_ok-part-2.ensures.reads) (got renamings_outline (phrase phrases.renamings ∷ []) c.in_ok-part-3.ensures.read c.renamings-renamings.ensures.reads)) (c.in_err-part-4.ensures.sticks (search rules))
 
 pub rename-returns-clause-reads : goal.rename-returns-clause-reads
-rename-returns-clause-reads t c = as_marks c.rename.ensures (next (next (next (next (next (next (choose phrases.prime 12 c.requires) c.in_ok-word.ensures.reads) c.in_ok-bracket.ensures.reads) (as_marks (ap (λ b. expr_outline b.0.value) c.in_ok-both-2.ensures.same ∙ (ap (λ b. expr_outline b.value) c.in_ok-both.ensures.same ∙ ap expr_outline c.in_ok-over-2.ensures.same)) c.in_ok-over.ensures.reads)) c.in_ok-over-2.ensures.reads) (as_marks (ap (λ b. renamings_outline b.1) c.in_ok-both-2.ensures.same) c.in_ok-both.ensures.reads)) c.in_ok-both-2.ensures.reads)
+rename-returns-clause-reads t c = as_marks c.rename.ensures (next (next (next (next (next (next (choose phrases.prime 12 c.requires) (as_marks (ap (λ b. hold b.0.0.0) c.in_ok-part-4.ensures.same ∙ (ap (λ b. hold b.0.0) c.in_ok-part-3.ensures.same ∙ (ap (λ b. hold b.0.0) c.in_ok-part-2.ensures.same ∙ (ap (λ b. hold b.0) c.in_ok-part.ensures.same ∙ ap hold c.in_ok-head.ensures.same)))) c.in_ok-word.ensures.reads)) (as_marks (ap (λ b. hold b.0.0.1) c.in_ok-part-4.ensures.same ∙ (ap (λ b. hold b.0.1) c.in_ok-part-3.ensures.same ∙ (ap (λ b. hold b.0.1) c.in_ok-part-2.ensures.same ∙ ap (λ b. hold b.1) c.in_ok-part.ensures.same))) c.in_ok-head.ensures.reads)) (as_marks (ap (λ b. expr_outline b.0.1.value) c.in_ok-part-4.ensures.same ∙ (ap (λ b. expr_outline b.1.value) c.in_ok-part-3.ensures.same ∙ ap (λ b. expr_outline b.1.value) c.in_ok-part-2.ensures.same)) (got expr_outline (phrase phrases.expr ∷ []) c.in_ok-part.ensures.read c.level-over.ensures.reads))) c.in_ok-part-2.ensures.reads) (as_marks (ap (λ b. renamings_outline b.1) c.in_ok-part-4.ensures.same) (got renamings_outline (phrase phrases.renamings ∷ []) c.in_ok-part-3.ensures.read c.renamings-renamings.ensures.reads))) c.in_ok-part-4.ensures.reads)
+
+pub rename-returns-clause-shorter : goal.rename-returns-clause-shorter
+rename-returns-clause-shorter t c = omega (arith, c.in_ok-word.ensures.shorter, c.in_ok-head.ensures.shorter, shortened c.in_ok-part.ensures.read c.level-over.ensures.shorter, c.in_ok-part-2.ensures.shorter, shortened c.in_ok-part-3.ensures.read c.renamings-renamings.ensures.shorter, c.in_ok-part-4.ensures.shorter)
 
 pub pair-returns-in_err-word-clause-sticks : goal.pair-returns-in_err-word-clause-sticks
 pair-returns-in_err-word-clause-sticks t c h = stops (choose phrases.prime 13 c.requires) (c.in_err-word.ensures.sticks (search rules))
 
-pub pair-returns-in_err-bracket-clause-sticks : goal.pair-returns-in_err-bracket-clause-sticks
-pair-returns-in_err-bracket-clause-sticks t c h = stops (next (choose phrases.prime 13 c.requires) c.in_ok-word.ensures.reads) (c.in_err-bracket.ensures.sticks (search rules))
+pub pair-returns-in_err-head-clause-sticks : goal.pair-returns-in_err-head-clause-sticks
+pair-returns-in_err-head-clause-sticks t c h = stops (next (choose phrases.prime 13 c.requires) c.in_ok-word.ensures.reads) (c.in_err-head.ensures.sticks (search rules))
 
-pub pair-returns-in_err-left-clause-sticks : goal.pair-returns-in_err-left-clause-sticks
-pair-returns-in_err-left-clause-sticks t c h = stops (next (next (choose phrases.prime 13 c.requires) c.in_ok-word.ensures.reads) c.in_ok-bracket.ensures.reads) (c.in_err-left.ensures.sticks (search rules))
+pub pair-returns-in_err-part-clause-sticks : goal.pair-returns-in_err-part-clause-sticks
+pair-returns-in_err-part-clause-sticks t c h = stops (next (next (choose phrases.prime 13 c.requires) c.in_ok-word.ensures.reads) c.in_ok-head.ensures.reads) (c.level-left.ensures.sticks (c.in_err-part.ensures.stops (search rules)))
 
-pub pair-returns-in_err-left-2-clause-sticks : goal.pair-returns-in_err-left-2-clause-sticks
-pair-returns-in_err-left-2-clause-sticks t c h = stops (next (next (next (choose phrases.prime 13 c.requires) c.in_ok-word.ensures.reads) c.in_ok-bracket.ensures.reads) c.in_ok-left.ensures.reads) (c.in_err-left-2.ensures.sticks (search rules))
+pub pair-returns-in_err-part-2-clause-sticks : goal.pair-returns-in_err-part-2-clause-sticks
+pair-returns-in_err-part-2-clause-sticks t c h = stops (next (next (next (choose phrases.prime 13 c.requires) c.in_ok-word.ensures.reads) c.in_ok-head.ensures.reads) (got expr_outline (phrase phrases.expr ∷ []) c.in_ok-part.ensures.read c.level-left.ensures.reads)) (c.in_err-part-2.ensures.sticks (search rules))
 
-pub pair-returns-in_err-right-clause-sticks : goal.pair-returns-in_err-right-clause-sticks
-pair-returns-in_err-right-clause-sticks t c h = stops (next (next (next (next (choose phrases.prime 13 c.requires) c.in_ok-word.ensures.reads) c.in_ok-bracket.ensures.reads) c.in_ok-left.ensures.reads) c.in_ok-left-2.ensures.reads) (c.in_err-right.ensures.sticks (search rules))
+pub pair-returns-in_err-part-3-clause-sticks : goal.pair-returns-in_err-part-3-clause-sticks
+pair-returns-in_err-part-3-clause-sticks t c h = stops (next (next (next (next (choose phrases.prime 13 c.requires) c.in_ok-word.ensures.reads) c.in_ok-head.ensures.reads) (got expr_outline (phrase phrases.expr ∷ []) c.in_ok-part.ensures.read c.level-left.ensures.reads)) c.in_ok-part-2.ensures.reads) (c.level-right.ensures.sticks (c.in_err-part-3.ensures.stops (search rules)))
 
-pub pair-returns-in_err-both-clause-sticks : goal.pair-returns-in_err-both-clause-sticks
-pair-returns-in_err-both-clause-sticks t c h = stops (next (next (next (next (next (choose phrases.prime 13 c.requires) c.in_ok-word.ensures.reads) c.in_ok-bracket.ensures.reads) c.in_ok-left.ensures.reads) c.in_ok-left-2.ensures.reads) c.in_ok-right.ensures.reads) (c.in_err-both.ensures.sticks (search rules))
+pub pair-returns-in_err-part-4-clause-sticks : goal.pair-returns-in_err-part-4-clause-sticks
+pair-returns-in_err-part-4-clause-sticks t c h = stops (next (next (next (next (next (choose phrases.prime 13 c.requires) c.in_ok-word.ensures.reads) c.in_ok-head.ensures.reads) (got expr_outline (phrase phrases.expr ∷ []) c.in_ok-part.ensures.read c.level-left.ensures.reads)) c.in_ok-part-2.ensures.reads) (got expr_outline (phrase phrases.expr ∷ []) c.in_ok-part-3.ensures.read c.level-right.ensures.reads)) (c.in_err-part-4.ensures.sticks (search rules))
 
 pub pair-returns-clause-reads : goal.pair-returns-clause-reads
-pair-returns-clause-reads t c = as_marks c.pair.ensures (next (next (next (next (next (next (choose phrases.prime 13 c.requires) c.in_ok-word.ensures.reads) c.in_ok-bracket.ensures.reads) (as_marks (ap (λ b. expr_outline b.value) c.in_ok-both.ensures.before ∙ ap expr_outline c.in_ok-left-2.ensures.same) c.in_ok-left.ensures.reads)) c.in_ok-left-2.ensures.reads) (as_marks (ap expr_outline c.in_ok-both.ensures.same) c.in_ok-right.ensures.reads)) c.in_ok-both.ensures.reads)
+pair-returns-clause-reads t c = as_marks c.pair.ensures (next (next (next (next (next (next (choose phrases.prime 13 c.requires) (as_marks (ap (λ b. hold b.0.0.0) c.in_ok-part-4.ensures.same ∙ (ap (λ b. hold b.0.0) c.in_ok-part-3.ensures.same ∙ (ap (λ b. hold b.0.0) c.in_ok-part-2.ensures.same ∙ (ap (λ b. hold b.0) c.in_ok-part.ensures.same ∙ ap hold c.in_ok-head.ensures.same)))) c.in_ok-word.ensures.reads)) (as_marks (ap (λ b. hold b.0.0.1) c.in_ok-part-4.ensures.same ∙ (ap (λ b. hold b.0.1) c.in_ok-part-3.ensures.same ∙ (ap (λ b. hold b.0.1) c.in_ok-part-2.ensures.same ∙ ap (λ b. hold b.1) c.in_ok-part.ensures.same))) c.in_ok-head.ensures.reads)) (as_marks (ap (λ b. expr_outline b.0.1.value) c.in_ok-part-4.ensures.same ∙ (ap (λ b. expr_outline b.1.value) c.in_ok-part-3.ensures.same ∙ ap (λ b. expr_outline b.1.value) c.in_ok-part-2.ensures.same)) (got expr_outline (phrase phrases.expr ∷ []) c.in_ok-part.ensures.read c.level-left.ensures.reads))) c.in_ok-part-2.ensures.reads) (as_marks (ap (λ b. expr_outline b.1.value) c.in_ok-part-4.ensures.same) (got expr_outline (phrase phrases.expr ∷ []) c.in_ok-part-3.ensures.read c.level-right.ensures.reads))) c.in_ok-part-4.ensures.reads)
+
+pub pair-returns-clause-shorter : goal.pair-returns-clause-shorter
+pair-returns-clause-shorter t c = omega (arith, c.in_ok-word.ensures.shorter, c.in_ok-head.ensures.shorter, shortened c.in_ok-part.ensures.read c.level-left.ensures.shorter, c.in_ok-part-2.ensures.shorter, shortened c.in_ok-part-3.ensures.read c.level-right.ensures.shorter, c.in_ok-part-4.ensures.shorter)
 
 pub group-returns-in_err-word-clause-sticks : goal.group-returns-in_err-word-clause-sticks
 group-returns-in_err-word-clause-sticks t c h = stops (choose phrases.prime 14 c.requires) (c.in_err-word.ensures.sticks (search rules))
 
-pub group-returns-in_err-bracket-clause-sticks : goal.group-returns-in_err-bracket-clause-sticks
-group-returns-in_err-bracket-clause-sticks t c h = stops (next (choose phrases.prime 14 c.requires) c.in_ok-word.ensures.reads) (c.in_err-bracket.ensures.sticks (search rules))
+pub group-returns-in_err-head-clause-sticks : goal.group-returns-in_err-head-clause-sticks
+group-returns-in_err-head-clause-sticks t c h = stops (next (choose phrases.prime 14 c.requires) c.in_ok-word.ensures.reads) (c.in_err-head.ensures.sticks (search rules))
 
-pub group-returns-in_err-over-clause-sticks : goal.group-returns-in_err-over-clause-sticks
-group-returns-in_err-over-clause-sticks t c h = stops (next (next (choose phrases.prime 14 c.requires) c.in_ok-word.ensures.reads) c.in_ok-bracket.ensures.reads) (c.in_err-over.ensures.sticks (search rules))
+pub group-returns-in_err-part-clause-sticks : goal.group-returns-in_err-part-clause-sticks
+group-returns-in_err-part-clause-sticks t c h = stops (next (next (choose phrases.prime 14 c.requires) c.in_ok-word.ensures.reads) c.in_ok-head.ensures.reads) (c.level-over.ensures.sticks (c.in_err-part.ensures.stops (search rules)))
 
-pub group-returns-in_err-over-2-clause-sticks : goal.group-returns-in_err-over-2-clause-sticks
-group-returns-in_err-over-2-clause-sticks t c h = stops (next (next (next (choose phrases.prime 14 c.requires) c.in_ok-word.ensures.reads) c.in_ok-bracket.ensures.reads) c.in_ok-over.ensures.reads) (c.in_err-over-2.ensures.sticks (search rules))
+pub group-returns-in_err-part-2-clause-sticks : goal.group-returns-in_err-part-2-clause-sticks
+group-returns-in_err-part-2-clause-sticks t c h = stops (next (next (next (choose phrases.prime 14 c.requires) c.in_ok-word.ensures.reads) c.in_ok-head.ensures.reads) (got expr_outline (phrase phrases.expr ∷ []) c.in_ok-part.ensures.read c.level-over.ensures.reads)) (c.in_err-part-2.ensures.sticks (search rules))
 
-pub group-returns-in_err-over-3-clause-sticks : goal.group-returns-in_err-over-3-clause-sticks
-group-returns-in_err-over-3-clause-sticks t c h = stops (next (next (next (next (choose phrases.prime 14 c.requires) c.in_ok-word.ensures.reads) c.in_ok-bracket.ensures.reads) c.in_ok-over.ensures.reads) c.in_ok-over-2.ensures.reads) (c.in_err-over-3.ensures.sticks (search rules))
+pub group-returns-in_err-part-3-clause-sticks : goal.group-returns-in_err-part-3-clause-sticks
+group-returns-in_err-part-3-clause-sticks t c h = stops (next (next (next (next (choose phrases.prime 14 c.requires) c.in_ok-word.ensures.reads) c.in_ok-head.ensures.reads) (got expr_outline (phrase phrases.expr ∷ []) c.in_ok-part.ensures.read c.level-over.ensures.reads)) c.in_ok-part-2.ensures.reads) (c.in_err-part-3.ensures.sticks (search rules))
 
-pub group-returns-in_err-both-clause-sticks : goal.group-returns-in_err-both-clause-sticks
-group-returns-in_err-both-clause-sticks t c h = stops (next (next (next (next (next (choose phrases.prime 14 c.requires) c.in_ok-word.ensures.reads) c.in_ok-bracket.ensures.reads) c.in_ok-over.ensures.reads) c.in_ok-over-2.ensures.reads) c.in_ok-over-3.ensures.reads) (c.in_err-both.ensures.sticks (search rules))
+pub group-returns-in_err-part-4-clause-sticks : goal.group-returns-in_err-part-4-clause-sticks
+group-returns-in_err-part-4-clause-sticks t c h = stops (next (next (next (next (next (choose phrases.prime 14 c.requires) c.in_ok-word.ensures.reads) c.in_ok-head.ensures.reads) (got expr_outline (phrase phrases.expr ∷ []) c.in_ok-part.ensures.read c.level-over.ensures.reads)) c.in_ok-part-2.ensures.reads) c.in_ok-part-3.ensures.reads) (c.names-names.ensures.sticks (c.in_err-part-4.ensures.stops (search rules)))
 
-pub group-returns-in_err-both-2-clause-sticks : goal.group-returns-in_err-both-2-clause-sticks
-group-returns-in_err-both-2-clause-sticks t c h = stops (next (next (next (next (next (next (choose phrases.prime 14 c.requires) c.in_ok-word.ensures.reads) c.in_ok-bracket.ensures.reads) c.in_ok-over.ensures.reads) c.in_ok-over-2.ensures.reads) c.in_ok-over-3.ensures.reads) c.in_ok-both.ensures.reads) (c.in_err-both-2.ensures.sticks (search rules))
+pub group-returns-in_err-part-5-clause-sticks : goal.group-returns-in_err-part-5-clause-sticks
+group-returns-in_err-part-5-clause-sticks t c h = stops (next (next (next (next (next (next (choose phrases.prime 14 c.requires) c.in_ok-word.ensures.reads) c.in_ok-head.ensures.reads) (got expr_outline (phrase phrases.expr ∷ []) c.in_ok-part.ensures.read c.level-over.ensures.reads)) c.in_ok-part-2.ensures.reads) c.in_ok-part-3.ensures.reads) (got names_outline (phrase phrases.names ∷ []) c.in_ok-part-4.ensures.read c.names-names.ensures.reads)) (c.in_err-part-5.ensures.sticks (search rules))
 
-pub group-returns-in_err-all-clause-sticks : goal.group-returns-in_err-all-clause-sticks
-group-returns-in_err-all-clause-sticks t c h = stops (next (next (next (next (next (next (next (choose phrases.prime 14 c.requires) c.in_ok-word.ensures.reads) c.in_ok-bracket.ensures.reads) c.in_ok-over.ensures.reads) c.in_ok-over-2.ensures.reads) c.in_ok-over-3.ensures.reads) c.in_ok-both.ensures.reads) c.in_ok-both-2.ensures.reads) (c.in_err-all.ensures.sticks (search rules))
+pub group-returns-in_err-part-6-clause-sticks : goal.group-returns-in_err-part-6-clause-sticks
+group-returns-in_err-part-6-clause-sticks t c h = stops (next (next (next (next (next (next (next (choose phrases.prime 14 c.requires) c.in_ok-word.ensures.reads) c.in_ok-head.ensures.reads) (got expr_outline (phrase phrases.expr ∷ []) c.in_ok-part.ensures.read c.level-over.ensures.reads)) c.in_ok-part-2.ensures.reads) c.in_ok-part-3.ensures.reads) (got names_outline (phrase phrases.names ∷ []) c.in_ok-part-4.ensures.read c.names-names.ensures.reads)) c.in_ok-part-5.ensures.reads) (c.aggs-aggs.ensures.sticks (c.in_err-part-6.ensures.stops (search rules)))
 
-pub group-returns-in_err-all-2-clause-sticks : goal.group-returns-in_err-all-2-clause-sticks
-group-returns-in_err-all-2-clause-sticks t c h = stops (next (next (next (next (next (next (next (next (choose phrases.prime 14 c.requires) c.in_ok-word.ensures.reads) c.in_ok-bracket.ensures.reads) c.in_ok-over.ensures.reads) c.in_ok-over-2.ensures.reads) c.in_ok-over-3.ensures.reads) c.in_ok-both.ensures.reads) c.in_ok-both-2.ensures.reads) c.in_ok-all.ensures.reads) (c.in_err-all-2.ensures.sticks (search rules))
+pub group-returns-in_err-part-7-clause-sticks : goal.group-returns-in_err-part-7-clause-sticks
+group-returns-in_err-part-7-clause-sticks t c h = stops (next (next (next (next (next (next (next (next (choose phrases.prime 14 c.requires) c.in_ok-word.ensures.reads) c.in_ok-head.ensures.reads) (got expr_outline (phrase phrases.expr ∷ []) c.in_ok-part.ensures.read c.level-over.ensures.reads)) c.in_ok-part-2.ensures.reads) c.in_ok-part-3.ensures.reads) (got names_outline (phrase phrases.names ∷ []) c.in_ok-part-4.ensures.read c.names-names.ensures.reads)) c.in_ok-part-5.ensures.reads) (got aggs_outline (phrase phrases.aggs ∷ []) c.in_ok-part-6.ensures.read c.aggs-aggs.ensures.reads)) (c.in_err-part-7.ensures.sticks (search rules))
 
 pub group-returns-clause-reads : goal.group-returns-clause-reads
-group-returns-clause-reads t c = as_marks c.group.ensures (next (next (next (next (next (next (next (next (next (choose phrases.prime 14 c.requires) c.in_ok-word.ensures.reads) c.in_ok-bracket.ensures.reads) (as_marks (ap (λ a. expr_outline a.0.0.value) c.in_ok-all-2.ensures.same ∙ (ap (λ b. expr_outline b.0.value) c.in_ok-all.ensures.same ∙ (ap (λ b. expr_outline b.0.value) c.in_ok-both-2.ensures.same ∙ (ap (λ b. expr_outline b.value) c.in_ok-both.ensures.same ∙ (ap (λ b. expr_outline b.value) c.in_ok-over-3.ensures.same ∙ ap expr_outline c.in_ok-over-2.ensures.same))))) c.in_ok-over.ensures.reads)) c.in_ok-over-2.ensures.reads) c.in_ok-over-3.ensures.reads) (as_marks (ap (λ a. names_outline a.0.1) c.in_ok-all-2.ensures.same ∙ (ap (λ b. names_outline b.1) c.in_ok-all.ensures.same ∙ ap (λ b. names_outline b.1) c.in_ok-both-2.ensures.same)) c.in_ok-both.ensures.reads)) c.in_ok-both-2.ensures.reads) (as_marks (ap (λ a. aggs_outline a.1) c.in_ok-all-2.ensures.same) c.in_ok-all.ensures.reads)) c.in_ok-all-2.ensures.reads)
+group-returns-clause-reads t c = as_marks c.group.ensures (next (next (next (next (next (next (next (next (next (choose phrases.prime 14 c.requires) (as_marks (ap (λ b. hold b.0.0.0.0) c.in_ok-part-7.ensures.same ∙ (ap (λ b. hold b.0.0.0) c.in_ok-part-6.ensures.same ∙ (ap (λ b. hold b.0.0.0) c.in_ok-part-5.ensures.same ∙ (ap (λ b. hold b.0.0) c.in_ok-part-4.ensures.same ∙ (ap (λ b. hold b.0.0) c.in_ok-part-3.ensures.same ∙ (ap (λ b. hold b.0.0) c.in_ok-part-2.ensures.same ∙ (ap (λ b. hold b.0) c.in_ok-part.ensures.same ∙ ap hold c.in_ok-head.ensures.same))))))) c.in_ok-word.ensures.reads)) (as_marks (ap (λ b. hold b.0.0.0.1) c.in_ok-part-7.ensures.same ∙ (ap (λ b. hold b.0.0.1) c.in_ok-part-6.ensures.same ∙ (ap (λ b. hold b.0.0.1) c.in_ok-part-5.ensures.same ∙ (ap (λ b. hold b.0.1) c.in_ok-part-4.ensures.same ∙ (ap (λ b. hold b.0.1) c.in_ok-part-3.ensures.same ∙ (ap (λ b. hold b.0.1) c.in_ok-part-2.ensures.same ∙ ap (λ b. hold b.1) c.in_ok-part.ensures.same)))))) c.in_ok-head.ensures.reads)) (as_marks (ap (λ b. expr_outline b.0.0.1.value) c.in_ok-part-7.ensures.same ∙ (ap (λ b. expr_outline b.0.1.value) c.in_ok-part-6.ensures.same ∙ (ap (λ b. expr_outline b.0.1.value) c.in_ok-part-5.ensures.same ∙ (ap (λ b. expr_outline b.1.value) c.in_ok-part-4.ensures.same ∙ (ap (λ b. expr_outline b.1.value) c.in_ok-part-3.ensures.same ∙ ap (λ b. expr_outline b.1.value) c.in_ok-part-2.ensures.same))))) (got expr_outline (phrase phrases.expr ∷ []) c.in_ok-part.ensures.read c.level-over.ensures.reads))) c.in_ok-part-2.ensures.reads) c.in_ok-part-3.ensures.reads) (as_marks (ap (λ b. names_outline b.0.1) c.in_ok-part-7.ensures.same ∙ (ap (λ b. names_outline b.1) c.in_ok-part-6.ensures.same ∙ ap (λ b. names_outline b.1) c.in_ok-part-5.ensures.same)) (got names_outline (phrase phrases.names ∷ []) c.in_ok-part-4.ensures.read c.names-names.ensures.reads))) c.in_ok-part-5.ensures.reads) (as_marks (ap (λ b. aggs_outline b.1) c.in_ok-part-7.ensures.same) (got aggs_outline (phrase phrases.aggs ∷ []) c.in_ok-part-6.ensures.read c.aggs-aggs.ensures.reads))) c.in_ok-part-7.ensures.reads)
+
+pub group-returns-clause-shorter : goal.group-returns-clause-shorter
+group-returns-clause-shorter t c = omega (arith, c.in_ok-word.ensures.shorter, c.in_ok-head.ensures.shorter, shortened c.in_ok-part.ensures.read c.level-over.ensures.shorter, c.in_ok-part-2.ensures.shorter, c.in_ok-part-3.ensures.shorter, shortened c.in_ok-part-4.ensures.read c.names-names.ensures.shorter, c.in_ok-part-5.ensures.shorter, shortened c.in_ok-part-6.ensures.read c.aggs-aggs.ensures.shorter, c.in_ok-part-7.ensures.shorter)
 
 pub measure-returns-in_err-word-clause-sticks : goal.measure-returns-in_err-word-clause-sticks
 measure-returns-in_err-word-clause-sticks t c h = stops (choose phrases.prime 15 c.requires) (c.in_err-word.ensures.sticks (search rules))
 
-pub measure-returns-in_err-bracket-clause-sticks : goal.measure-returns-in_err-bracket-clause-sticks
-measure-returns-in_err-bracket-clause-sticks t c h = stops (next (choose phrases.prime 15 c.requires) c.in_ok-word.ensures.reads) (c.in_err-bracket.ensures.sticks (search rules))
+pub measure-returns-in_err-head-clause-sticks : goal.measure-returns-in_err-head-clause-sticks
+measure-returns-in_err-head-clause-sticks t c h = stops (next (choose phrases.prime 15 c.requires) c.in_ok-word.ensures.reads) (c.in_err-head.ensures.sticks (search rules))
 
-pub measure-returns-in_err-over-clause-sticks : goal.measure-returns-in_err-over-clause-sticks
-measure-returns-in_err-over-clause-sticks t c h = stops (next (next (choose phrases.prime 15 c.requires) c.in_ok-word.ensures.reads) c.in_ok-bracket.ensures.reads) (c.in_err-over.ensures.sticks (search rules))
+pub measure-returns-in_err-part-clause-sticks : goal.measure-returns-in_err-part-clause-sticks
+measure-returns-in_err-part-clause-sticks t c h = stops (next (next (choose phrases.prime 15 c.requires) c.in_ok-word.ensures.reads) c.in_ok-head.ensures.reads) (c.level-over.ensures.sticks (c.in_err-part.ensures.stops (search rules)))
 
-pub measure-returns-in_err-over-2-clause-sticks : goal.measure-returns-in_err-over-2-clause-sticks
-measure-returns-in_err-over-2-clause-sticks t c h = stops (next (next (next (choose phrases.prime 15 c.requires) c.in_ok-word.ensures.reads) c.in_ok-bracket.ensures.reads) c.in_ok-over.ensures.reads) (c.in_err-over-2.ensures.sticks (search rules))
+pub measure-returns-in_err-part-2-clause-sticks : goal.measure-returns-in_err-part-2-clause-sticks
+measure-returns-in_err-part-2-clause-sticks t c h = stops (next (next (next (choose phrases.prime 15 c.requires) c.in_ok-word.ensures.reads) c.in_ok-head.ensures.reads) (got expr_outline (phrase phrases.expr ∷ []) c.in_ok-part.ensures.read c.level-over.ensures.reads)) (c.in_err-part-2.ensures.sticks (search rules))
 
 pub measure-returns-clause-reads : goal.measure-returns-clause-reads
-measure-returns-clause-reads t c = as_marks c.measure.ensures (next (next (next (next (choose phrases.prime 15 c.requires) c.in_ok-word.ensures.reads) c.in_ok-bracket.ensures.reads) (as_marks (ap expr_outline c.in_ok-over-2.ensures.same) c.in_ok-over.ensures.reads)) c.in_ok-over-2.ensures.reads)
+measure-returns-clause-reads t c = as_marks c.measure.ensures (next (next (next (next (choose phrases.prime 15 c.requires) (as_marks (ap (λ b. hold b.0.0) c.in_ok-part-2.ensures.same ∙ (ap (λ b. hold b.0) c.in_ok-part.ensures.same ∙ ap hold c.in_ok-head.ensures.same)) c.in_ok-word.ensures.reads)) (as_marks (ap (λ b. hold b.0.1) c.in_ok-part-2.ensures.same ∙ ap (λ b. hold b.1) c.in_ok-part.ensures.same) c.in_ok-head.ensures.reads)) (as_marks (ap (λ b. expr_outline b.1.value) c.in_ok-part-2.ensures.same) (got expr_outline (phrase phrases.expr ∷ []) c.in_ok-part.ensures.read c.level-over.ensures.reads))) c.in_ok-part-2.ensures.reads)
+
+pub measure-returns-clause-shorter : goal.measure-returns-clause-shorter
+measure-returns-clause-shorter t c = omega (arith, c.in_ok-word.ensures.shorter, c.in_ok-head.ensures.shorter, shortened c.in_ok-part.ensures.read c.level-over.ensures.shorter, c.in_ok-part-2.ensures.shorter)
 
 pub fold-returns-in_err-word-clause-sticks : goal.fold-returns-in_err-word-clause-sticks
 fold-returns-in_err-word-clause-sticks t c h = stops (choose phrases.prime 16 c.requires) (c.in_err-word.ensures.sticks (search rules))
 
-pub fold-returns-in_err-bracket-clause-sticks : goal.fold-returns-in_err-bracket-clause-sticks
-fold-returns-in_err-bracket-clause-sticks t c h = stops (next (choose phrases.prime 16 c.requires) c.in_ok-word.ensures.reads) (c.in_err-bracket.ensures.sticks (search rules))
+pub fold-returns-in_err-head-clause-sticks : goal.fold-returns-in_err-head-clause-sticks
+fold-returns-in_err-head-clause-sticks t c h = stops (next (choose phrases.prime 16 c.requires) c.in_ok-word.ensures.reads) (c.in_err-head.ensures.sticks (search rules))
 
-pub fold-returns-in_err-over-clause-sticks : goal.fold-returns-in_err-over-clause-sticks
-fold-returns-in_err-over-clause-sticks t c h = stops (next (next (choose phrases.prime 16 c.requires) c.in_ok-word.ensures.reads) c.in_ok-bracket.ensures.reads) (c.in_err-over.ensures.sticks (search rules))
+pub fold-returns-in_err-part-clause-sticks : goal.fold-returns-in_err-part-clause-sticks
+fold-returns-in_err-part-clause-sticks t c h = stops (next (next (choose phrases.prime 16 c.requires) c.in_ok-word.ensures.reads) c.in_ok-head.ensures.reads) (c.level-over.ensures.sticks (c.in_err-part.ensures.stops (search rules)))
 
-pub fold-returns-in_err-over-2-clause-sticks : goal.fold-returns-in_err-over-2-clause-sticks
-fold-returns-in_err-over-2-clause-sticks t c h = stops (next (next (next (choose phrases.prime 16 c.requires) c.in_ok-word.ensures.reads) c.in_ok-bracket.ensures.reads) c.in_ok-over.ensures.reads) (c.in_err-over-2.ensures.sticks (search rules))
+pub fold-returns-in_err-part-2-clause-sticks : goal.fold-returns-in_err-part-2-clause-sticks
+fold-returns-in_err-part-2-clause-sticks t c h = stops (next (next (next (choose phrases.prime 16 c.requires) c.in_ok-word.ensures.reads) c.in_ok-head.ensures.reads) (got expr_outline (phrase phrases.expr ∷ []) c.in_ok-part.ensures.read c.level-over.ensures.reads)) (c.in_err-part-2.ensures.sticks (search rules))
 
-pub fold-returns-in_err-both-clause-sticks : goal.fold-returns-in_err-both-clause-sticks
-fold-returns-in_err-both-clause-sticks t c h = stops (next (next (next (next (choose phrases.prime 16 c.requires) c.in_ok-word.ensures.reads) c.in_ok-bracket.ensures.reads) c.in_ok-over.ensures.reads) c.in_ok-over-2.ensures.reads) (c.in_err-both.ensures.sticks (search rules))
+pub fold-returns-in_err-part-3-clause-sticks : goal.fold-returns-in_err-part-3-clause-sticks
+fold-returns-in_err-part-3-clause-sticks t c h = stops (next (next (next (next (choose phrases.prime 16 c.requires) c.in_ok-word.ensures.reads) c.in_ok-head.ensures.reads) (got expr_outline (phrase phrases.expr ∷ []) c.in_ok-part.ensures.read c.level-over.ensures.reads)) c.in_ok-part-2.ensures.reads) (c.in_err-part-3.ensures.sticks (search rules))
 
-pub fold-returns-in_err-both-2-clause-sticks : goal.fold-returns-in_err-both-2-clause-sticks
-fold-returns-in_err-both-2-clause-sticks t c h = stops (next (next (next (next (next (choose phrases.prime 16 c.requires) c.in_ok-word.ensures.reads) c.in_ok-bracket.ensures.reads) c.in_ok-over.ensures.reads) c.in_ok-over-2.ensures.reads) c.in_ok-both.ensures.reads) (c.in_err-both-2.ensures.sticks (search rules))
+pub fold-returns-in_err-part-4-clause-sticks : goal.fold-returns-in_err-part-4-clause-sticks
+fold-returns-in_err-part-4-clause-sticks t c h = stops (next (next (next (next (next (choose phrases.prime 16 c.requires) c.in_ok-word.ensures.reads) c.in_ok-head.ensures.reads) (got expr_outline (phrase phrases.expr ∷ []) c.in_ok-part.ensures.read c.level-over.ensures.reads)) c.in_ok-part-2.ensures.reads) c.in_ok-part-3.ensures.reads) (c.in_err-part-4.ensures.sticks (search rules))
 
 pub fold-returns-clause-reads : goal.fold-returns-clause-reads
-fold-returns-clause-reads t c = as_marks c.fold.ensures (next (next (next (next (next (next (choose phrases.prime 16 c.requires) c.in_ok-word.ensures.reads) c.in_ok-bracket.ensures.reads) (as_marks (ap (λ b. expr_outline b.0.value) c.in_ok-both-2.ensures.same ∙ (ap (λ b. expr_outline b.value) c.in_ok-both.ensures.same ∙ ap expr_outline c.in_ok-over-2.ensures.same)) c.in_ok-over.ensures.reads)) c.in_ok-over-2.ensures.reads) (as_marks (ap (λ b. hold b.1) c.in_ok-both-2.ensures.same) c.in_ok-both.ensures.reads)) c.in_ok-both-2.ensures.reads)
+fold-returns-clause-reads t c = as_marks c.fold.ensures (next (next (next (next (next (next (choose phrases.prime 16 c.requires) (as_marks (ap (λ b. hold b.0.0.0) c.in_ok-part-4.ensures.same ∙ (ap (λ b. hold b.0.0) c.in_ok-part-3.ensures.same ∙ (ap (λ b. hold b.0.0) c.in_ok-part-2.ensures.same ∙ (ap (λ b. hold b.0) c.in_ok-part.ensures.same ∙ ap hold c.in_ok-head.ensures.same)))) c.in_ok-word.ensures.reads)) (as_marks (ap (λ b. hold b.0.0.1) c.in_ok-part-4.ensures.same ∙ (ap (λ b. hold b.0.1) c.in_ok-part-3.ensures.same ∙ (ap (λ b. hold b.0.1) c.in_ok-part-2.ensures.same ∙ ap (λ b. hold b.1) c.in_ok-part.ensures.same))) c.in_ok-head.ensures.reads)) (as_marks (ap (λ b. expr_outline b.0.1.value) c.in_ok-part-4.ensures.same ∙ (ap (λ b. expr_outline b.1.value) c.in_ok-part-3.ensures.same ∙ ap (λ b. expr_outline b.1.value) c.in_ok-part-2.ensures.same)) (got expr_outline (phrase phrases.expr ∷ []) c.in_ok-part.ensures.read c.level-over.ensures.reads))) c.in_ok-part-2.ensures.reads) (as_marks (ap (λ b. hold b.1) c.in_ok-part-4.ensures.same) c.in_ok-part-3.ensures.reads)) c.in_ok-part-4.ensures.reads)
+
+pub fold-returns-clause-shorter : goal.fold-returns-clause-shorter
+fold-returns-clause-shorter t c = omega (arith, c.in_ok-word.ensures.shorter, c.in_ok-head.ensures.shorter, shortened c.in_ok-part.ensures.read c.level-over.ensures.shorter, c.in_ok-part-2.ensures.shorter, c.in_ok-part-3.ensures.shorter, c.in_ok-part-4.ensures.shorter)
 
 pub bulk-returns-in_err-word-clause-sticks : goal.bulk-returns-in_err-word-clause-sticks
 bulk-returns-in_err-word-clause-sticks t c h = stops (choose phrases.prime 17 c.requires) (c.in_err-word.ensures.sticks (search rules))
 
-pub bulk-returns-in_err-bracket-clause-sticks : goal.bulk-returns-in_err-bracket-clause-sticks
-bulk-returns-in_err-bracket-clause-sticks t c h = stops (next (choose phrases.prime 17 c.requires) c.in_ok-word.ensures.reads) (c.in_err-bracket.ensures.sticks (search rules))
+pub bulk-returns-in_err-head-clause-sticks : goal.bulk-returns-in_err-head-clause-sticks
+bulk-returns-in_err-head-clause-sticks t c h = stops (next (choose phrases.prime 17 c.requires) c.in_ok-word.ensures.reads) (c.in_err-head.ensures.sticks (search rules))
 
-pub bulk-returns-in_err-sign-clause-sticks : goal.bulk-returns-in_err-sign-clause-sticks
-bulk-returns-in_err-sign-clause-sticks t c h = stops (next (next (choose phrases.prime 17 c.requires) c.in_ok-word.ensures.reads) c.in_ok-bracket.ensures.reads) (c.in_err-sign.ensures.sticks (search rules))
+pub bulk-returns-in_err-head-2-clause-sticks : goal.bulk-returns-in_err-head-2-clause-sticks
+bulk-returns-in_err-head-2-clause-sticks t c h = stops (next (next (choose phrases.prime 17 c.requires) c.in_ok-word.ensures.reads) c.in_ok-head.ensures.reads) (c.in_err-head-2.ensures.sticks (search rules))
 
-pub bulk-returns-in_err-name-clause-sticks : goal.bulk-returns-in_err-name-clause-sticks
-bulk-returns-in_err-name-clause-sticks t c h = stops (next (next (next (choose phrases.prime 17 c.requires) c.in_ok-word.ensures.reads) c.in_ok-bracket.ensures.reads) c.in_ok-sign.ensures.reads) (c.in_err-name.ensures.sticks (search rules))
+pub bulk-returns-in_err-head-3-clause-sticks : goal.bulk-returns-in_err-head-3-clause-sticks
+bulk-returns-in_err-head-3-clause-sticks t c h = stops (next (next (next (choose phrases.prime 17 c.requires) c.in_ok-word.ensures.reads) c.in_ok-head.ensures.reads) c.in_ok-head-2.ensures.reads) (c.in_err-head-3.ensures.sticks (search rules))
 
-pub bulk-returns-in_err-skip-clause-sticks : goal.bulk-returns-in_err-skip-clause-sticks
-bulk-returns-in_err-skip-clause-sticks t c h = stops (next (next (next (next (choose phrases.prime 17 c.requires) c.in_ok-word.ensures.reads) c.in_ok-bracket.ensures.reads) c.in_ok-sign.ensures.reads) c.in_ok-name.ensures.reads) (c.in_err-skip.ensures.sticks (search rules))
+pub bulk-returns-in_err-head-4-clause-sticks : goal.bulk-returns-in_err-head-4-clause-sticks
+bulk-returns-in_err-head-4-clause-sticks t c h = stops (next (next (next (next (choose phrases.prime 17 c.requires) c.in_ok-word.ensures.reads) c.in_ok-head.ensures.reads) c.in_ok-head-2.ensures.reads) c.in_ok-head-3.ensures.reads) (c.in_err-head-4.ensures.sticks (search rules))
 
-pub bulk-returns-in_err-over-clause-sticks : goal.bulk-returns-in_err-over-clause-sticks
-bulk-returns-in_err-over-clause-sticks t c h = stops (next (next (next (next (next (choose phrases.prime 17 c.requires) c.in_ok-word.ensures.reads) c.in_ok-bracket.ensures.reads) c.in_ok-sign.ensures.reads) c.in_ok-name.ensures.reads) c.in_ok-skip.ensures.reads) (c.in_err-over.ensures.sticks (search rules))
+pub bulk-returns-in_err-part-clause-sticks : goal.bulk-returns-in_err-part-clause-sticks
+bulk-returns-in_err-part-clause-sticks t c h = stops (next (next (next (next (next (choose phrases.prime 17 c.requires) c.in_ok-word.ensures.reads) c.in_ok-head.ensures.reads) c.in_ok-head-2.ensures.reads) c.in_ok-head-3.ensures.reads) c.in_ok-head-4.ensures.reads) (c.level-over.ensures.sticks (c.in_err-part.ensures.stops (search rules)))
 
-pub bulk-returns-in_err-over-2-clause-sticks : goal.bulk-returns-in_err-over-2-clause-sticks
-bulk-returns-in_err-over-2-clause-sticks t c h = stops (next (next (next (next (next (next (choose phrases.prime 17 c.requires) c.in_ok-word.ensures.reads) c.in_ok-bracket.ensures.reads) c.in_ok-sign.ensures.reads) c.in_ok-name.ensures.reads) c.in_ok-skip.ensures.reads) c.in_ok-over.ensures.reads) (c.in_err-over-2.ensures.sticks (search rules))
+pub bulk-returns-in_err-part-2-clause-sticks : goal.bulk-returns-in_err-part-2-clause-sticks
+bulk-returns-in_err-part-2-clause-sticks t c h = stops (next (next (next (next (next (next (choose phrases.prime 17 c.requires) c.in_ok-word.ensures.reads) c.in_ok-head.ensures.reads) c.in_ok-head-2.ensures.reads) c.in_ok-head-3.ensures.reads) c.in_ok-head-4.ensures.reads) (got expr_outline (phrase phrases.expr ∷ []) c.in_ok-part.ensures.read c.level-over.ensures.reads)) (c.in_err-part-2.ensures.sticks (search rules))
 
 pub bulk-returns-clause-reads : goal.bulk-returns-clause-reads
-bulk-returns-clause-reads t c = as_marks c.bulk.ensures (next (next (next (next (next (next (next (choose phrases.prime 17 c.requires) c.in_ok-word.ensures.reads) c.in_ok-bracket.ensures.reads) c.in_ok-sign.ensures.reads) c.in_ok-name.ensures.reads) c.in_ok-skip.ensures.reads) (as_marks (ap expr_outline c.in_ok-over-2.ensures.same) c.in_ok-over.ensures.reads)) c.in_ok-over-2.ensures.reads)
+bulk-returns-clause-reads t c = as_marks c.bulk.ensures (next (next (next (next (next (next (next (choose phrases.prime 17 c.requires) (as_marks (ap (λ b. hold b.0.0.0.0) c.in_ok-part-2.ensures.same ∙ (ap (λ b. hold b.0.0.0) c.in_ok-part.ensures.same ∙ (ap (λ b. hold b.0.0.0) c.in_ok-head-4.ensures.same ∙ (ap (λ b. hold b.0.0) c.in_ok-head-3.ensures.same ∙ (ap (λ b. hold b.0) c.in_ok-head-2.ensures.same ∙ ap hold c.in_ok-head.ensures.same))))) c.in_ok-word.ensures.reads)) (as_marks (ap (λ b. hold b.0.0.0.1) c.in_ok-part-2.ensures.same ∙ (ap (λ b. hold b.0.0.1) c.in_ok-part.ensures.same ∙ (ap (λ b. hold b.0.0.1) c.in_ok-head-4.ensures.same ∙ (ap (λ b. hold b.0.1) c.in_ok-head-3.ensures.same ∙ ap (λ b. hold b.1) c.in_ok-head-2.ensures.same)))) c.in_ok-head.ensures.reads)) (as_marks (ap (λ b. hold b.0.0.1) c.in_ok-part-2.ensures.same ∙ (ap (λ b. hold b.0.1) c.in_ok-part.ensures.same ∙ (ap (λ b. hold b.0.1) c.in_ok-head-4.ensures.same ∙ ap (λ b. hold b.1) c.in_ok-head-3.ensures.same))) c.in_ok-head-2.ensures.reads)) (as_marks (ap (λ b. hold b.0.1) c.in_ok-part-2.ensures.same ∙ (ap (λ b. hold b.1) c.in_ok-part.ensures.same ∙ ap (λ b. hold b.1) c.in_ok-head-4.ensures.same)) c.in_ok-head-3.ensures.reads)) c.in_ok-head-4.ensures.reads) (as_marks (ap (λ b. expr_outline b.1.value) c.in_ok-part-2.ensures.same) (got expr_outline (phrase phrases.expr ∷ []) c.in_ok-part.ensures.read c.level-over.ensures.reads))) c.in_ok-part-2.ensures.reads)
+
+pub bulk-returns-clause-shorter : goal.bulk-returns-clause-shorter
+bulk-returns-clause-shorter t c = omega (arith, c.in_ok-word.ensures.shorter, c.in_ok-head.ensures.shorter, c.in_ok-head-2.ensures.shorter, c.in_ok-head-3.ensures.shorter, c.in_ok-head-4.ensures.shorter, shortened c.in_ok-part.ensures.read c.level-over.ensures.shorter, c.in_ok-part-2.ensures.shorter)
 
 pub part-returns-in_err-word-clause-sticks : goal.part-returns-in_err-word-clause-sticks
 part-returns-in_err-word-clause-sticks t c h = stops (choose phrases.prime 18 c.requires) (c.in_err-word.ensures.sticks (search rules))
 
-pub part-returns-in_err-bracket-clause-sticks : goal.part-returns-in_err-bracket-clause-sticks
-part-returns-in_err-bracket-clause-sticks t c h = stops (next (choose phrases.prime 18 c.requires) c.in_ok-word.ensures.reads) (c.in_err-bracket.ensures.sticks (search rules))
+pub part-returns-in_err-head-clause-sticks : goal.part-returns-in_err-head-clause-sticks
+part-returns-in_err-head-clause-sticks t c h = stops (next (choose phrases.prime 18 c.requires) c.in_ok-word.ensures.reads) (c.in_err-head.ensures.sticks (search rules))
 
-pub part-returns-in_err-name-clause-sticks : goal.part-returns-in_err-name-clause-sticks
-part-returns-in_err-name-clause-sticks t c h = stops (next (next (choose phrases.prime 18 c.requires) c.in_ok-word.ensures.reads) c.in_ok-bracket.ensures.reads) (c.in_err-name.ensures.sticks (search rules))
+pub part-returns-in_err-head-2-clause-sticks : goal.part-returns-in_err-head-2-clause-sticks
+part-returns-in_err-head-2-clause-sticks t c h = stops (next (next (choose phrases.prime 18 c.requires) c.in_ok-word.ensures.reads) c.in_ok-head.ensures.reads) (c.in_err-head-2.ensures.sticks (search rules))
 
-pub part-returns-in_err-skip-clause-sticks : goal.part-returns-in_err-skip-clause-sticks
-part-returns-in_err-skip-clause-sticks t c h = stops (next (next (next (choose phrases.prime 18 c.requires) c.in_ok-word.ensures.reads) c.in_ok-bracket.ensures.reads) c.in_ok-name.ensures.reads) (c.in_err-skip.ensures.sticks (search rules))
+pub part-returns-in_err-head-3-clause-sticks : goal.part-returns-in_err-head-3-clause-sticks
+part-returns-in_err-head-3-clause-sticks t c h = stops (next (next (next (choose phrases.prime 18 c.requires) c.in_ok-word.ensures.reads) c.in_ok-head.ensures.reads) c.in_ok-head-2.ensures.reads) (c.in_err-head-3.ensures.sticks (search rules))
 
-pub part-returns-in_err-over-clause-sticks : goal.part-returns-in_err-over-clause-sticks
-part-returns-in_err-over-clause-sticks t c h = stops (next (next (next (next (choose phrases.prime 18 c.requires) c.in_ok-word.ensures.reads) c.in_ok-bracket.ensures.reads) c.in_ok-name.ensures.reads) c.in_ok-skip.ensures.reads) (c.in_err-over.ensures.sticks (search rules))
+pub part-returns-in_err-part-clause-sticks : goal.part-returns-in_err-part-clause-sticks
+part-returns-in_err-part-clause-sticks t c h = stops (next (next (next (next (choose phrases.prime 18 c.requires) c.in_ok-word.ensures.reads) c.in_ok-head.ensures.reads) c.in_ok-head-2.ensures.reads) c.in_ok-head-3.ensures.reads) (c.level-over.ensures.sticks (c.in_err-part.ensures.stops (search rules)))
 
-pub part-returns-in_err-over-2-clause-sticks : goal.part-returns-in_err-over-2-clause-sticks
-part-returns-in_err-over-2-clause-sticks t c h = stops (next (next (next (next (next (choose phrases.prime 18 c.requires) c.in_ok-word.ensures.reads) c.in_ok-bracket.ensures.reads) c.in_ok-name.ensures.reads) c.in_ok-skip.ensures.reads) c.in_ok-over.ensures.reads) (c.in_err-over-2.ensures.sticks (search rules))
+pub part-returns-in_err-part-2-clause-sticks : goal.part-returns-in_err-part-2-clause-sticks
+part-returns-in_err-part-2-clause-sticks t c h = stops (next (next (next (next (next (choose phrases.prime 18 c.requires) c.in_ok-word.ensures.reads) c.in_ok-head.ensures.reads) c.in_ok-head-2.ensures.reads) c.in_ok-head-3.ensures.reads) (got expr_outline (phrase phrases.expr ∷ []) c.in_ok-part.ensures.read c.level-over.ensures.reads)) (c.in_err-part-2.ensures.sticks (search rules))
 
 pub part-returns-clause-reads : goal.part-returns-clause-reads
-part-returns-clause-reads t c = as_marks c.part.ensures (next (next (next (next (next (next (choose phrases.prime 18 c.requires) c.in_ok-word.ensures.reads) c.in_ok-bracket.ensures.reads) c.in_ok-name.ensures.reads) c.in_ok-skip.ensures.reads) (as_marks (ap expr_outline c.in_ok-over-2.ensures.same) c.in_ok-over.ensures.reads)) c.in_ok-over-2.ensures.reads)
+part-returns-clause-reads t c = as_marks c.part.ensures (next (next (next (next (next (next (choose phrases.prime 18 c.requires) (as_marks (ap (λ b. hold b.0.0.0) c.in_ok-part-2.ensures.same ∙ (ap (λ b. hold b.0.0) c.in_ok-part.ensures.same ∙ (ap (λ b. hold b.0.0) c.in_ok-head-3.ensures.same ∙ (ap (λ b. hold b.0) c.in_ok-head-2.ensures.same ∙ ap hold c.in_ok-head.ensures.same)))) c.in_ok-word.ensures.reads)) (as_marks (ap (λ b. hold b.0.0.1) c.in_ok-part-2.ensures.same ∙ (ap (λ b. hold b.0.1) c.in_ok-part.ensures.same ∙ (ap (λ b. hold b.0.1) c.in_ok-head-3.ensures.same ∙ ap (λ b. hold b.1) c.in_ok-head-2.ensures.same))) c.in_ok-head.ensures.reads)) (as_marks (ap (λ b. hold b.0.1) c.in_ok-part-2.ensures.same ∙ (ap (λ b. hold b.1) c.in_ok-part.ensures.same ∙ ap (λ b. hold b.1) c.in_ok-head-3.ensures.same)) c.in_ok-head-2.ensures.reads)) c.in_ok-head-3.ensures.reads) (as_marks (ap (λ b. expr_outline b.1.value) c.in_ok-part-2.ensures.same) (got expr_outline (phrase phrases.expr ∷ []) c.in_ok-part.ensures.read c.level-over.ensures.reads))) c.in_ok-part-2.ensures.reads)
+
+pub part-returns-clause-shorter : goal.part-returns-clause-shorter
+part-returns-clause-shorter t c = omega (arith, c.in_ok-word.ensures.shorter, c.in_ok-head.ensures.shorter, c.in_ok-head-2.ensures.shorter, c.in_ok-head-3.ensures.shorter, shortened c.in_ok-part.ensures.read c.level-over.ensures.shorter, c.in_ok-part-2.ensures.shorter)
 
 pub name_or_call-returns-in_err-name-clause-sticks : goal.name_or_call-returns-in_err-name-clause-sticks
 name_or_call-returns-in_err-name-clause-sticks t c h = stops (choose phrases.prime 5 c.requires) (c.in_err-name.ensures.sticks (search rules))
@@ -356,23 +401,26 @@ name_or_call-returns-in_err-name-clause-sticks t c h = stops (choose phrases.pri
 pub name_or_call-returns-then-not-next_is-clause-reads : goal.name_or_call-returns-then-not-next_is-clause-reads
 name_or_call-returns-then-not-next_is-clause-reads t c = as_marks c.name.ensures (next (next (choose phrases.prime 5 c.requires) c.in_ok-name.ensures.reads) (choose phrases.call 1 (other phrases.call ((sym c.next_is.ensures ∙ c.if-not-next_is.true), tt))))
 
-pub name_or_call-returns-in_err-bracket-clause-sticks : goal.name_or_call-returns-in_err-bracket-clause-sticks
-name_or_call-returns-in_err-bracket-clause-sticks t c h = stops (next_choose 0 (next (choose phrases.prime 5 c.requires) c.in_ok-name.ensures.reads) (told phrases.call 0 refl (sym c.next_is.ensures ∙ c.if-not-next_is.false))) (c.in_err-bracket.ensures.sticks (search rules))
+pub name_or_call-returns-in_err-head-clause-sticks : goal.name_or_call-returns-in_err-head-clause-sticks
+name_or_call-returns-in_err-head-clause-sticks t c h = stops (next_choose 0 (next (choose phrases.prime 5 c.requires) c.in_ok-name.ensures.reads) (told phrases.call 0 refl (sym c.next_is.ensures ∙ c.if-not-next_is.false))) (c.in_err-head.ensures.sticks (search rules))
 
-pub name_or_call-returns-in_err-skip-clause-sticks : goal.name_or_call-returns-in_err-skip-clause-sticks
-name_or_call-returns-in_err-skip-clause-sticks t c h = stops (next_choose 1 (next (next_choose 0 (next (choose phrases.prime 5 c.requires) c.in_ok-name.ensures.reads) (told phrases.call 0 refl (sym c.next_is.ensures ∙ c.if-not-next_is.false))) c.in_ok-bracket.ensures.reads) (other phrases.some_args ((sym c.next_is-2.ensures ∙ c.if-not-next_is-2.true), tt))) (c.in_err-skip.ensures.sticks (search rules))
+pub name_or_call-returns-in_err-empty-clause-sticks : goal.name_or_call-returns-in_err-empty-clause-sticks
+name_or_call-returns-in_err-empty-clause-sticks t c h = stops (next_choose 1 (next (next_choose 0 (next (choose phrases.prime 5 c.requires) c.in_ok-name.ensures.reads) (told phrases.call 0 refl (sym c.next_is.ensures ∙ c.if-not-next_is.false))) c.in_ok-head.ensures.reads) (other phrases.some_args ((sym c.next_is-2.ensures ∙ c.if-not-next_is-2.true), tt))) (c.in_err-empty.ensures.sticks (search rules))
 
 pub name_or_call-returns-then-not-next_is-2-clause-reads : goal.name_or_call-returns-then-not-next_is-2-clause-reads
-name_or_call-returns-then-not-next_is-2-clause-reads t c = as_marks c.empty_call.ensures (next (next_choose 1 (next (next_choose 0 (next (choose phrases.prime 5 c.requires) c.in_ok-name.ensures.reads) (told phrases.call 0 refl (sym c.next_is.ensures ∙ c.if-not-next_is.false))) c.in_ok-bracket.ensures.reads) (other phrases.some_args ((sym c.next_is-2.ensures ∙ c.if-not-next_is-2.true), tt))) c.in_ok-skip.ensures.reads)
+name_or_call-returns-then-not-next_is-2-clause-reads t c = as_marks c.empty_call.ensures (next (next_choose 1 (next (next_choose 0 (next (choose phrases.prime 5 c.requires) (as_marks (ap (λ b. hold b.0) c.in_ok-empty.ensures.same ∙ ap hold c.in_ok-head.ensures.same) c.in_ok-name.ensures.reads)) (told phrases.call 0 refl (sym c.next_is.ensures ∙ c.if-not-next_is.false))) (as_marks (ap (λ b. hold b.1) c.in_ok-empty.ensures.same) c.in_ok-head.ensures.reads)) (other phrases.some_args ((sym c.next_is-2.ensures ∙ c.if-not-next_is-2.true), tt))) c.in_ok-empty.ensures.reads)
 
-pub name_or_call-returns-in_err-args-clause-sticks : goal.name_or_call-returns-in_err-args-clause-sticks
-name_or_call-returns-in_err-args-clause-sticks t c h = stops (next_choose 0 (next (next_choose 0 (next (choose phrases.prime 5 c.requires) c.in_ok-name.ensures.reads) (told phrases.call 0 refl (sym c.next_is.ensures ∙ c.if-not-next_is.false))) c.in_ok-bracket.ensures.reads) (told phrases.some_args 0 refl (sym c.next_is-2.ensures ∙ c.if-not-next_is-2.false))) (c.in_err-args.ensures.sticks (search rules))
+pub name_or_call-returns-in_err-part-clause-sticks : goal.name_or_call-returns-in_err-part-clause-sticks
+name_or_call-returns-in_err-part-clause-sticks t c h = stops (next_choose 0 (next (next_choose 0 (next (choose phrases.prime 5 c.requires) c.in_ok-name.ensures.reads) (told phrases.call 0 refl (sym c.next_is.ensures ∙ c.if-not-next_is.false))) c.in_ok-head.ensures.reads) (told phrases.some_args 0 refl (sym c.next_is-2.ensures ∙ c.if-not-next_is-2.false))) (c.args-args.ensures.sticks (c.in_err-part.ensures.stops (search rules)))
 
-pub name_or_call-returns-in_err-args-2-clause-sticks : goal.name_or_call-returns-in_err-args-2-clause-sticks
-name_or_call-returns-in_err-args-2-clause-sticks t c h = stops (next (next_choose 0 (next (next_choose 0 (next (choose phrases.prime 5 c.requires) c.in_ok-name.ensures.reads) (told phrases.call 0 refl (sym c.next_is.ensures ∙ c.if-not-next_is.false))) c.in_ok-bracket.ensures.reads) (told phrases.some_args 0 refl (sym c.next_is-2.ensures ∙ c.if-not-next_is-2.false))) c.in_ok-args.ensures.reads) (c.in_err-args-2.ensures.sticks (search rules))
+pub name_or_call-returns-in_err-part-2-clause-sticks : goal.name_or_call-returns-in_err-part-2-clause-sticks
+name_or_call-returns-in_err-part-2-clause-sticks t c h = stops (next (next_choose 0 (next (next_choose 0 (next (choose phrases.prime 5 c.requires) c.in_ok-name.ensures.reads) (told phrases.call 0 refl (sym c.next_is.ensures ∙ c.if-not-next_is.false))) c.in_ok-head.ensures.reads) (told phrases.some_args 0 refl (sym c.next_is-2.ensures ∙ c.if-not-next_is-2.false))) (got args_outline (phrase phrases.args ∷ []) c.in_ok-part.ensures.read c.args-args.ensures.reads)) (c.in_err-part-2.ensures.sticks (search rules))
 
 pub name_or_call-returns-clause-reads : goal.name_or_call-returns-clause-reads
-name_or_call-returns-clause-reads t c = as_marks c.call.ensures (next (next (next_choose 0 (next (next_choose 0 (next (choose phrases.prime 5 c.requires) c.in_ok-name.ensures.reads) (told phrases.call 0 refl (sym c.next_is.ensures ∙ c.if-not-next_is.false))) c.in_ok-bracket.ensures.reads) (told phrases.some_args 0 refl (sym c.next_is-2.ensures ∙ c.if-not-next_is-2.false))) (as_marks (ap args_outline c.in_ok-args-2.ensures.same) c.in_ok-args.ensures.reads)) c.in_ok-args-2.ensures.reads)
+name_or_call-returns-clause-reads t c = as_marks c.call.ensures (next (next (next_choose 0 (next (next_choose 0 (next (choose phrases.prime 5 c.requires) (as_marks (ap (λ b. hold b.0.0) c.in_ok-part-2.ensures.same ∙ (ap (λ b. hold b.0) c.in_ok-part.ensures.same ∙ ap hold c.in_ok-head.ensures.same)) c.in_ok-name.ensures.reads)) (told phrases.call 0 refl (sym c.next_is.ensures ∙ c.if-not-next_is.false))) (as_marks (ap (λ b. hold b.0.1) c.in_ok-part-2.ensures.same ∙ ap (λ b. hold b.1) c.in_ok-part.ensures.same) c.in_ok-head.ensures.reads)) (told phrases.some_args 0 refl (sym c.next_is-2.ensures ∙ c.if-not-next_is-2.false))) (as_marks (ap (λ b. args_outline b.1.value) c.in_ok-part-2.ensures.same) (got args_outline (phrase phrases.args ∷ []) c.in_ok-part.ensures.read c.args-args.ensures.reads))) c.in_ok-part-2.ensures.reads)
+
+pub name_or_call-returns-clause-shorter : goal.name_or_call-returns-clause-shorter
+name_or_call-returns-clause-shorter t c = omega (arith, c.in_ok-name.ensures.shorter, c.in_ok-head.ensures.shorter, shortened c.in_ok-part.ensures.read c.args-args.ensures.shorter, c.in_ok-part-2.ensures.shorter)
 
 pub prime-int-requires : goal.prime-int-requires
 prime-int-requires t c = (told phrases.prime 0 refl (sym c.next_is.ensures ∙ c.if-next_is.true))
@@ -443,13 +491,13 @@ args-rest-init t c = record { reads = items_start expr_outline args_row (node ph
 pub args-returns-in_err-before-clause-sticks : goal.args-returns-in_err-before-clause-sticks
 args-returns-in_err-before-clause-sticks t c h = stops (join c.rest.invariant.reads (next_choose 0 idle (told phrases.more_args 0 refl (sym c.next_is.ensures ∙ c.rest-test.true)))) (c.in_err-before.ensures.sticks (search rules))
 
-pub args-returns-in_err-item-clause-sticks : goal.args-returns-in_err-item-clause-sticks
-args-returns-in_err-item-clause-sticks t c h = stops (next (join c.rest.invariant.reads (next_choose 0 idle (told phrases.more_args 0 refl (sym c.next_is.ensures ∙ c.rest-test.true)))) c.in_ok-before.ensures.reads) (c.in_err-item.ensures.sticks (search rules))
+pub args-returns-in_err-both-clause-sticks : goal.args-returns-in_err-both-clause-sticks
+args-returns-in_err-both-clause-sticks t c h = stops (next (join c.rest.invariant.reads (next_choose 0 idle (told phrases.more_args 0 refl (sym c.next_is.ensures ∙ c.rest-test.true)))) c.in_ok-before.ensures.reads) (c.level-item.ensures.sticks (c.in_err-both.ensures.stops (search rules)))
 
 pub args-rest-preserved : goal.args-rest-preserved
 args-rest-preserved t c = record {
-  reads = items_more expr_outline args_row (node phrases.args 0) c.rest.items.rest.items c.in_ok-item.item c.rest.invariant.reads (next (next (next_choose 0 idle (told phrases.more_args 0 refl (sym c.next_is.ensures ∙ c.rest-test.true))) c.in_ok-before.ensures.reads) c.in_ok-item.ensures.reads) (c.in_ok-items.ensures.first ∙ ap (λ i. i.first) c.in_ok-before.ensures.same) (c.in_ok-items.ensures.one_more ∙ ap (λ i. i.rest.items ++ c.in_ok-item.item ∷ []) c.in_ok-before.ensures.same);
-  shorter = omega (arith, c.rest.invariant.shorter, c.in_ok-before.ensures.shorter, c.in_ok-item.ensures.shorter);
+  reads = items_more expr_outline args_row (node phrases.args 0) c.rest.items.rest.items c.in_ok-both.both.1 c.rest.invariant.reads (next (next (next_choose 0 idle (told phrases.more_args 0 refl (sym c.next_is.ensures ∙ c.rest-test.true))) c.in_ok-before.ensures.reads) (got expr_outline (phrase phrases.expr ∷ []) c.in_ok-both.ensures.read c.level-item.ensures.reads)) (c.in_ok-items.ensures.first ∙ ap (λ i. i.first) (c.in_ok-both.ensures.same ∙ c.in_ok-before.ensures.same)) (c.in_ok-items.ensures.one_more ∙ ap (λ i. i.rest.items ++ c.in_ok-both.both.1 ∷ []) (c.in_ok-both.ensures.same ∙ c.in_ok-before.ensures.same));
+  shorter = omega (arith, c.rest.invariant.shorter, c.in_ok-before.ensures.shorter, shortened c.in_ok-both.ensures.read c.level-item.ensures.shorter);
 }
 
 pub args-returns-clause-reads : goal.args-returns-clause-reads
@@ -464,13 +512,13 @@ bindings-rest-init t c = record { reads = items_start binding_outline bindings_r
 pub bindings-returns-in_err-before-clause-sticks : goal.bindings-returns-in_err-before-clause-sticks
 bindings-returns-in_err-before-clause-sticks t c h = stops (join c.rest.invariant.reads (next_choose 0 idle (told phrases.more_bindings 0 refl (sym c.next_is.ensures ∙ c.rest-test.true)))) (c.in_err-before.ensures.sticks (search rules))
 
-pub bindings-returns-in_err-item-clause-sticks : goal.bindings-returns-in_err-item-clause-sticks
-bindings-returns-in_err-item-clause-sticks t c h = stops (next (join c.rest.invariant.reads (next_choose 0 idle (told phrases.more_bindings 0 refl (sym c.next_is.ensures ∙ c.rest-test.true)))) c.in_ok-before.ensures.reads) (c.in_err-item.ensures.sticks (search rules))
+pub bindings-returns-in_err-both-clause-sticks : goal.bindings-returns-in_err-both-clause-sticks
+bindings-returns-in_err-both-clause-sticks t c h = stops (next (join c.rest.invariant.reads (next_choose 0 idle (told phrases.more_bindings 0 refl (sym c.next_is.ensures ∙ c.rest-test.true)))) c.in_ok-before.ensures.reads) (c.binding-item.ensures.sticks (c.in_err-both.ensures.stops (search rules)))
 
 pub bindings-rest-preserved : goal.bindings-rest-preserved
 bindings-rest-preserved t c = record {
-  reads = items_more binding_outline bindings_row (node phrases.bindings 0) c.rest.items.rest.items c.in_ok-item.item c.rest.invariant.reads (next (next (next_choose 0 idle (told phrases.more_bindings 0 refl (sym c.next_is.ensures ∙ c.rest-test.true))) c.in_ok-before.ensures.reads) c.in_ok-item.ensures.reads) (c.in_ok-items.ensures.first ∙ ap (λ i. i.first) c.in_ok-before.ensures.same) (c.in_ok-items.ensures.one_more ∙ ap (λ i. i.rest.items ++ c.in_ok-item.item ∷ []) c.in_ok-before.ensures.same);
-  shorter = omega (arith, c.rest.invariant.shorter, c.in_ok-before.ensures.shorter, c.in_ok-item.ensures.shorter);
+  reads = items_more binding_outline bindings_row (node phrases.bindings 0) c.rest.items.rest.items c.in_ok-both.both.1 c.rest.invariant.reads (next (next (next_choose 0 idle (told phrases.more_bindings 0 refl (sym c.next_is.ensures ∙ c.rest-test.true))) c.in_ok-before.ensures.reads) (got binding_outline (phrase phrases.binding ∷ []) c.in_ok-both.ensures.read c.binding-item.ensures.reads)) (c.in_ok-items.ensures.first ∙ ap (λ i. i.first) (c.in_ok-both.ensures.same ∙ c.in_ok-before.ensures.same)) (c.in_ok-items.ensures.one_more ∙ ap (λ i. i.rest.items ++ c.in_ok-both.both.1 ∷ []) (c.in_ok-both.ensures.same ∙ c.in_ok-before.ensures.same));
+  shorter = omega (arith, c.rest.invariant.shorter, c.in_ok-before.ensures.shorter, shortened c.in_ok-both.ensures.read c.binding-item.ensures.shorter);
 }
 
 pub bindings-returns-clause-reads : goal.bindings-returns-clause-reads
@@ -485,13 +533,13 @@ atoms-rest-init t c = record { reads = items_start atom_outline atoms_row (node 
 pub atoms-returns-in_err-before-clause-sticks : goal.atoms-returns-in_err-before-clause-sticks
 atoms-returns-in_err-before-clause-sticks t c h = stops (join c.rest.invariant.reads (next_choose 0 idle (told phrases.more_atoms 0 refl (sym c.next_is.ensures ∙ c.rest-test.true)))) (c.in_err-before.ensures.sticks (search rules))
 
-pub atoms-returns-in_err-item-clause-sticks : goal.atoms-returns-in_err-item-clause-sticks
-atoms-returns-in_err-item-clause-sticks t c h = stops (next (join c.rest.invariant.reads (next_choose 0 idle (told phrases.more_atoms 0 refl (sym c.next_is.ensures ∙ c.rest-test.true)))) c.in_ok-before.ensures.reads) (c.in_err-item.ensures.sticks (search rules))
+pub atoms-returns-in_err-both-clause-sticks : goal.atoms-returns-in_err-both-clause-sticks
+atoms-returns-in_err-both-clause-sticks t c h = stops (next (join c.rest.invariant.reads (next_choose 0 idle (told phrases.more_atoms 0 refl (sym c.next_is.ensures ∙ c.rest-test.true)))) c.in_ok-before.ensures.reads) (c.atom-item.ensures.sticks (c.in_err-both.ensures.stops (search rules)))
 
 pub atoms-rest-preserved : goal.atoms-rest-preserved
 atoms-rest-preserved t c = record {
-  reads = items_more atom_outline atoms_row (node phrases.atoms 0) c.rest.items.rest.items c.in_ok-item.item c.rest.invariant.reads (next (next (next_choose 0 idle (told phrases.more_atoms 0 refl (sym c.next_is.ensures ∙ c.rest-test.true))) c.in_ok-before.ensures.reads) c.in_ok-item.ensures.reads) (c.in_ok-items.ensures.first ∙ ap (λ i. i.first) c.in_ok-before.ensures.same) (c.in_ok-items.ensures.one_more ∙ ap (λ i. i.rest.items ++ c.in_ok-item.item ∷ []) c.in_ok-before.ensures.same);
-  shorter = omega (arith, c.rest.invariant.shorter, c.in_ok-before.ensures.shorter, c.in_ok-item.ensures.shorter);
+  reads = items_more atom_outline atoms_row (node phrases.atoms 0) c.rest.items.rest.items c.in_ok-both.both.1 c.rest.invariant.reads (next (next (next_choose 0 idle (told phrases.more_atoms 0 refl (sym c.next_is.ensures ∙ c.rest-test.true))) c.in_ok-before.ensures.reads) (got atom_outline (phrase phrases.atom ∷ []) c.in_ok-both.ensures.read c.atom-item.ensures.reads)) (c.in_ok-items.ensures.first ∙ ap (λ i. i.first) (c.in_ok-both.ensures.same ∙ c.in_ok-before.ensures.same)) (c.in_ok-items.ensures.one_more ∙ ap (λ i. i.rest.items ++ c.in_ok-both.both.1 ∷ []) (c.in_ok-both.ensures.same ∙ c.in_ok-before.ensures.same));
+  shorter = omega (arith, c.rest.invariant.shorter, c.in_ok-before.ensures.shorter, shortened c.in_ok-both.ensures.read c.atom-item.ensures.shorter);
 }
 
 pub atoms-returns-clause-reads : goal.atoms-returns-clause-reads
@@ -506,13 +554,13 @@ lines-rest-init t c = record { reads = items_start line_outline lines_row (node 
 pub lines-returns-in_err-before-clause-sticks : goal.lines-returns-in_err-before-clause-sticks
 lines-returns-in_err-before-clause-sticks t c h = stops (join c.rest.invariant.reads (next_choose 0 idle (told phrases.more_lines 0 refl (sym c.next_is.ensures ∙ c.rest-test.true)))) (c.in_err-before.ensures.sticks (search rules))
 
-pub lines-returns-in_err-item-clause-sticks : goal.lines-returns-in_err-item-clause-sticks
-lines-returns-in_err-item-clause-sticks t c h = stops (next (join c.rest.invariant.reads (next_choose 0 idle (told phrases.more_lines 0 refl (sym c.next_is.ensures ∙ c.rest-test.true)))) c.in_ok-before.ensures.reads) (c.in_err-item.ensures.sticks (search rules))
+pub lines-returns-in_err-both-clause-sticks : goal.lines-returns-in_err-both-clause-sticks
+lines-returns-in_err-both-clause-sticks t c h = stops (next (join c.rest.invariant.reads (next_choose 0 idle (told phrases.more_lines 0 refl (sym c.next_is.ensures ∙ c.rest-test.true)))) c.in_ok-before.ensures.reads) (c.line-item.ensures.sticks (c.in_err-both.ensures.stops (search rules)))
 
 pub lines-rest-preserved : goal.lines-rest-preserved
 lines-rest-preserved t c = record {
-  reads = items_more line_outline lines_row (node phrases.lines 0) c.rest.items.rest.items c.in_ok-item.item c.rest.invariant.reads (next (next (next_choose 0 idle (told phrases.more_lines 0 refl (sym c.next_is.ensures ∙ c.rest-test.true))) c.in_ok-before.ensures.reads) c.in_ok-item.ensures.reads) (c.in_ok-items.ensures.first ∙ ap (λ i. i.first) c.in_ok-before.ensures.same) (c.in_ok-items.ensures.one_more ∙ ap (λ i. i.rest.items ++ c.in_ok-item.item ∷ []) c.in_ok-before.ensures.same);
-  shorter = omega (arith, c.rest.invariant.shorter, c.in_ok-before.ensures.shorter, c.in_ok-item.ensures.shorter);
+  reads = items_more line_outline lines_row (node phrases.lines 0) c.rest.items.rest.items c.in_ok-both.both.1 c.rest.invariant.reads (next (next (next_choose 0 idle (told phrases.more_lines 0 refl (sym c.next_is.ensures ∙ c.rest-test.true))) c.in_ok-before.ensures.reads) (got line_outline (phrase phrases.line ∷ []) c.in_ok-both.ensures.read c.line-item.ensures.reads)) (c.in_ok-items.ensures.first ∙ ap (λ i. i.first) (c.in_ok-both.ensures.same ∙ c.in_ok-before.ensures.same)) (c.in_ok-items.ensures.one_more ∙ ap (λ i. i.rest.items ++ c.in_ok-both.both.1 ∷ []) (c.in_ok-both.ensures.same ∙ c.in_ok-before.ensures.same));
+  shorter = omega (arith, c.rest.invariant.shorter, c.in_ok-before.ensures.shorter, shortened c.in_ok-both.ensures.read c.line-item.ensures.shorter);
 }
 
 pub lines-returns-clause-reads : goal.lines-returns-clause-reads
@@ -521,41 +569,50 @@ lines-returns-clause-reads t c = as_marks c.new.ensures (join c.rest.invariant.r
 pub binding-returns-in_err-name-clause-sticks : goal.binding-returns-in_err-name-clause-sticks
 binding-returns-in_err-name-clause-sticks t c h = stops (choose phrases.binding 0 (record { number = refl })) (c.in_err-name.ensures.sticks (search rules))
 
-pub binding-returns-in_err-skip-clause-sticks : goal.binding-returns-in_err-skip-clause-sticks
-binding-returns-in_err-skip-clause-sticks t c h = stops (next (choose phrases.binding 0 (record { number = refl })) c.in_ok-name.ensures.reads) (c.in_err-skip.ensures.sticks (search rules))
+pub binding-returns-in_err-head-clause-sticks : goal.binding-returns-in_err-head-clause-sticks
+binding-returns-in_err-head-clause-sticks t c h = stops (next (choose phrases.binding 0 (record { number = refl })) c.in_ok-name.ensures.reads) (c.in_err-head.ensures.sticks (search rules))
 
-pub binding-returns-in_err-value-clause-sticks : goal.binding-returns-in_err-value-clause-sticks
-binding-returns-in_err-value-clause-sticks t c h = stops (next (next (choose phrases.binding 0 (record { number = refl })) c.in_ok-name.ensures.reads) c.in_ok-skip.ensures.reads) (c.in_err-value.ensures.sticks (search rules))
+pub binding-returns-in_err-part-clause-sticks : goal.binding-returns-in_err-part-clause-sticks
+binding-returns-in_err-part-clause-sticks t c h = stops (next (next (choose phrases.binding 0 (record { number = refl })) c.in_ok-name.ensures.reads) c.in_ok-head.ensures.reads) (c.level-value.ensures.sticks (c.in_err-part.ensures.stops (search rules)))
 
 pub binding-returns-clause-reads : goal.binding-returns-clause-reads
-binding-returns-clause-reads t c = as_marks c.new.ensures (next (next (next (choose phrases.binding 0 (record { number = refl })) c.in_ok-name.ensures.reads) c.in_ok-skip.ensures.reads) c.in_ok-value.ensures.reads)
+binding-returns-clause-reads t c = as_marks c.new.ensures (next (next (next (choose phrases.binding 0 (record { number = refl })) (as_marks (ap hold c.in_ok-part.ensures.same ∙ ap hold c.in_ok-head.ensures.same) c.in_ok-name.ensures.reads)) c.in_ok-head.ensures.reads) (got expr_outline (phrase phrases.expr ∷ []) c.in_ok-part.ensures.read c.level-value.ensures.reads))
+
+pub binding-returns-clause-shorter : goal.binding-returns-clause-shorter
+binding-returns-clause-shorter t c = omega (arith, c.in_ok-name.ensures.shorter, c.in_ok-head.ensures.shorter, shortened c.in_ok-part.ensures.read c.level-value.ensures.shorter)
 
 pub atom-returns-in_err-sign-clause-sticks : goal.atom-returns-in_err-sign-clause-sticks
 atom-returns-in_err-sign-clause-sticks t c h = stops (choose phrases.atom 0 (record { number = refl })) (c.in_err-sign.ensures.sticks (search rules))
 
-pub atom-returns-in_err-name-clause-sticks : goal.atom-returns-in_err-name-clause-sticks
-atom-returns-in_err-name-clause-sticks t c h = stops (next (choose phrases.atom 0 (record { number = refl })) c.in_ok-sign.ensures.reads) (c.in_err-name.ensures.sticks (search rules))
+pub atom-returns-in_err-head-clause-sticks : goal.atom-returns-in_err-head-clause-sticks
+atom-returns-in_err-head-clause-sticks t c h = stops (next (choose phrases.atom 0 (record { number = refl })) c.in_ok-sign.ensures.reads) (c.in_err-head.ensures.sticks (search rules))
 
-pub atom-returns-in_err-bracket-clause-sticks : goal.atom-returns-in_err-bracket-clause-sticks
-atom-returns-in_err-bracket-clause-sticks t c h = stops (next (next (choose phrases.atom 0 (record { number = refl })) c.in_ok-sign.ensures.reads) c.in_ok-name.ensures.reads) (c.in_err-bracket.ensures.sticks (search rules))
+pub atom-returns-in_err-head-2-clause-sticks : goal.atom-returns-in_err-head-2-clause-sticks
+atom-returns-in_err-head-2-clause-sticks t c h = stops (next (next (choose phrases.atom 0 (record { number = refl })) c.in_ok-sign.ensures.reads) c.in_ok-head.ensures.reads) (c.in_err-head-2.ensures.sticks (search rules))
 
-pub atom-returns-in_err-args-clause-sticks : goal.atom-returns-in_err-args-clause-sticks
-atom-returns-in_err-args-clause-sticks t c h = stops (next (next (next (choose phrases.atom 0 (record { number = refl })) c.in_ok-sign.ensures.reads) c.in_ok-name.ensures.reads) c.in_ok-bracket.ensures.reads) (c.in_err-args.ensures.sticks (search rules))
+pub atom-returns-in_err-part-clause-sticks : goal.atom-returns-in_err-part-clause-sticks
+atom-returns-in_err-part-clause-sticks t c h = stops (next (next (next (choose phrases.atom 0 (record { number = refl })) c.in_ok-sign.ensures.reads) c.in_ok-head.ensures.reads) c.in_ok-head-2.ensures.reads) (c.args-args.ensures.sticks (c.in_err-part.ensures.stops (search rules)))
 
-pub atom-returns-in_err-args-2-clause-sticks : goal.atom-returns-in_err-args-2-clause-sticks
-atom-returns-in_err-args-2-clause-sticks t c h = stops (next (next (next (next (choose phrases.atom 0 (record { number = refl })) c.in_ok-sign.ensures.reads) c.in_ok-name.ensures.reads) c.in_ok-bracket.ensures.reads) c.in_ok-args.ensures.reads) (c.in_err-args-2.ensures.sticks (search rules))
+pub atom-returns-in_err-part-2-clause-sticks : goal.atom-returns-in_err-part-2-clause-sticks
+atom-returns-in_err-part-2-clause-sticks t c h = stops (next (next (next (next (choose phrases.atom 0 (record { number = refl })) c.in_ok-sign.ensures.reads) c.in_ok-head.ensures.reads) c.in_ok-head-2.ensures.reads) (got args_outline (phrase phrases.args ∷ []) c.in_ok-part.ensures.read c.args-args.ensures.reads)) (c.in_err-part-2.ensures.sticks (search rules))
 
 pub atom-returns-clause-reads : goal.atom-returns-clause-reads
-atom-returns-clause-reads t c = as_marks c.new.ensures (next (next (next (next (next (choose phrases.atom 0 (record { number = refl })) c.in_ok-sign.ensures.reads) c.in_ok-name.ensures.reads) c.in_ok-bracket.ensures.reads) (as_marks (ap args_outline c.in_ok-args-2.ensures.same) c.in_ok-args.ensures.reads)) c.in_ok-args-2.ensures.reads)
+atom-returns-clause-reads t c = as_marks c.new.ensures (next (next (next (next (next (choose phrases.atom 0 (record { number = refl })) (as_marks (ap (λ b. hold b.0.0.0) c.in_ok-part-2.ensures.same ∙ (ap (λ b. hold b.0.0) c.in_ok-part.ensures.same ∙ (ap (λ b. hold b.0) c.in_ok-head-2.ensures.same ∙ ap hold c.in_ok-head.ensures.same))) c.in_ok-sign.ensures.reads)) (as_marks (ap (λ b. hold b.0.0.1) c.in_ok-part-2.ensures.same ∙ (ap (λ b. hold b.0.1) c.in_ok-part.ensures.same ∙ ap (λ b. hold b.1) c.in_ok-head-2.ensures.same)) c.in_ok-head.ensures.reads)) (as_marks (ap (λ b. hold b.0.1) c.in_ok-part-2.ensures.same ∙ ap (λ b. hold b.1) c.in_ok-part.ensures.same) c.in_ok-head-2.ensures.reads)) (as_marks (ap (λ b. args_outline b.1) c.in_ok-part-2.ensures.same) (got args_outline (phrase phrases.args ∷ []) c.in_ok-part.ensures.read c.args-args.ensures.reads))) c.in_ok-part-2.ensures.reads)
+
+pub atom-returns-clause-shorter : goal.atom-returns-clause-shorter
+atom-returns-clause-shorter t c = omega (arith, c.in_ok-sign.ensures.shorter, c.in_ok-head.ensures.shorter, c.in_ok-head-2.ensures.shorter, shortened c.in_ok-part.ensures.read c.args-args.ensures.shorter, c.in_ok-part-2.ensures.shorter)
 
 pub line-returns-in_err-bracket-clause-sticks : goal.line-returns-in_err-bracket-clause-sticks
 line-returns-in_err-bracket-clause-sticks t c h = stops (choose phrases.line 0 (record { number = refl })) (c.in_err-bracket.ensures.sticks (search rules))
 
-pub line-returns-in_err-args-clause-sticks : goal.line-returns-in_err-args-clause-sticks
-line-returns-in_err-args-clause-sticks t c h = stops (next (choose phrases.line 0 (record { number = refl })) c.in_ok-bracket.ensures.reads) (c.in_err-args.ensures.sticks (search rules))
+pub line-returns-in_err-part-clause-sticks : goal.line-returns-in_err-part-clause-sticks
+line-returns-in_err-part-clause-sticks t c h = stops (next (choose phrases.line 0 (record { number = refl })) c.in_ok-bracket.ensures.reads) (c.args-args.ensures.sticks (c.in_err-part.ensures.stops (search rules)))
 
-pub line-returns-in_err-args-2-clause-sticks : goal.line-returns-in_err-args-2-clause-sticks
-line-returns-in_err-args-2-clause-sticks t c h = stops (next (next (choose phrases.line 0 (record { number = refl })) c.in_ok-bracket.ensures.reads) c.in_ok-args.ensures.reads) (c.in_err-args-2.ensures.sticks (search rules))
+pub line-returns-in_err-part-2-clause-sticks : goal.line-returns-in_err-part-2-clause-sticks
+line-returns-in_err-part-2-clause-sticks t c h = stops (next (next (choose phrases.line 0 (record { number = refl })) c.in_ok-bracket.ensures.reads) (got args_outline (phrase phrases.args ∷ []) c.in_ok-part.ensures.read c.args-args.ensures.reads)) (c.in_err-part-2.ensures.sticks (search rules))
 
 pub line-returns-clause-reads : goal.line-returns-clause-reads
-line-returns-clause-reads t c = as_marks c.new.ensures (next (next (next (choose phrases.line 0 (record { number = refl })) c.in_ok-bracket.ensures.reads) (as_marks (ap args_outline c.in_ok-args-2.ensures.same) c.in_ok-args.ensures.reads)) c.in_ok-args-2.ensures.reads)
+line-returns-clause-reads t c = as_marks c.new.ensures (next (next (next (choose phrases.line 0 (record { number = refl })) (as_marks (ap (λ b. hold b.0) c.in_ok-part-2.ensures.same ∙ ap hold c.in_ok-part.ensures.same) c.in_ok-bracket.ensures.reads)) (as_marks (ap (λ b. args_outline b.1) c.in_ok-part-2.ensures.same) (got args_outline (phrase phrases.args ∷ []) c.in_ok-part.ensures.read c.args-args.ensures.reads))) c.in_ok-part-2.ensures.reads)
+
+pub line-returns-clause-shorter : goal.line-returns-clause-shorter
+line-returns-clause-shorter t c = omega (arith, c.in_ok-bracket.ensures.shorter, shortened c.in_ok-part.ensures.read c.args-args.ensures.shorter, c.in_ok-part-2.ensures.shorter)

@@ -1,10 +1,12 @@
 use Rattle.std.proofs.Common.{rules, arith, refl, sym, ap, drop, append_assoc, Some, ◌∙◌, ◌++◌, ◌∷◌, []}
 use Rattle.std.specs.List.{flat_map}
-use Rattle.hera_syntax.specs.Grammar.{phrase}
+use Rattle.hera_syntax.specs.Grammar.{phrase, keep, leave, word}
 use Rattle.hera_syntax.specs.Grammar as phrases
 use Rattle.hera_syntax.specs.Outline.{expr_outline, hold, node, skip}
-use Rattle.hera_syntax.specs.Programs.{block_outline, else_if_row, last_else, stmt_row}
-use Rattle.hera_parser.proofs.Steps.{choose, next, next_choose, stops, join, idle, as_marks, rows_first, rows_start, rows_more, before, stops_list}
+use Rattle.hera_syntax.specs.Programs.{block_outline, else_if_row, last_else, stmt_outline, stmt_row}
+use Rattle.hera_parser.specs.Pieces.{else_if_rest}
+use Rattle.hera_parser.proofs.Steps.{choose, next, next_choose, stops, stops_list, join, idle, before, as_marks, rows_first, rows_more, items_start, items_more}
+use Rattle.hera_parser.proofs.Joined.{got, shortened}
 use Rattle.hera_parser.proofs.Choices.{told, other}
 use Rattle.hera_parser.proofs.parser.Parser.+stmt.Goals as goal
 
@@ -12,22 +14,22 @@ pub block-returns-in_err-bracket-clause-sticks : goal.block-returns-in_err-brack
 block-returns-in_err-bracket-clause-sticks t c h = stops (choose phrases.block 0 (record { number = refl })) (c.in_err-bracket.ensures.sticks (search rules))
 
 pub block-stmts-init : goal.block-stmts-init
-block-stmts-init t c = record { reads = rows_start stmt_row (next (choose phrases.block 0 (record { number = refl })) c.in_ok-bracket.ensures.reads) c.new-stmts.ensures.items; shorter = search rules }
+block-stmts-init t c = record { reads = items_start hold stmt_row (node phrases.block 0) (next (choose phrases.block 0 (record { number = refl })) c.in_ok-bracket.ensures.reads) c.new-items.ensures.first c.new-items.ensures.alone; shorter = search rules }
 
-pub block-returns-in_err-stmt-clause-sticks : goal.block-returns-in_err-stmt-clause-sticks
-block-returns-in_err-stmt-clause-sticks t c h = stops (join c.stmts.invariant.reads (next_choose 0 idle (told phrases.stmts 0 refl (sym c.next_is.ensures ∙ c.stmts-test.true)))) (c.in_err-stmt.ensures.sticks (search rules))
+pub block-returns-in_err-both-clause-sticks : goal.block-returns-in_err-both-clause-sticks
+block-returns-in_err-both-clause-sticks t c h = stops (join c.stmts.invariant.reads (next_choose 0 idle (told phrases.stmts 0 refl (sym c.next_is.ensures ∙ c.stmts-test.true)))) (c.stmt-stmt.ensures.sticks (c.in_err-both.ensures.stops (search rules)))
 
 pub block-stmts-preserved : goal.block-stmts-preserved
 block-stmts-preserved t c = record {
-  reads = rows_more stmt_row (node phrases.block 0 ++ hold c.in_ok-bracket.bracket) c.stmts.stmts.items c.in_ok-stmt.stmt c.stmts.invariant.reads (next (next_choose 0 idle (told phrases.stmts 0 refl (sym c.next_is.ensures ∙ c.stmts-test.true))) c.in_ok-stmt.ensures.reads) c.in_ok-stmts.ensures;
-  shorter = omega (arith, c.stmts.invariant.shorter, c.in_ok-stmt.ensures.shorter);
+  reads = items_more hold stmt_row (node phrases.block 0) c.stmts.items.rest.items c.in_ok-both.both.1 c.stmts.invariant.reads (next (next_choose 0 idle (told phrases.stmts 0 refl (sym c.next_is.ensures ∙ c.stmts-test.true))) (got stmt_outline (phrase phrases.stmt ∷ []) c.in_ok-both.ensures.read c.stmt-stmt.ensures.reads)) (c.in_ok-items.ensures.first ∙ ap (λ i. i.first) c.in_ok-both.ensures.same) (c.in_ok-items.ensures.one_more ∙ ap (λ i. i.rest.items ++ c.in_ok-both.both.1 ∷ []) c.in_ok-both.ensures.same);
+  shorter = omega (arith, c.stmts.invariant.shorter, shortened c.in_ok-both.ensures.read c.stmt-stmt.ensures.shorter);
 }
 
 pub block-returns-in_err-all-clause-sticks : goal.block-returns-in_err-all-clause-sticks
 block-returns-in_err-all-clause-sticks t c h = stops (next_choose 1 c.stmts.invariant.reads (other phrases.stmts ((sym c.next_is.ensures ∙ c.stmts-test.false), tt))) (c.in_err-all.ensures.sticks (search rules))
 
 pub block-returns-clause-reads : goal.block-returns-clause-reads
-block-returns-clause-reads t c = as_marks (c.new.ensures ∙ ap (λ s. node phrases.block 0 ++ hold c.in_ok-bracket.bracket ++ flat_map stmt_row s.items ++ node phrases.stmts 1 ++ skip phrases.close_brace) c.in_ok-all.ensures.same) (next (next_choose 1 c.stmts.invariant.reads (other phrases.stmts ((sym c.next_is.ensures ∙ c.stmts-test.false), tt))) c.in_ok-all.ensures.reads)
+block-returns-clause-reads t c = as_marks (c.new.ensures ∙ ap (λ i. node phrases.block 0 ++ hold i.first ++ flat_map stmt_row i.rest.items ++ node phrases.stmts 1 ++ skip phrases.close_brace) c.in_ok-all.ensures.same) (next (next_choose 1 c.stmts.invariant.reads (other phrases.stmts ((sym c.next_is.ensures ∙ c.stmts-test.false), tt))) c.in_ok-all.ensures.reads)
 
 pub stmt-declare-requires : goal.stmt-declare-requires
 stmt-declare-requires t c = (told phrases.stmt 0 refl (sym c.next_is.ensures ∙ c.if-next_is.true))
@@ -65,20 +67,23 @@ stmt-give_back-requires t c = (other phrases.stmt (sym c.next_is.ensures ∙ c.i
 pub guarded-returns-in_err-word-clause-sticks : goal.guarded-returns-in_err-word-clause-sticks
 guarded-returns-in_err-word-clause-sticks t c h = stops idle (c.in_err-word.ensures.sticks (search rules))
 
-pub guarded-returns-in_err-bracket-clause-sticks : goal.guarded-returns-in_err-bracket-clause-sticks
-guarded-returns-in_err-bracket-clause-sticks t c h = stops (next idle c.in_ok-word.ensures.reads) (c.in_err-bracket.ensures.sticks (search rules))
+pub guarded-returns-in_err-head-clause-sticks : goal.guarded-returns-in_err-head-clause-sticks
+guarded-returns-in_err-head-clause-sticks t c h = stops (next idle c.in_ok-word.ensures.reads) (c.in_err-head.ensures.sticks (search rules))
 
-pub guarded-returns-in_err-condition-clause-sticks : goal.guarded-returns-in_err-condition-clause-sticks
-guarded-returns-in_err-condition-clause-sticks t c h = stops (next (next idle c.in_ok-word.ensures.reads) c.in_ok-bracket.ensures.reads) (c.in_err-condition.ensures.sticks (search rules))
+pub guarded-returns-in_err-part-clause-sticks : goal.guarded-returns-in_err-part-clause-sticks
+guarded-returns-in_err-part-clause-sticks t c h = stops (next (next idle c.in_ok-word.ensures.reads) c.in_ok-head.ensures.reads) (c.expr-condition.ensures.sticks (c.in_err-part.ensures.stops (search rules)))
 
-pub guarded-returns-in_err-condition-2-clause-sticks : goal.guarded-returns-in_err-condition-2-clause-sticks
-guarded-returns-in_err-condition-2-clause-sticks t c h = stops (next (next (next idle c.in_ok-word.ensures.reads) c.in_ok-bracket.ensures.reads) c.in_ok-condition.ensures.reads) (c.in_err-condition-2.ensures.sticks (search rules))
+pub guarded-returns-in_err-part-2-clause-sticks : goal.guarded-returns-in_err-part-2-clause-sticks
+guarded-returns-in_err-part-2-clause-sticks t c h = stops (next (next (next idle c.in_ok-word.ensures.reads) c.in_ok-head.ensures.reads) (got expr_outline (phrase phrases.expr ∷ []) c.in_ok-part.ensures.read c.expr-condition.ensures.reads)) (c.in_err-part-2.ensures.sticks (search rules))
 
-pub guarded-returns-in_err-block-clause-sticks : goal.guarded-returns-in_err-block-clause-sticks
-guarded-returns-in_err-block-clause-sticks t c h = stops (next (next (next (next idle c.in_ok-word.ensures.reads) c.in_ok-bracket.ensures.reads) c.in_ok-condition.ensures.reads) c.in_ok-condition-2.ensures.reads) (c.in_err-block.ensures.sticks (search rules))
+pub guarded-returns-in_err-part-3-clause-sticks : goal.guarded-returns-in_err-part-3-clause-sticks
+guarded-returns-in_err-part-3-clause-sticks t c h = stops (next (next (next (next idle c.in_ok-word.ensures.reads) c.in_ok-head.ensures.reads) (got expr_outline (phrase phrases.expr ∷ []) c.in_ok-part.ensures.read c.expr-condition.ensures.reads)) c.in_ok-part-2.ensures.reads) (c.block-block.ensures.sticks (c.in_err-part-3.ensures.stops (search rules)))
 
 pub guarded-returns-clause-reads : goal.guarded-returns-clause-reads
-guarded-returns-clause-reads t c = as_marks (ap (drop 3) c.new.ensures) (next (next (next (next (next idle c.in_ok-word.ensures.reads) c.in_ok-bracket.ensures.reads) (as_marks (ap expr_outline c.in_ok-condition-2.ensures.same) c.in_ok-condition.ensures.reads)) c.in_ok-condition-2.ensures.reads) c.in_ok-block.ensures.reads)
+guarded-returns-clause-reads t c = as_marks (ap (drop 3) c.new.ensures) (next (next (next (next (next idle (as_marks (ap (λ b. hold b.0.0) c.in_ok-part-3.ensures.same ∙ (ap (λ b. hold b.0.0) c.in_ok-part-2.ensures.same ∙ (ap (λ b. hold b.0) c.in_ok-part.ensures.same ∙ ap hold c.in_ok-head.ensures.same))) c.in_ok-word.ensures.reads)) (as_marks (ap (λ b. hold b.0.1) c.in_ok-part-3.ensures.same ∙ (ap (λ b. hold b.0.1) c.in_ok-part-2.ensures.same ∙ ap (λ b. hold b.1) c.in_ok-part.ensures.same)) c.in_ok-head.ensures.reads)) (as_marks (ap (λ b. expr_outline b.1) c.in_ok-part-3.ensures.same ∙ ap (λ b. expr_outline b.1) c.in_ok-part-2.ensures.same) (got expr_outline (phrase phrases.expr ∷ []) c.in_ok-part.ensures.read c.expr-condition.ensures.reads))) c.in_ok-part-2.ensures.reads) (got block_outline (phrase phrases.block ∷ []) c.in_ok-part-3.ensures.read c.block-block.ensures.reads))
+
+pub guarded-returns-clause-shorter : goal.guarded-returns-clause-shorter
+guarded-returns-clause-shorter t c = omega (arith, c.in_ok-word.ensures.shorter, c.in_ok-head.ensures.shorter, shortened c.in_ok-part.ensures.read c.expr-condition.ensures.shorter, c.in_ok-part-2.ensures.shorter, shortened c.in_ok-part-3.ensures.read c.block-block.ensures.shorter)
 
 pub repeat-returns-in_err-head-clause-sticks : goal.repeat-returns-in_err-head-clause-sticks
 repeat-returns-in_err-head-clause-sticks t c h = stops_list [] (choose phrases.stmt 3 c.requires) (c.in_err-head.ensures.sticks (search rules))
@@ -89,26 +94,29 @@ repeat-returns-clause-reads t c = as_marks c.repeat.ensures (join (choose phrase
 pub foreach-returns-in_err-word-clause-sticks : goal.foreach-returns-in_err-word-clause-sticks
 foreach-returns-in_err-word-clause-sticks t c h = stops (choose phrases.stmt 4 c.requires) (c.in_err-word.ensures.sticks (search rules))
 
-pub foreach-returns-in_err-bracket-clause-sticks : goal.foreach-returns-in_err-bracket-clause-sticks
-foreach-returns-in_err-bracket-clause-sticks t c h = stops (next (choose phrases.stmt 4 c.requires) c.in_ok-word.ensures.reads) (c.in_err-bracket.ensures.sticks (search rules))
+pub foreach-returns-in_err-head-clause-sticks : goal.foreach-returns-in_err-head-clause-sticks
+foreach-returns-in_err-head-clause-sticks t c h = stops (next (choose phrases.stmt 4 c.requires) c.in_ok-word.ensures.reads) (c.in_err-head.ensures.sticks (search rules))
 
-pub foreach-returns-in_err-name-clause-sticks : goal.foreach-returns-in_err-name-clause-sticks
-foreach-returns-in_err-name-clause-sticks t c h = stops (next (next (choose phrases.stmt 4 c.requires) c.in_ok-word.ensures.reads) c.in_ok-bracket.ensures.reads) (c.in_err-name.ensures.sticks (search rules))
+pub foreach-returns-in_err-head-2-clause-sticks : goal.foreach-returns-in_err-head-2-clause-sticks
+foreach-returns-in_err-head-2-clause-sticks t c h = stops (next (next (choose phrases.stmt 4 c.requires) c.in_ok-word.ensures.reads) c.in_ok-head.ensures.reads) (c.in_err-head-2.ensures.sticks (search rules))
 
-pub foreach-returns-in_err-skip-clause-sticks : goal.foreach-returns-in_err-skip-clause-sticks
-foreach-returns-in_err-skip-clause-sticks t c h = stops (next (next (next (choose phrases.stmt 4 c.requires) c.in_ok-word.ensures.reads) c.in_ok-bracket.ensures.reads) c.in_ok-name.ensures.reads) (c.in_err-skip.ensures.sticks (search rules))
+pub foreach-returns-in_err-head-3-clause-sticks : goal.foreach-returns-in_err-head-3-clause-sticks
+foreach-returns-in_err-head-3-clause-sticks t c h = stops (next (next (next (choose phrases.stmt 4 c.requires) c.in_ok-word.ensures.reads) c.in_ok-head.ensures.reads) c.in_ok-head-2.ensures.reads) (c.in_err-head-3.ensures.sticks (search rules))
 
-pub foreach-returns-in_err-over-clause-sticks : goal.foreach-returns-in_err-over-clause-sticks
-foreach-returns-in_err-over-clause-sticks t c h = stops (next (next (next (next (choose phrases.stmt 4 c.requires) c.in_ok-word.ensures.reads) c.in_ok-bracket.ensures.reads) c.in_ok-name.ensures.reads) c.in_ok-skip.ensures.reads) (c.in_err-over.ensures.sticks (search rules))
+pub foreach-returns-in_err-part-clause-sticks : goal.foreach-returns-in_err-part-clause-sticks
+foreach-returns-in_err-part-clause-sticks t c h = stops (next (next (next (next (choose phrases.stmt 4 c.requires) c.in_ok-word.ensures.reads) c.in_ok-head.ensures.reads) c.in_ok-head-2.ensures.reads) c.in_ok-head-3.ensures.reads) (c.expr-over.ensures.sticks (c.in_err-part.ensures.stops (search rules)))
 
-pub foreach-returns-in_err-over-2-clause-sticks : goal.foreach-returns-in_err-over-2-clause-sticks
-foreach-returns-in_err-over-2-clause-sticks t c h = stops (next (next (next (next (next (choose phrases.stmt 4 c.requires) c.in_ok-word.ensures.reads) c.in_ok-bracket.ensures.reads) c.in_ok-name.ensures.reads) c.in_ok-skip.ensures.reads) c.in_ok-over.ensures.reads) (c.in_err-over-2.ensures.sticks (search rules))
+pub foreach-returns-in_err-part-2-clause-sticks : goal.foreach-returns-in_err-part-2-clause-sticks
+foreach-returns-in_err-part-2-clause-sticks t c h = stops (next (next (next (next (next (choose phrases.stmt 4 c.requires) c.in_ok-word.ensures.reads) c.in_ok-head.ensures.reads) c.in_ok-head-2.ensures.reads) c.in_ok-head-3.ensures.reads) (got expr_outline (phrase phrases.expr ∷ []) c.in_ok-part.ensures.read c.expr-over.ensures.reads)) (c.in_err-part-2.ensures.sticks (search rules))
 
-pub foreach-returns-in_err-block-clause-sticks : goal.foreach-returns-in_err-block-clause-sticks
-foreach-returns-in_err-block-clause-sticks t c h = stops (next (next (next (next (next (next (choose phrases.stmt 4 c.requires) c.in_ok-word.ensures.reads) c.in_ok-bracket.ensures.reads) c.in_ok-name.ensures.reads) c.in_ok-skip.ensures.reads) c.in_ok-over.ensures.reads) c.in_ok-over-2.ensures.reads) (c.in_err-block.ensures.sticks (search rules))
+pub foreach-returns-in_err-part-3-clause-sticks : goal.foreach-returns-in_err-part-3-clause-sticks
+foreach-returns-in_err-part-3-clause-sticks t c h = stops (next (next (next (next (next (next (choose phrases.stmt 4 c.requires) c.in_ok-word.ensures.reads) c.in_ok-head.ensures.reads) c.in_ok-head-2.ensures.reads) c.in_ok-head-3.ensures.reads) (got expr_outline (phrase phrases.expr ∷ []) c.in_ok-part.ensures.read c.expr-over.ensures.reads)) c.in_ok-part-2.ensures.reads) (c.block-block.ensures.sticks (c.in_err-part-3.ensures.stops (search rules)))
 
 pub foreach-returns-clause-reads : goal.foreach-returns-clause-reads
-foreach-returns-clause-reads t c = as_marks c.foreach.ensures (next (next (next (next (next (next (next (choose phrases.stmt 4 c.requires) c.in_ok-word.ensures.reads) c.in_ok-bracket.ensures.reads) c.in_ok-name.ensures.reads) c.in_ok-skip.ensures.reads) (as_marks (ap expr_outline c.in_ok-over-2.ensures.same) c.in_ok-over.ensures.reads)) c.in_ok-over-2.ensures.reads) c.in_ok-block.ensures.reads)
+foreach-returns-clause-reads t c = as_marks c.foreach.ensures (next (next (next (next (next (next (next (choose phrases.stmt 4 c.requires) (as_marks (ap (λ b. hold b.0.0.0) c.in_ok-part-3.ensures.same ∙ (ap (λ b. hold b.0.0.0) c.in_ok-part-2.ensures.same ∙ (ap (λ b. hold b.0.0) c.in_ok-part.ensures.same ∙ (ap (λ b. hold b.0.0) c.in_ok-head-3.ensures.same ∙ (ap (λ b. hold b.0) c.in_ok-head-2.ensures.same ∙ ap hold c.in_ok-head.ensures.same))))) c.in_ok-word.ensures.reads)) (as_marks (ap (λ b. hold b.0.0.1) c.in_ok-part-3.ensures.same ∙ (ap (λ b. hold b.0.0.1) c.in_ok-part-2.ensures.same ∙ (ap (λ b. hold b.0.1) c.in_ok-part.ensures.same ∙ (ap (λ b. hold b.0.1) c.in_ok-head-3.ensures.same ∙ ap (λ b. hold b.1) c.in_ok-head-2.ensures.same)))) c.in_ok-head.ensures.reads)) (as_marks (ap (λ b. hold b.0.1) c.in_ok-part-3.ensures.same ∙ (ap (λ b. hold b.0.1) c.in_ok-part-2.ensures.same ∙ (ap (λ b. hold b.1) c.in_ok-part.ensures.same ∙ ap (λ b. hold b.1) c.in_ok-head-3.ensures.same))) c.in_ok-head-2.ensures.reads)) c.in_ok-head-3.ensures.reads) (as_marks (ap (λ b. expr_outline b.1) c.in_ok-part-3.ensures.same ∙ ap (λ b. expr_outline b.1) c.in_ok-part-2.ensures.same) (got expr_outline (phrase phrases.expr ∷ []) c.in_ok-part.ensures.read c.expr-over.ensures.reads))) c.in_ok-part-2.ensures.reads) (got block_outline (phrase phrases.block ∷ []) c.in_ok-part-3.ensures.read c.block-block.ensures.reads))
+
+pub foreach-returns-clause-shorter : goal.foreach-returns-clause-shorter
+foreach-returns-clause-shorter t c = omega (arith, c.in_ok-word.ensures.shorter, c.in_ok-head.ensures.shorter, c.in_ok-head-2.ensures.shorter, c.in_ok-head-3.ensures.shorter, shortened c.in_ok-part.ensures.read c.expr-over.ensures.shorter, c.in_ok-part-2.ensures.shorter, shortened c.in_ok-part-3.ensures.read c.block-block.ensures.shorter)
 
 pub elses-elses-init : goal.elses-elses-init
 elses-elses-init t c = record { reads = rows_first else_if_row c.new-items.ensures.items; no_longer = search rules }
@@ -116,19 +124,19 @@ elses-elses-init t c = record { reads = rows_first else_if_row c.new-items.ensur
 pub elses-returns-in_err-before-clause-sticks : goal.elses-returns-in_err-before-clause-sticks
 elses-returns-in_err-before-clause-sticks t c h = stops (join c.elses.invariant.reads (next_choose 0 idle (told phrases.else_part 0 refl (sym c.next_is.ensures ∙ c.elses-test.true)))) (c.in_err-before.ensures.sticks (search rules))
 
-pub elses-returns-in_err-last-clause-sticks : goal.elses-returns-in_err-last-clause-sticks
-elses-returns-in_err-last-clause-sticks t c h = stops (join c.elses.invariant.reads (next_choose 1 (next (next_choose 0 idle (told phrases.else_part 0 refl (sym c.next_is.ensures ∙ c.elses-test.true))) c.in_ok-before.ensures.reads) (other phrases.after_else ((sym c.next_is-in-elses.ensures ∙ c.if-not-next_is.true), tt)))) (c.in_err-last.ensures.sticks (search rules))
+pub elses-returns-in_err-end-clause-sticks : goal.elses-returns-in_err-end-clause-sticks
+elses-returns-in_err-end-clause-sticks t c h = stops (join c.elses.invariant.reads (next_choose 1 (next (next_choose 0 idle (told phrases.else_part 0 refl (sym c.next_is.ensures ∙ c.elses-test.true))) c.in_ok-before.ensures.reads) (other phrases.after_else ((sym c.next_is-in-elses.ensures ∙ c.if-not-next_is.true), tt)))) (c.block-last.ensures.sticks (c.in_err-end.ensures.stops (search rules)))
 
 pub elses-returns-then-not-next_is-clause-reads : goal.elses-returns-then-not-next_is-clause-reads
-elses-returns-then-not-next_is-clause-reads t c = as_marks (ap (λ v. flat_map else_if_row v.items ++ last_else (Some c.in_ok-last.last)) c.in_ok-before.ensures.same) (join c.elses.invariant.reads (next (next_choose 1 (next (next_choose 0 idle (told phrases.else_part 0 refl (sym c.next_is.ensures ∙ c.elses-test.true))) c.in_ok-before.ensures.reads) (other phrases.after_else ((sym c.next_is-in-elses.ensures ∙ c.if-not-next_is.true), tt))) c.in_ok-last.ensures.reads))
+elses-returns-then-not-next_is-clause-reads t c = as_marks (ap (λ v. flat_map else_if_row v.items ++ last_else (Some c.in_ok-end.end.1)) (c.in_ok-end.ensures.same ∙ c.in_ok-before.ensures.same)) (join c.elses.invariant.reads (next (next_choose 1 (next (next_choose 0 idle (told phrases.else_part 0 refl (sym c.next_is.ensures ∙ c.elses-test.true))) c.in_ok-before.ensures.reads) (other phrases.after_else ((sym c.next_is-in-elses.ensures ∙ c.if-not-next_is.true), tt))) (got block_outline (phrase phrases.block ∷ []) c.in_ok-end.ensures.read c.block-last.ensures.reads)))
 
-pub elses-returns-in_err-item-clause-sticks : goal.elses-returns-in_err-item-clause-sticks
-elses-returns-in_err-item-clause-sticks t c h = stops_list (phrase phrases.else_part ∷ []) (join c.elses.invariant.reads (next_choose 0 (next (next_choose 0 idle (told phrases.else_part 0 refl (sym c.next_is.ensures ∙ c.elses-test.true))) c.in_ok-before.ensures.reads) (told phrases.after_else 0 refl (sym c.next_is-in-elses.ensures ∙ c.if-not-next_is.false)))) (c.in_err-item.ensures.sticks (search rules))
+pub elses-returns-in_err-both-clause-sticks : goal.elses-returns-in_err-both-clause-sticks
+elses-returns-in_err-both-clause-sticks t c h = stops_list (phrase phrases.else_part ∷ []) (join c.elses.invariant.reads (next_choose 0 (next (next_choose 0 idle (told phrases.else_part 0 refl (sym c.next_is.ensures ∙ c.elses-test.true))) c.in_ok-before.ensures.reads) (told phrases.after_else 0 refl (sym c.next_is-in-elses.ensures ∙ c.if-not-next_is.false)))) (c.guarded-item.ensures.sticks (c.in_err-both.ensures.stops (search rules)))
 
 pub elses-elses-preserved : goal.elses-elses-preserved
 elses-elses-preserved t c = record {
-  reads = rows_more else_if_row [] c.elses.items.items c.in_ok-item.item c.elses.invariant.reads (join (next_choose 0 (next (next_choose 0 idle (told phrases.else_part 0 refl (sym c.next_is.ensures ∙ c.elses-test.true))) c.in_ok-before.ensures.reads) (told phrases.after_else 0 refl (sym c.next_is-in-elses.ensures ∙ c.if-not-next_is.false))) (before (phrase phrases.else_part ∷ []) c.in_ok-item.ensures.reads)) (c.in_ok-items.ensures ∙ ap (λ v. v.items ++ c.in_ok-item.item ∷ []) c.in_ok-before.ensures.same);
-  no_longer = omega (arith, c.elses.invariant.no_longer, c.in_ok-before.ensures.shorter, c.in_ok-item.ensures.shorter);
+  reads = rows_more else_if_row [] c.elses.items.items c.in_ok-both.both.1 c.elses.invariant.reads (join (next_choose 0 (next (next_choose 0 idle (told phrases.else_part 0 refl (sym c.next_is.ensures ∙ c.elses-test.true))) c.in_ok-before.ensures.reads) (told phrases.after_else 0 refl (sym c.next_is-in-elses.ensures ∙ c.if-not-next_is.false))) (before (phrase phrases.else_part ∷ []) (got else_if_rest (keep (word 10 ∷ []) ∷ keep phrases.paren ∷ phrase phrases.expr ∷ leave phrases.close_paren ∷ phrase phrases.block ∷ []) c.in_ok-both.ensures.read c.guarded-item.ensures.reads))) (c.in_ok-items.ensures ∙ ap (λ v. v.items ++ c.in_ok-both.both.1 ∷ []) (c.in_ok-both.ensures.same ∙ c.in_ok-before.ensures.same));
+  no_longer = omega (arith, c.elses.invariant.no_longer, c.in_ok-before.ensures.shorter, shortened c.in_ok-both.ensures.read c.guarded-item.ensures.shorter);
 }
 
 pub elses-returns-clause-reads : goal.elses-returns-clause-reads
@@ -138,7 +146,7 @@ pub branch-returns-in_err-head-clause-sticks : goal.branch-returns-in_err-head-c
 branch-returns-in_err-head-clause-sticks t c h = stops_list (phrase phrases.else_part ∷ []) (choose phrases.stmt 2 c.requires) (c.in_err-head.ensures.sticks (search rules))
 
 pub branch-returns-in_err-both-clause-sticks : goal.branch-returns-in_err-both-clause-sticks
-branch-returns-in_err-both-clause-sticks t c h = stops (join (choose phrases.stmt 2 c.requires) (before (phrase phrases.else_part ∷ []) c.in_ok-head.ensures.reads)) (c.in_err-both.ensures.sticks (search rules))
+branch-returns-in_err-both-clause-sticks t c h = stops (join (choose phrases.stmt 2 c.requires) (before (phrase phrases.else_part ∷ []) c.in_ok-head.ensures.reads)) (c.elses-rest.ensures.sticks (c.in_err-both.ensures.stops (search rules)))
 
 pub branch-returns-clause-reads : goal.branch-returns-clause-reads
-branch-returns-clause-reads t c = as_marks (c.branch-word.ensures ∙ append_assoc (node phrases.stmt 2 ++ hold c.in_ok-head.head.word ++ hold c.in_ok-head.head.bracket ++ expr_outline c.in_ok-head.head.condition ++ skip phrases.close_paren ++ block_outline c.in_ok-head.head.block) (flat_map else_if_row c.in_ok-both.both.0.items) (last_else c.in_ok-both.both.1)) (join (join (choose phrases.stmt 2 c.requires) (before (phrase phrases.else_part ∷ []) c.in_ok-head.ensures.reads)) c.in_ok-both.ensures.reads)
+branch-returns-clause-reads t c = as_marks (c.branch-word.ensures ∙ append_assoc (node phrases.stmt 2 ++ hold c.in_ok-both.both.0.word ++ hold c.in_ok-both.both.0.bracket ++ expr_outline c.in_ok-both.both.0.condition ++ skip phrases.close_paren ++ block_outline c.in_ok-both.both.0.block) (flat_map else_if_row c.in_ok-both.both.1.0.items) (last_else c.in_ok-both.both.1.1)) (join (join (choose phrases.stmt 2 c.requires) (before (phrase phrases.else_part ∷ []) (as_marks (ap else_if_rest c.in_ok-both.ensures.same) c.in_ok-head.ensures.reads))) (got (λ o. flat_map else_if_row o.0.items ++ last_else o.1) (phrase phrases.else_part ∷ []) c.in_ok-both.ensures.read c.elses-rest.ensures.reads))

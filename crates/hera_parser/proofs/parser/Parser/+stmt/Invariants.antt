@@ -12,7 +12,7 @@ decreases-block l = 64 * length l.self.now + 3
 
 abbrev pub invariant-block-stmts : goal.invariant-block-stmts
 invariant-block-stmts l = record {
-  reads : Gives (phrase phrases.block ∷ []) l.fn.self (node phrases.block 0 ++ hold l.bracket ++ flat_map stmt_row l.stmts.items) (phrase phrases.stmts ∷ leave phrases.close_brace ∷ []) l.self;
+  reads : Gives (phrase phrases.block ∷ []) l.fn.self (node phrases.block 0 ++ hold l.items.first ++ flat_map stmt_row l.items.rest.items) (phrase phrases.stmts ∷ leave phrases.close_brace ∷ []) l.self;
   shorter : length l.self < length l.fn.self;
 }
 

@@ -1,7 +1,9 @@
-use Rattle.std.proofs.Common.{rules, arith, refl, sym, ◌∙◌, ◌++◌}
+use Rattle.std.proofs.Common.{rules, arith, refl, sym, ap, ◌∙◌, ◌++◌, ◌∷◌, []}
+use Rattle.hera_syntax.specs.Grammar.{phrase}
 use Rattle.hera_syntax.specs.Grammar as phrases
 use Rattle.hera_syntax.specs.Outline.{agg_row, named_agg_outline, node}
-use Rattle.hera_parser.proofs.Steps.{choose, next, next_choose, stops, join, idle, as_marks, rows_start, rows_more}
+use Rattle.hera_parser.proofs.Steps.{choose, next, next_choose, stops, join, idle, as_marks, items_start, items_more}
+use Rattle.hera_parser.proofs.Joined.{got, shortened}
 use Rattle.hera_parser.proofs.Choices.{told, other}
 use Rattle.hera_parser.proofs.parser.Parser.aggs.Goals as goal
 
@@ -9,19 +11,18 @@ pub returns-in_err-first-clause-sticks : goal.returns-in_err-first-clause-sticks
 returns-in_err-first-clause-sticks c h = stops (choose phrases.aggs 0 (record { number = refl })) (c.in_err-first.ensures.sticks (search rules))
 
 pub rest-init : goal.rest-init
-rest-init c = record { reads = rows_start agg_row (next (choose phrases.aggs 0 (record { number = refl })) c.in_ok-first.ensures.reads) c.new-rest.ensures.items; shorter = search rules }
+rest-init c = record { reads = items_start named_agg_outline agg_row (node phrases.aggs 0) (next (choose phrases.aggs 0 (record { number = refl })) c.in_ok-first.ensures.reads) c.new-items.ensures.first c.new-items.ensures.alone; shorter = search rules }
 
-pub returns-in_err-skip-clause-sticks : goal.returns-in_err-skip-clause-sticks
-returns-in_err-skip-clause-sticks c h = stops (join c.rest.invariant.reads (next_choose 0 idle (told phrases.more_aggs 0 refl (sym c.next_is.ensures ∙ c.rest-test.true)))) (c.in_err-skip.ensures.sticks (search rules))
+pub returns-in_err-before-clause-sticks : goal.returns-in_err-before-clause-sticks
+returns-in_err-before-clause-sticks c h = stops (join c.rest.invariant.reads (next_choose 0 idle (told phrases.more_aggs 0 refl (sym c.next_is.ensures ∙ c.rest-test.true)))) (c.in_err-before.ensures.sticks (search rules))
 
-pub returns-in_err-item-clause-sticks : goal.returns-in_err-item-clause-sticks
-returns-in_err-item-clause-sticks c h = stops (next (join c.rest.invariant.reads (next_choose 0 idle (told phrases.more_aggs 0 refl (sym c.next_is.ensures ∙ c.rest-test.true)))) c.in_ok-skip.ensures.reads) (c.in_err-item.ensures.sticks (search rules))
+pub returns-in_err-both-clause-sticks : goal.returns-in_err-both-clause-sticks
+returns-in_err-both-clause-sticks c h = stops (next (join c.rest.invariant.reads (next_choose 0 idle (told phrases.more_aggs 0 refl (sym c.next_is.ensures ∙ c.rest-test.true)))) c.in_ok-before.ensures.reads) (c.named_agg-item.ensures.sticks (c.in_err-both.ensures.stops (search rules)))
 
 pub rest-preserved : goal.rest-preserved
 rest-preserved c = record {
-  reads = rows_more agg_row (node phrases.aggs 0 ++ named_agg_outline c.in_ok-first.first) c.rest.rest.items c.in_ok-item.item c.rest.invariant.reads
-      (next (next (next_choose 0 idle (told phrases.more_aggs 0 refl (sym c.next_is.ensures ∙ c.rest-test.true))) c.in_ok-skip.ensures.reads) c.in_ok-item.ensures.reads) c.in_ok-push.ensures.items;
-  shorter = omega (arith, c.rest.invariant.shorter, c.in_ok-skip.ensures.shorter, c.in_ok-item.ensures.shorter);
+  reads = items_more named_agg_outline agg_row (node phrases.aggs 0) c.rest.items.rest.items c.in_ok-both.both.1 c.rest.invariant.reads (next (next (next_choose 0 idle (told phrases.more_aggs 0 refl (sym c.next_is.ensures ∙ c.rest-test.true))) c.in_ok-before.ensures.reads) (got named_agg_outline (phrase phrases.named_agg ∷ []) c.in_ok-both.ensures.read c.named_agg-item.ensures.reads)) (c.in_ok-items.ensures.first ∙ ap (λ i. i.first) (c.in_ok-both.ensures.same ∙ c.in_ok-before.ensures.same)) (c.in_ok-items.ensures.one_more ∙ ap (λ i. i.rest.items ++ c.in_ok-both.both.1 ∷ []) (c.in_ok-both.ensures.same ∙ c.in_ok-before.ensures.same));
+  shorter = omega (arith, c.rest.invariant.shorter, c.in_ok-before.ensures.shorter, shortened c.in_ok-both.ensures.read c.named_agg-item.ensures.shorter);
 }
 
 pub returns-clause-reads : goal.returns-clause-reads

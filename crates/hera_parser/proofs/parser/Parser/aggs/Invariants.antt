@@ -8,7 +8,7 @@ use Rattle.hera_parser.proofs.parser.Parser.aggs.Given as goal
 
 abbrev pub invariant-rest : goal.invariant-rest
 invariant-rest l = record {
-  reads : Gives (phrase phrases.aggs ∷ []) l.fn.self (node phrases.aggs 0 ++ named_agg_outline l.first ++ flat_map agg_row l.rest.items) (phrase phrases.more_aggs ∷ []) l.self;
+  reads : Gives (phrase phrases.aggs ∷ []) l.fn.self (node phrases.aggs 0 ++ named_agg_outline l.items.first ++ flat_map agg_row l.items.rest.items) (phrase phrases.more_aggs ∷ []) l.self;
   shorter : length l.self < length l.fn.self;
 }
 

@@ -1,8 +1,10 @@
-use Rattle.std.proofs.Common.{rules, arith, refl, sym, ◌∙◌, ◌++◌}
+use Rattle.std.proofs.Common.{rules, arith, refl, sym, ap, ◌∙◌, ◌++◌, ◌∷◌, []}
+use Rattle.hera_syntax.specs.Grammar.{phrase}
 use Rattle.hera_syntax.specs.Grammar as phrases
 use Rattle.hera_syntax.specs.Outline.{node}
 use Rattle.hera_syntax.specs.Programs.{attr_outline, attr_row}
-use Rattle.hera_parser.proofs.Steps.{choose, next, next_choose, stops, join, idle, as_marks, rows_start, rows_more}
+use Rattle.hera_parser.proofs.Steps.{choose, next, next_choose, stops, join, idle, as_marks, items_start, items_more}
+use Rattle.hera_parser.proofs.Joined.{got, shortened}
 use Rattle.hera_parser.proofs.Choices.{told, other}
 use Rattle.hera_parser.proofs.parser.Parser.attrs.Goals as goal
 
@@ -10,19 +12,18 @@ pub returns-in_err-first-clause-sticks : goal.returns-in_err-first-clause-sticks
 returns-in_err-first-clause-sticks c h = stops (choose phrases.attrs 0 (record { number = refl })) (c.in_err-first.ensures.sticks (search rules))
 
 pub rest-init : goal.rest-init
-rest-init c = record { reads = rows_start attr_row (next (choose phrases.attrs 0 (record { number = refl })) c.in_ok-first.ensures.reads) c.new-rest.ensures.items; shorter = search rules }
+rest-init c = record { reads = items_start attr_outline attr_row (node phrases.attrs 0) (next (choose phrases.attrs 0 (record { number = refl })) c.in_ok-first.ensures.reads) c.new-items.ensures.first c.new-items.ensures.alone; shorter = search rules }
 
-pub returns-in_err-skip-clause-sticks : goal.returns-in_err-skip-clause-sticks
-returns-in_err-skip-clause-sticks c h = stops (join c.rest.invariant.reads (next_choose 0 idle (told phrases.more_attrs 0 refl (sym c.next_is.ensures ∙ c.rest-test.true)))) (c.in_err-skip.ensures.sticks (search rules))
+pub returns-in_err-before-clause-sticks : goal.returns-in_err-before-clause-sticks
+returns-in_err-before-clause-sticks c h = stops (join c.rest.invariant.reads (next_choose 0 idle (told phrases.more_attrs 0 refl (sym c.next_is.ensures ∙ c.rest-test.true)))) (c.in_err-before.ensures.sticks (search rules))
 
-pub returns-in_err-item-clause-sticks : goal.returns-in_err-item-clause-sticks
-returns-in_err-item-clause-sticks c h = stops (next (join c.rest.invariant.reads (next_choose 0 idle (told phrases.more_attrs 0 refl (sym c.next_is.ensures ∙ c.rest-test.true)))) c.in_ok-skip.ensures.reads) (c.in_err-item.ensures.sticks (search rules))
+pub returns-in_err-both-clause-sticks : goal.returns-in_err-both-clause-sticks
+returns-in_err-both-clause-sticks c h = stops (next (join c.rest.invariant.reads (next_choose 0 idle (told phrases.more_attrs 0 refl (sym c.next_is.ensures ∙ c.rest-test.true)))) c.in_ok-before.ensures.reads) (c.attr-item.ensures.sticks (c.in_err-both.ensures.stops (search rules)))
 
 pub rest-preserved : goal.rest-preserved
 rest-preserved c = record {
-  reads = rows_more attr_row (node phrases.attrs 0 ++ attr_outline c.in_ok-first.first) c.rest.rest.items c.in_ok-item.item c.rest.invariant.reads
-      (next (next (next_choose 0 idle (told phrases.more_attrs 0 refl (sym c.next_is.ensures ∙ c.rest-test.true))) c.in_ok-skip.ensures.reads) c.in_ok-item.ensures.reads) c.in_ok-push.ensures.items;
-  shorter = omega (arith, c.rest.invariant.shorter, c.in_ok-skip.ensures.shorter, c.in_ok-item.ensures.shorter);
+  reads = items_more attr_outline attr_row (node phrases.attrs 0) c.rest.items.rest.items c.in_ok-both.both.1 c.rest.invariant.reads (next (next (next_choose 0 idle (told phrases.more_attrs 0 refl (sym c.next_is.ensures ∙ c.rest-test.true))) c.in_ok-before.ensures.reads) (got attr_outline (phrase phrases.attr ∷ []) c.in_ok-both.ensures.read c.attr-item.ensures.reads)) (c.in_ok-items.ensures.first ∙ ap (λ i. i.first) (c.in_ok-both.ensures.same ∙ c.in_ok-before.ensures.same)) (c.in_ok-items.ensures.one_more ∙ ap (λ i. i.rest.items ++ c.in_ok-both.both.1 ∷ []) (c.in_ok-both.ensures.same ∙ c.in_ok-before.ensures.same));
+  shorter = omega (arith, c.rest.invariant.shorter, c.in_ok-before.ensures.shorter, shortened c.in_ok-both.ensures.read c.attr-item.ensures.shorter);
 }
 
 pub returns-clause-reads : goal.returns-clause-reads

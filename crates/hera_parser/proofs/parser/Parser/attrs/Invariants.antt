@@ -9,7 +9,7 @@ use Rattle.hera_parser.proofs.parser.Parser.attrs.Given as goal
 
 abbrev pub invariant-rest : goal.invariant-rest
 invariant-rest l = record {
-  reads : Gives (phrase phrases.attrs ∷ []) l.fn.self (node phrases.attrs 0 ++ attr_outline l.first ++ flat_map attr_row l.rest.items) (phrase phrases.more_attrs ∷ []) l.self;
+  reads : Gives (phrase phrases.attrs ∷ []) l.fn.self (node phrases.attrs 0 ++ attr_outline l.items.first ++ flat_map attr_row l.items.rest.items) (phrase phrases.more_attrs ∷ []) l.self;
   shorter : length l.self < length l.fn.self;
 }
 

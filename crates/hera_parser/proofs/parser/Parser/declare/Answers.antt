@@ -1,23 +1,29 @@
-use Rattle.std.proofs.Common.{rules, ap}
+use Rattle.std.proofs.Common.{rules, arith, ap, ◌∙◌, ◌∷◌, []}
+use Rattle.hera_syntax.specs.Grammar.{phrase}
 use Rattle.hera_syntax.specs.Grammar as phrases
-use Rattle.hera_syntax.specs.Outline.{expr_outline}
+use Rattle.hera_syntax.specs.Outline.{expr_outline, hold}
+use Rattle.hera_syntax.specs.Programs.{type_outline}
 use Rattle.hera_parser.proofs.Steps.{choose, next, stops, as_marks}
+use Rattle.hera_parser.proofs.Joined.{got, shortened}
 use Rattle.hera_parser.proofs.parser.Parser.declare.Goals as goal
 
 pub returns-in_err-type_tree-clause-sticks : goal.returns-in_err-type_tree-clause-sticks
 returns-in_err-type_tree-clause-sticks c h = stops (choose phrases.stmt 0 c.requires) (c.in_err-type_tree.ensures.sticks (search rules))
 
-pub returns-in_err-name-clause-sticks : goal.returns-in_err-name-clause-sticks
-returns-in_err-name-clause-sticks c h = stops (next (choose phrases.stmt 0 c.requires) c.in_ok-type_tree.ensures.reads) (c.in_err-name.ensures.sticks (search rules))
+pub returns-in_err-head-clause-sticks : goal.returns-in_err-head-clause-sticks
+returns-in_err-head-clause-sticks c h = stops (next (choose phrases.stmt 0 c.requires) c.in_ok-type_tree.ensures.reads) (c.in_err-head.ensures.sticks (search rules))
 
-pub returns-in_err-skip-clause-sticks : goal.returns-in_err-skip-clause-sticks
-returns-in_err-skip-clause-sticks c h = stops (next (next (choose phrases.stmt 0 c.requires) c.in_ok-type_tree.ensures.reads) c.in_ok-name.ensures.reads) (c.in_err-skip.ensures.sticks (search rules))
+pub returns-in_err-head-2-clause-sticks : goal.returns-in_err-head-2-clause-sticks
+returns-in_err-head-2-clause-sticks c h = stops (next (next (choose phrases.stmt 0 c.requires) c.in_ok-type_tree.ensures.reads) c.in_ok-head.ensures.reads) (c.in_err-head-2.ensures.sticks (search rules))
 
-pub returns-in_err-value-clause-sticks : goal.returns-in_err-value-clause-sticks
-returns-in_err-value-clause-sticks c h = stops (next (next (next (choose phrases.stmt 0 c.requires) c.in_ok-type_tree.ensures.reads) c.in_ok-name.ensures.reads) c.in_ok-skip.ensures.reads) (c.in_err-value.ensures.sticks (search rules))
+pub returns-in_err-part-clause-sticks : goal.returns-in_err-part-clause-sticks
+returns-in_err-part-clause-sticks c h = stops (next (next (next (choose phrases.stmt 0 c.requires) c.in_ok-type_tree.ensures.reads) c.in_ok-head.ensures.reads) c.in_ok-head-2.ensures.reads) (c.expr-value.ensures.sticks (c.in_err-part.ensures.stops (search rules)))
 
-pub returns-in_err-value-2-clause-sticks : goal.returns-in_err-value-2-clause-sticks
-returns-in_err-value-2-clause-sticks c h = stops (next (next (next (next (choose phrases.stmt 0 c.requires) c.in_ok-type_tree.ensures.reads) c.in_ok-name.ensures.reads) c.in_ok-skip.ensures.reads) c.in_ok-value.ensures.reads) (c.in_err-value-2.ensures.sticks (search rules))
+pub returns-in_err-part-2-clause-sticks : goal.returns-in_err-part-2-clause-sticks
+returns-in_err-part-2-clause-sticks c h = stops (next (next (next (next (choose phrases.stmt 0 c.requires) c.in_ok-type_tree.ensures.reads) c.in_ok-head.ensures.reads) c.in_ok-head-2.ensures.reads) (got expr_outline (phrase phrases.expr ∷ []) c.in_ok-part.ensures.read c.expr-value.ensures.reads)) (c.in_err-part-2.ensures.sticks (search rules))
 
 pub returns-clause-reads : goal.returns-clause-reads
-returns-clause-reads c = as_marks c.declare.ensures (next (next (next (next (next (choose phrases.stmt 0 c.requires) c.in_ok-type_tree.ensures.reads) c.in_ok-name.ensures.reads) c.in_ok-skip.ensures.reads) (as_marks (ap expr_outline c.in_ok-value-2.ensures.same) c.in_ok-value.ensures.reads)) c.in_ok-value-2.ensures.reads)
+returns-clause-reads c = as_marks c.declare.ensures (next (next (next (next (next (choose phrases.stmt 0 c.requires) (as_marks (ap (λ b. type_outline b.0.0) c.in_ok-part-2.ensures.same ∙ (ap (λ b. type_outline b.0) c.in_ok-part.ensures.same ∙ (ap (λ b. type_outline b.0) c.in_ok-head-2.ensures.same ∙ ap type_outline c.in_ok-head.ensures.same))) c.in_ok-type_tree.ensures.reads)) (as_marks (ap (λ b. hold b.0.1) c.in_ok-part-2.ensures.same ∙ (ap (λ b. hold b.1) c.in_ok-part.ensures.same ∙ ap (λ b. hold b.1) c.in_ok-head-2.ensures.same)) c.in_ok-head.ensures.reads)) c.in_ok-head-2.ensures.reads) (as_marks (ap (λ b. expr_outline b.1) c.in_ok-part-2.ensures.same) (got expr_outline (phrase phrases.expr ∷ []) c.in_ok-part.ensures.read c.expr-value.ensures.reads))) c.in_ok-part-2.ensures.reads)
+
+pub returns-clause-shorter : goal.returns-clause-shorter
+returns-clause-shorter c = omega (arith, c.in_ok-type_tree.ensures.shorter, c.in_ok-head.ensures.shorter, c.in_ok-head-2.ensures.shorter, shortened c.in_ok-part.ensures.read c.expr-value.ensures.shorter, c.in_ok-part-2.ensures.shorter)

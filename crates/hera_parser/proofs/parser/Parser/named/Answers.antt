@@ -1,36 +1,41 @@
-use Rattle.std.proofs.Common.{rules, refl, sym, ap, ◌∙◌}
+use Rattle.std.proofs.Common.{rules, arith, refl, sym, ap, ◌∙◌, ◌∷◌, []}
+use Rattle.hera_syntax.specs.Grammar.{phrase}
 use Rattle.hera_syntax.specs.Grammar as phrases
-use Rattle.hera_syntax.specs.Outline.{some_args_outline, expr_outline}
+use Rattle.hera_syntax.specs.Outline.{expr_outline, hold, some_args_outline}
 use Rattle.hera_parser.proofs.Steps.{choose, next, next_choose, stops, as_marks}
+use Rattle.hera_parser.proofs.Joined.{got, not_longer}
 use Rattle.hera_parser.proofs.Choices.{told, other}
 use Rattle.hera_parser.proofs.parser.Parser.named.Goals as goal
 
 pub returns-in_err-name-clause-sticks : goal.returns-in_err-name-clause-sticks
 returns-in_err-name-clause-sticks c h = stops (choose phrases.stmt 1 c.requires) (c.in_err-name.ensures.sticks (search rules))
 
-pub returns-in_err-skip-clause-sticks : goal.returns-in_err-skip-clause-sticks
-returns-in_err-skip-clause-sticks c h = stops (next_choose 0 (next (choose phrases.stmt 1 c.requires) c.in_ok-name.ensures.reads) (told phrases.named 0 refl (sym c.next_is.ensures ∙ c.if-next_is.true))) (c.in_err-skip.ensures.sticks (search rules))
+pub returns-in_err-target-clause-sticks : goal.returns-in_err-target-clause-sticks
+returns-in_err-target-clause-sticks c h = stops (next_choose 0 (next (choose phrases.stmt 1 c.requires) c.in_ok-name.ensures.reads) (told phrases.named 0 refl (sym c.next_is.ensures ∙ c.if-next_is.true))) (c.in_err-target.ensures.sticks (search rules))
 
-pub returns-in_err-value-clause-sticks : goal.returns-in_err-value-clause-sticks
-returns-in_err-value-clause-sticks c h = stops (next (next_choose 0 (next (choose phrases.stmt 1 c.requires) c.in_ok-name.ensures.reads) (told phrases.named 0 refl (sym c.next_is.ensures ∙ c.if-next_is.true))) c.in_ok-skip.ensures.reads) (c.in_err-value.ensures.sticks (search rules))
+pub returns-in_err-assigned-clause-sticks : goal.returns-in_err-assigned-clause-sticks
+returns-in_err-assigned-clause-sticks c h = stops (next (next_choose 0 (next (choose phrases.stmt 1 c.requires) c.in_ok-name.ensures.reads) (told phrases.named 0 refl (sym c.next_is.ensures ∙ c.if-next_is.true))) c.in_ok-target.ensures.reads) (c.expr-value.ensures.sticks (c.in_err-assigned.ensures.stops (search rules)))
 
-pub returns-in_err-value-2-clause-sticks : goal.returns-in_err-value-2-clause-sticks
-returns-in_err-value-2-clause-sticks c h = stops (next (next (next_choose 0 (next (choose phrases.stmt 1 c.requires) c.in_ok-name.ensures.reads) (told phrases.named 0 refl (sym c.next_is.ensures ∙ c.if-next_is.true))) c.in_ok-skip.ensures.reads) c.in_ok-value.ensures.reads) (c.in_err-value-2.ensures.sticks (search rules))
+pub returns-in_err-assigned-2-clause-sticks : goal.returns-in_err-assigned-2-clause-sticks
+returns-in_err-assigned-2-clause-sticks c h = stops (next (next (next_choose 0 (next (choose phrases.stmt 1 c.requires) c.in_ok-name.ensures.reads) (told phrases.named 0 refl (sym c.next_is.ensures ∙ c.if-next_is.true))) c.in_ok-target.ensures.reads) (got expr_outline (phrase phrases.expr ∷ []) c.in_ok-assigned.ensures.read c.expr-value.ensures.reads)) (c.in_err-assigned-2.ensures.sticks (search rules))
 
 pub returns-then-next_is-clause-reads : goal.returns-then-next_is-clause-reads
-returns-then-next_is-clause-reads c = as_marks c.assign.ensures (next (next (next (next_choose 0 (next (choose phrases.stmt 1 c.requires) c.in_ok-name.ensures.reads) (told phrases.named 0 refl (sym c.next_is.ensures ∙ c.if-next_is.true))) c.in_ok-skip.ensures.reads) (as_marks (ap expr_outline c.in_ok-value-2.ensures.same) c.in_ok-value.ensures.reads)) c.in_ok-value-2.ensures.reads)
+returns-then-next_is-clause-reads c = as_marks c.assign.ensures (next (next (next (next_choose 0 (next (choose phrases.stmt 1 c.requires) (as_marks (ap (λ b. hold b.0) c.in_ok-assigned-2.ensures.same ∙ (ap hold c.in_ok-assigned.ensures.same ∙ ap hold c.in_ok-target.ensures.same)) c.in_ok-name.ensures.reads)) (told phrases.named 0 refl (sym c.next_is.ensures ∙ c.if-next_is.true))) c.in_ok-target.ensures.reads) (as_marks (ap (λ b. expr_outline b.1) c.in_ok-assigned-2.ensures.same) (got expr_outline (phrase phrases.expr ∷ []) c.in_ok-assigned.ensures.read c.expr-value.ensures.reads))) c.in_ok-assigned-2.ensures.reads)
 
-pub returns-in_err-bracket-clause-sticks : goal.returns-in_err-bracket-clause-sticks
-returns-in_err-bracket-clause-sticks c h = stops (next_choose 1 (next (choose phrases.stmt 1 c.requires) c.in_ok-name.ensures.reads) (other phrases.named ((sym c.next_is.ensures ∙ c.if-next_is.false), tt))) (c.in_err-bracket.ensures.sticks (search rules))
+pub returns-in_err-head-clause-sticks : goal.returns-in_err-head-clause-sticks
+returns-in_err-head-clause-sticks c h = stops (next_choose 1 (next (choose phrases.stmt 1 c.requires) c.in_ok-name.ensures.reads) (other phrases.named ((sym c.next_is.ensures ∙ c.if-next_is.false), tt))) (c.in_err-head.ensures.sticks (search rules))
 
-pub returns-in_err-args-clause-sticks : goal.returns-in_err-args-clause-sticks
-returns-in_err-args-clause-sticks c h = stops (next (next_choose 1 (next (choose phrases.stmt 1 c.requires) c.in_ok-name.ensures.reads) (other phrases.named ((sym c.next_is.ensures ∙ c.if-next_is.false), tt))) c.in_ok-bracket.ensures.reads) (c.in_err-args.ensures.sticks (search rules))
+pub returns-in_err-part-clause-sticks : goal.returns-in_err-part-clause-sticks
+returns-in_err-part-clause-sticks c h = stops (next (next_choose 1 (next (choose phrases.stmt 1 c.requires) c.in_ok-name.ensures.reads) (other phrases.named ((sym c.next_is.ensures ∙ c.if-next_is.false), tt))) c.in_ok-head.ensures.reads) (c.some_args-args.ensures.sticks (c.in_err-part.ensures.stops (search rules)))
 
-pub returns-in_err-args-2-clause-sticks : goal.returns-in_err-args-2-clause-sticks
-returns-in_err-args-2-clause-sticks c h = stops (next (next (next_choose 1 (next (choose phrases.stmt 1 c.requires) c.in_ok-name.ensures.reads) (other phrases.named ((sym c.next_is.ensures ∙ c.if-next_is.false), tt))) c.in_ok-bracket.ensures.reads) c.in_ok-args.ensures.reads) (c.in_err-args-2.ensures.sticks (search rules))
+pub returns-in_err-part-2-clause-sticks : goal.returns-in_err-part-2-clause-sticks
+returns-in_err-part-2-clause-sticks c h = stops (next (next (next_choose 1 (next (choose phrases.stmt 1 c.requires) c.in_ok-name.ensures.reads) (other phrases.named ((sym c.next_is.ensures ∙ c.if-next_is.false), tt))) c.in_ok-head.ensures.reads) (got some_args_outline (phrase phrases.some_args ∷ []) c.in_ok-part.ensures.read c.some_args-args.ensures.reads)) (c.in_err-part-2.ensures.sticks (search rules))
 
-pub returns-in_err-args-3-clause-sticks : goal.returns-in_err-args-3-clause-sticks
-returns-in_err-args-3-clause-sticks c h = stops (next (next (next (next_choose 1 (next (choose phrases.stmt 1 c.requires) c.in_ok-name.ensures.reads) (other phrases.named ((sym c.next_is.ensures ∙ c.if-next_is.false), tt))) c.in_ok-bracket.ensures.reads) c.in_ok-args.ensures.reads) c.in_ok-args-2.ensures.reads) (c.in_err-args-3.ensures.sticks (search rules))
+pub returns-in_err-part-3-clause-sticks : goal.returns-in_err-part-3-clause-sticks
+returns-in_err-part-3-clause-sticks c h = stops (next (next (next (next_choose 1 (next (choose phrases.stmt 1 c.requires) c.in_ok-name.ensures.reads) (other phrases.named ((sym c.next_is.ensures ∙ c.if-next_is.false), tt))) c.in_ok-head.ensures.reads) (got some_args_outline (phrase phrases.some_args ∷ []) c.in_ok-part.ensures.read c.some_args-args.ensures.reads)) c.in_ok-part-2.ensures.reads) (c.in_err-part-3.ensures.sticks (search rules))
 
 pub returns-clause-reads : goal.returns-clause-reads
-returns-clause-reads c = as_marks c.call.ensures (next (next (next (next (next_choose 1 (next (choose phrases.stmt 1 c.requires) c.in_ok-name.ensures.reads) (other phrases.named ((sym c.next_is.ensures ∙ c.if-next_is.false), tt))) c.in_ok-bracket.ensures.reads) (as_marks (ap some_args_outline c.in_ok-args-3.ensures.same ∙ ap some_args_outline c.in_ok-args-2.ensures.same) c.in_ok-args.ensures.reads)) c.in_ok-args-2.ensures.reads) c.in_ok-args-3.ensures.reads)
+returns-clause-reads c = as_marks c.call.ensures (next (next (next (next (next_choose 1 (next (choose phrases.stmt 1 c.requires) (as_marks (ap (λ b. hold b.0.0) c.in_ok-part-3.ensures.same ∙ (ap (λ b. hold b.0.0) c.in_ok-part-2.ensures.same ∙ (ap (λ b. hold b.0) c.in_ok-part.ensures.same ∙ ap hold c.in_ok-head.ensures.same))) c.in_ok-name.ensures.reads)) (other phrases.named ((sym c.next_is.ensures ∙ c.if-next_is.false), tt))) (as_marks (ap (λ b. hold b.0.1) c.in_ok-part-3.ensures.same ∙ (ap (λ b. hold b.0.1) c.in_ok-part-2.ensures.same ∙ ap (λ b. hold b.1) c.in_ok-part.ensures.same)) c.in_ok-head.ensures.reads)) (as_marks (ap (λ b. some_args_outline b.1) c.in_ok-part-3.ensures.same ∙ ap (λ b. some_args_outline b.1) c.in_ok-part-2.ensures.same) (got some_args_outline (phrase phrases.some_args ∷ []) c.in_ok-part.ensures.read c.some_args-args.ensures.reads))) c.in_ok-part-2.ensures.reads) c.in_ok-part-3.ensures.reads)
+
+pub returns-clause-shorter : goal.returns-clause-shorter
+returns-clause-shorter c = omega (arith, c.in_ok-name.ensures.shorter, c.in_ok-head.ensures.shorter, not_longer c.in_ok-part.ensures.read c.some_args-args.ensures.no_longer, c.in_ok-part-2.ensures.shorter, c.in_ok-part-3.ensures.shorter)

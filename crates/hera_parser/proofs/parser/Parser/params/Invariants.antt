@@ -9,7 +9,7 @@ use Rattle.hera_parser.proofs.parser.Parser.params.Given as goal
 
 abbrev pub invariant-rest : goal.invariant-rest
 invariant-rest l = record {
-  reads : Gives (phrase phrases.params ∷ []) l.fn.self (node phrases.params 0 ++ param_outline l.first ++ flat_map param_row l.rest.items) (phrase phrases.more_params ∷ []) l.self;
+  reads : Gives (phrase phrases.params ∷ []) l.fn.self (node phrases.params 0 ++ param_outline l.items.first ++ flat_map param_row l.items.rest.items) (phrase phrases.more_params ∷ []) l.self;
   shorter : length l.self < length l.fn.self;
 }
 

@@ -1,20 +1,22 @@
-use Rattle.std.proofs.Common.{rules, arith, refl, sym, ◌∙◌, []}
+use Rattle.std.proofs.Common.{rules, arith, refl, sym, ap, ◌∙◌, ◌++◌, ◌∷◌, []}
+use Rattle.hera_syntax.specs.Grammar.{phrase}
 use Rattle.hera_syntax.specs.Grammar as phrases
-use Rattle.hera_syntax.specs.Programs.{proc_row}
-use Rattle.hera_parser.proofs.Steps.{choose, next, next_choose, stops, join, idle, rows_more, rows_first}
+use Rattle.hera_syntax.specs.Programs.{proc_outline, proc_row}
+use Rattle.hera_parser.proofs.Steps.{choose, next, next_choose, stops, join, idle, rows_first, rows_more}
+use Rattle.hera_parser.proofs.Joined.{got, shortened}
 use Rattle.hera_parser.proofs.Choices.{told, other}
 use Rattle.hera_parser.proofs.parser.Parser.procs.Goals as goal
 
 pub all-init : goal.all-init
 all-init c = record { reads = rows_first proc_row c.new-all.ensures.items; no_longer = search rules }
 
-pub returns-in_err-item-clause-sticks : goal.returns-in_err-item-clause-sticks
-returns-in_err-item-clause-sticks c h = stops (join c.all.invariant.reads (next_choose 0 idle (told phrases.procs 0 refl (sym c.next_is.ensures ∙ c.all-test.true)))) (c.in_err-item.ensures.sticks (search rules))
+pub returns-in_err-both-clause-sticks : goal.returns-in_err-both-clause-sticks
+returns-in_err-both-clause-sticks c h = stops (join c.all.invariant.reads (next_choose 0 idle (told phrases.procs 0 refl (sym c.next_is.ensures ∙ c.all-test.true)))) (c.procedure-item.ensures.sticks (c.in_err-both.ensures.stops (search rules)))
 
 pub all-preserved : goal.all-preserved
 all-preserved c = record {
-  reads = rows_more proc_row [] c.all.all.items c.in_ok-item.item c.all.invariant.reads (next (next_choose 0 idle (told phrases.procs 0 refl (sym c.next_is.ensures ∙ c.all-test.true))) c.in_ok-item.ensures.reads) c.in_ok-all.ensures;
-  no_longer = omega (arith, c.all.invariant.no_longer, c.in_ok-item.ensures.shorter);
+  reads = rows_more proc_row [] c.all.all.items c.in_ok-both.both.1 c.all.invariant.reads (next (next_choose 0 idle (told phrases.procs 0 refl (sym c.next_is.ensures ∙ c.all-test.true))) (got proc_outline (phrase phrases.proc ∷ []) c.in_ok-both.ensures.read c.procedure-item.ensures.reads)) (c.in_ok-all.ensures ∙ ap (λ v. v.items ++ c.in_ok-both.both.1 ∷ []) c.in_ok-both.ensures.same);
+  no_longer = omega (arith, c.all.invariant.no_longer, shortened c.in_ok-both.ensures.read c.procedure-item.ensures.shorter);
 }
 
 pub returns-clause-reads : goal.returns-clause-reads

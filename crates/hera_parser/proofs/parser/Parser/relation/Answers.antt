@@ -1,25 +1,32 @@
-use Rattle.std.proofs.Common.{rules, refl}
+use Rattle.std.proofs.Common.{rules, arith, refl, ap, ◌∙◌, ◌∷◌, []}
+use Rattle.hera_syntax.specs.Grammar.{phrase}
 use Rattle.hera_syntax.specs.Grammar as phrases
+use Rattle.hera_syntax.specs.Outline.{hold}
+use Rattle.hera_syntax.specs.Programs.{attrs_outline}
 use Rattle.hera_parser.proofs.Steps.{choose, next, stops, as_marks}
+use Rattle.hera_parser.proofs.Joined.{got, shortened}
 use Rattle.hera_parser.proofs.parser.Parser.relation.Goals as goal
 
 pub returns-in_err-word-clause-sticks : goal.returns-in_err-word-clause-sticks
 returns-in_err-word-clause-sticks c h = stops (choose phrases.relation 0 (record { number = refl })) (c.in_err-word.ensures.sticks (search rules))
 
-pub returns-in_err-name-clause-sticks : goal.returns-in_err-name-clause-sticks
-returns-in_err-name-clause-sticks c h = stops (next (choose phrases.relation 0 (record { number = refl })) c.in_ok-word.ensures.reads) (c.in_err-name.ensures.sticks (search rules))
+pub returns-in_err-head-clause-sticks : goal.returns-in_err-head-clause-sticks
+returns-in_err-head-clause-sticks c h = stops (next (choose phrases.relation 0 (record { number = refl })) c.in_ok-word.ensures.reads) (c.in_err-head.ensures.sticks (search rules))
 
-pub returns-in_err-bracket-clause-sticks : goal.returns-in_err-bracket-clause-sticks
-returns-in_err-bracket-clause-sticks c h = stops (next (next (choose phrases.relation 0 (record { number = refl })) c.in_ok-word.ensures.reads) c.in_ok-name.ensures.reads) (c.in_err-bracket.ensures.sticks (search rules))
+pub returns-in_err-head-2-clause-sticks : goal.returns-in_err-head-2-clause-sticks
+returns-in_err-head-2-clause-sticks c h = stops (next (next (choose phrases.relation 0 (record { number = refl })) c.in_ok-word.ensures.reads) c.in_ok-head.ensures.reads) (c.in_err-head-2.ensures.sticks (search rules))
 
-pub returns-in_err-attrs-clause-sticks : goal.returns-in_err-attrs-clause-sticks
-returns-in_err-attrs-clause-sticks c h = stops (next (next (next (choose phrases.relation 0 (record { number = refl })) c.in_ok-word.ensures.reads) c.in_ok-name.ensures.reads) c.in_ok-bracket.ensures.reads) (c.in_err-attrs.ensures.sticks (search rules))
+pub returns-in_err-part-clause-sticks : goal.returns-in_err-part-clause-sticks
+returns-in_err-part-clause-sticks c h = stops (next (next (next (choose phrases.relation 0 (record { number = refl })) c.in_ok-word.ensures.reads) c.in_ok-head.ensures.reads) c.in_ok-head-2.ensures.reads) (c.attrs-attrs.ensures.sticks (c.in_err-part.ensures.stops (search rules)))
 
-pub returns-in_err-skip-clause-sticks : goal.returns-in_err-skip-clause-sticks
-returns-in_err-skip-clause-sticks c h = stops (next (next (next (next (choose phrases.relation 0 (record { number = refl })) c.in_ok-word.ensures.reads) c.in_ok-name.ensures.reads) c.in_ok-bracket.ensures.reads) c.in_ok-attrs.ensures.reads) (c.in_err-skip.ensures.sticks (search rules))
+pub returns-in_err-part-2-clause-sticks : goal.returns-in_err-part-2-clause-sticks
+returns-in_err-part-2-clause-sticks c h = stops (next (next (next (next (choose phrases.relation 0 (record { number = refl })) c.in_ok-word.ensures.reads) c.in_ok-head.ensures.reads) c.in_ok-head-2.ensures.reads) (got attrs_outline (phrase phrases.attrs ∷ []) c.in_ok-part.ensures.read c.attrs-attrs.ensures.reads)) (c.in_err-part-2.ensures.sticks (search rules))
 
-pub returns-in_err-skip-2-clause-sticks : goal.returns-in_err-skip-2-clause-sticks
-returns-in_err-skip-2-clause-sticks c h = stops (next (next (next (next (next (choose phrases.relation 0 (record { number = refl })) c.in_ok-word.ensures.reads) c.in_ok-name.ensures.reads) c.in_ok-bracket.ensures.reads) c.in_ok-attrs.ensures.reads) c.in_ok-skip.ensures.reads) (c.in_err-skip-2.ensures.sticks (search rules))
+pub returns-in_err-part-3-clause-sticks : goal.returns-in_err-part-3-clause-sticks
+returns-in_err-part-3-clause-sticks c h = stops (next (next (next (next (next (choose phrases.relation 0 (record { number = refl })) c.in_ok-word.ensures.reads) c.in_ok-head.ensures.reads) c.in_ok-head-2.ensures.reads) (got attrs_outline (phrase phrases.attrs ∷ []) c.in_ok-part.ensures.read c.attrs-attrs.ensures.reads)) c.in_ok-part-2.ensures.reads) (c.in_err-part-3.ensures.sticks (search rules))
 
 pub returns-clause-reads : goal.returns-clause-reads
-returns-clause-reads c = as_marks c.new.ensures (next (next (next (next (next (next (choose phrases.relation 0 (record { number = refl })) c.in_ok-word.ensures.reads) c.in_ok-name.ensures.reads) c.in_ok-bracket.ensures.reads) c.in_ok-attrs.ensures.reads) c.in_ok-skip.ensures.reads) c.in_ok-skip-2.ensures.reads)
+returns-clause-reads c = as_marks c.new.ensures (next (next (next (next (next (next (choose phrases.relation 0 (record { number = refl })) (as_marks (ap (λ b. hold b.0.0.0) c.in_ok-part-3.ensures.same ∙ (ap (λ b. hold b.0.0.0) c.in_ok-part-2.ensures.same ∙ (ap (λ b. hold b.0.0) c.in_ok-part.ensures.same ∙ (ap (λ b. hold b.0) c.in_ok-head-2.ensures.same ∙ ap hold c.in_ok-head.ensures.same)))) c.in_ok-word.ensures.reads)) (as_marks (ap (λ b. hold b.0.0.1) c.in_ok-part-3.ensures.same ∙ (ap (λ b. hold b.0.0.1) c.in_ok-part-2.ensures.same ∙ (ap (λ b. hold b.0.1) c.in_ok-part.ensures.same ∙ ap (λ b. hold b.1) c.in_ok-head-2.ensures.same))) c.in_ok-head.ensures.reads)) (as_marks (ap (λ b. hold b.0.1) c.in_ok-part-3.ensures.same ∙ (ap (λ b. hold b.0.1) c.in_ok-part-2.ensures.same ∙ ap (λ b. hold b.1) c.in_ok-part.ensures.same)) c.in_ok-head-2.ensures.reads)) (as_marks (ap (λ b. attrs_outline b.1) c.in_ok-part-3.ensures.same ∙ ap (λ b. attrs_outline b.1) c.in_ok-part-2.ensures.same) (got attrs_outline (phrase phrases.attrs ∷ []) c.in_ok-part.ensures.read c.attrs-attrs.ensures.reads))) c.in_ok-part-2.ensures.reads) c.in_ok-part-3.ensures.reads)
+
+pub returns-clause-shorter : goal.returns-clause-shorter
+returns-clause-shorter c = omega (arith, c.in_ok-word.ensures.shorter, c.in_ok-head.ensures.shorter, c.in_ok-head-2.ensures.shorter, shortened c.in_ok-part.ensures.read c.attrs-attrs.ensures.shorter, c.in_ok-part-2.ensures.shorter, c.in_ok-part-3.ensures.shorter)

@@ -8,7 +8,7 @@ use Rattle.hera_parser.proofs.parser.Parser.renamings.Given as goal
 
 abbrev pub invariant-rest : goal.invariant-rest
 invariant-rest l = record {
-  reads : Gives (phrase phrases.renamings ∷ []) l.fn.self (node phrases.renamings 0 ++ renaming_outline l.first ++ flat_map renaming_row l.rest.items) (phrase phrases.more_renamings ∷ []) l.self;
+  reads : Gives (phrase phrases.renamings ∷ []) l.fn.self (node phrases.renamings 0 ++ renaming_outline l.items.first ++ flat_map renaming_row l.items.rest.items) (phrase phrases.more_renamings ∷ []) l.self;
   shorter : length l.self < length l.fn.self;
 }
 
