@@ -1,10 +1,10 @@
 // Expressions.
 
-ghost use Rattle.std.specs.Prelude.{◌≡◌, ◌<◌, ◌≤◌, [], ◌∷◌, length, take, IfOk, OnOk, IsErrOf};
-ghost use Rattle.hera_syntax.specs.Grammar.{alternatives, keep, phrase};
+ghost use Rattle.std.specs.Prelude.{◌≡◌, ◌<◌, ◌≤◌, [], ◌∷◌, ◌++◌, length, take, IfOk, OnOk, IsErrOf};
+ghost use Rattle.hera_syntax.specs.Grammar.{alternatives, keep, leave, phrase};
 ghost use Rattle.hera_syntax.specs.Grammar as phrases;
 ghost use Rattle.hera_syntax.specs.Operators.{operand_of, operators_of};
-ghost use Rattle.hera_syntax.specs.Outline.{args_outline, atom_outline, atoms_outline, binding_outline, bindings_outline, expr_outline, line_outline, lines_outline, operand_outline, post_outline, prefix_outline, prime_outline, production_of, some_args_outline, tail_outline};
+ghost use Rattle.hera_syntax.specs.Outline.{args_outline, atom_outline, atoms_outline, binding_outline, bindings_outline, expr_outline, hold, line_outline, lines_outline, operand_outline, post_outline, prefix_outline, prime_outline, production_of, skip, some_args_outline, tail_outline};
 ghost use Rattle.hera_parser.specs.Reading.{BeginsNone, Tells, Gives, Sticks};
 
 use crate::parser::{Items, Parser, Stop, joined, joined_box};
@@ -16,7 +16,7 @@ use crate::terminals::{
 };
 use hera_syntax::{
     Args, Atom, Atoms, Binding, Bindings, Expr, Level, Line, Lines, Operand, Post, Prefix, Prime,
-    Tail,
+    Tail, Terminal, Token,
 };
 use std::alloc::Global;
 
@@ -200,11 +200,8 @@ impl<'a> Parser<'a> {
         ensures sticks { IsErrOf result Stop.Syntax → Sticks (phrase phrases.prime ∷ []) self.old self.new }
         ensures shorter { OnOk result (length self.new < length self.old) }
     {
-        let word = self.keep(ROWS)?;
-        let opened = self.kept_behind(word, PAREN)?;
-        let named = self.kept_behind(opened, NAME)?;
-        let closed = self.ended_by(named, CLOSE_PAREN)?;
-        let head = self.kept_behind(closed, BRACE)?;
+        let named = self.naming(ROWS, CLOSE_PAREN)?;
+        let head = self.kept_behind(named, BRACE)?;
         if !self.next_is(PAREN) {
             let empty = self.ended_by(head, CLOSE_BRACE)?;
             let (((word, bracket), name), brace) = empty;
@@ -225,10 +222,7 @@ impl<'a> Parser<'a> {
         ensures sticks { IsErrOf result Stop.Syntax → Sticks (phrase phrases.prime ∷ []) self.old self.new }
         ensures shorter { OnOk result (length self.new < length self.old) }
     {
-        let word = self.keep(WALK_WORDS)?;
-        let head = self.kept_behind(word, PAREN)?;
-        let head = self.kept_behind(head, NAME)?;
-        let head = self.ended_by(head, IN)?;
+        let head = self.naming(WALK_WORDS, IN)?;
         let over = self.level(alloc, Level::Whens);
         let part = joined_box(alloc, head, over)?;
         let part = self.ended_by(part, COLON)?;
@@ -239,6 +233,26 @@ impl<'a> Parser<'a> {
         Ok(Prime::walk(word, bracket, name, over, body))
     }
 
+    /// A keyword, a bracket, an expression and the terminal that ends it.
+    #[cycle(expr)]
+    fn opened(
+        &mut self,
+        alloc: Global,
+        words: &[Terminal],
+        end: Terminal,
+    ) -> Result<((Token, Token), Box<Expr>), Stop>
+        ensures reads { IfOk result (λ part. Gives (keep words.now ∷ keep phrases.paren ∷ phrase phrases.expr ∷ leave end ∷ []) self.old (hold part.0.0 ++ hold part.0.1 ++ expr_outline part.1.value ++ skip end) [] self.new) }
+        ensures sticks { IsErrOf result Stop.Syntax → Sticks (keep words.now ∷ keep phrases.paren ∷ phrase phrases.expr ∷ leave end ∷ []) self.old self.new }
+        ensures shorter { OnOk result (length self.new < length self.old) }
+    {
+        let word = self.keep(words)?;
+        let head = self.kept_behind(word, PAREN)?;
+        let over = self.level(alloc, Level::Whens);
+        let part = joined_box(alloc, head, over)?;
+        let part = self.ended_by(part, end)?;
+        Ok(part)
+    }
+
     /// A projection.
     #[cycle(expr)]
     fn project(&mut self, alloc: Global) -> Result<Prime, Stop>
@@ -247,11 +261,7 @@ impl<'a> Parser<'a> {
         ensures sticks { IsErrOf result Stop.Syntax → Sticks (phrase phrases.prime ∷ []) self.old self.new }
         ensures shorter { OnOk result (length self.new < length self.old) }
     {
-        let word = self.keep(PROJECT)?;
-        let head = self.kept_behind(word, PAREN)?;
-        let over = self.level(alloc, Level::Whens);
-        let part = joined_box(alloc, head, over)?;
-        let part = self.ended_by(part, SEMICOLON)?;
+        let part = self.opened(alloc, PROJECT, SEMICOLON)?;
         let names = self.names(alloc);
         let part = joined(part, names)?;
         let part = self.ended_by(part, CLOSE_PAREN)?;
@@ -267,11 +277,7 @@ impl<'a> Parser<'a> {
         ensures sticks { IsErrOf result Stop.Syntax → Sticks (phrase phrases.prime ∷ []) self.old self.new }
         ensures shorter { OnOk result (length self.new < length self.old) }
     {
-        let word = self.keep(RENAME)?;
-        let head = self.kept_behind(word, PAREN)?;
-        let over = self.level(alloc, Level::Whens);
-        let part = joined_box(alloc, head, over)?;
-        let part = self.ended_by(part, SEMICOLON)?;
+        let part = self.opened(alloc, RENAME, SEMICOLON)?;
         let renamings = self.renamings(alloc);
         let part = joined(part, renamings)?;
         let part = self.ended_by(part, CLOSE_PAREN)?;
@@ -287,11 +293,7 @@ impl<'a> Parser<'a> {
         ensures sticks { IsErrOf result Stop.Syntax → Sticks (phrase phrases.prime ∷ []) self.old self.new }
         ensures shorter { OnOk result (length self.new < length self.old) }
     {
-        let word = self.keep(PAIR_WORDS)?;
-        let head = self.kept_behind(word, PAREN)?;
-        let left = self.level(alloc, Level::Whens);
-        let part = joined_box(alloc, head, left)?;
-        let part = self.ended_by(part, COMMA)?;
+        let part = self.opened(alloc, PAIR_WORDS, COMMA)?;
         let right = self.level(alloc, Level::Whens);
         let part = joined_box(alloc, part, right)?;
         let part = self.ended_by(part, CLOSE_PAREN)?;
@@ -307,11 +309,7 @@ impl<'a> Parser<'a> {
         ensures sticks { IsErrOf result Stop.Syntax → Sticks (phrase phrases.prime ∷ []) self.old self.new }
         ensures shorter { OnOk result (length self.new < length self.old) }
     {
-        let word = self.keep(GROUP)?;
-        let head = self.kept_behind(word, PAREN)?;
-        let over = self.level(alloc, Level::Whens);
-        let part = joined_box(alloc, head, over)?;
-        let part = self.ended_by(part, SEMICOLON)?;
+        let part = self.opened(alloc, GROUP, SEMICOLON)?;
         let part = self.ended_by(part, BY)?;
         let names = self.names(alloc);
         let part = joined(part, names)?;
@@ -331,11 +329,7 @@ impl<'a> Parser<'a> {
         ensures sticks { IsErrOf result Stop.Syntax → Sticks (phrase phrases.prime ∷ []) self.old self.new }
         ensures shorter { OnOk result (length self.new < length self.old) }
     {
-        let word = self.keep(MEASURE_WORDS)?;
-        let head = self.kept_behind(word, PAREN)?;
-        let over = self.level(alloc, Level::Whens);
-        let part = joined_box(alloc, head, over)?;
-        let part = self.ended_by(part, CLOSE_PAREN)?;
+        let part = self.opened(alloc, MEASURE_WORDS, CLOSE_PAREN)?;
         let ((word, bracket), over) = part;
         Ok(Prime::measure(word, bracket, over))
     }
@@ -348,11 +342,7 @@ impl<'a> Parser<'a> {
         ensures sticks { IsErrOf result Stop.Syntax → Sticks (phrase phrases.prime ∷ []) self.old self.new }
         ensures shorter { OnOk result (length self.new < length self.old) }
     {
-        let word = self.keep(FOLD_WORDS)?;
-        let head = self.kept_behind(word, PAREN)?;
-        let over = self.level(alloc, Level::Whens);
-        let part = joined_box(alloc, head, over)?;
-        let part = self.ended_by(part, COMMA)?;
+        let part = self.opened(alloc, FOLD_WORDS, COMMA)?;
         let part = self.kept_behind(part, NAME)?;
         let part = self.ended_by(part, CLOSE_PAREN)?;
         let (((word, bracket), over), name) = part;
@@ -387,10 +377,7 @@ impl<'a> Parser<'a> {
         ensures sticks { IsErrOf result Stop.Syntax → Sticks (phrase phrases.prime ∷ []) self.old self.new }
         ensures shorter { OnOk result (length self.new < length self.old) }
     {
-        let word = self.keep(PART_WORDS)?;
-        let head = self.kept_behind(word, PAREN)?;
-        let head = self.kept_behind(head, NAME)?;
-        let head = self.ended_by(head, COMMA)?;
+        let head = self.naming(PART_WORDS, COMMA)?;
         let over = self.level(alloc, Level::Whens);
         let part = joined_box(alloc, head, over)?;
         let part = self.ended_by(part, CLOSE_PAREN)?;

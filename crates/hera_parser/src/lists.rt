@@ -1,14 +1,14 @@
 // Names, renamings and aggregates.
 
-ghost use Rattle.std.specs.Prelude.{◌≡◌, ◌<◌, ◌≤◌, [], ◌∷◌, length, IfOk, OnOk, IsErrOf};
-ghost use Rattle.hera_syntax.specs.Grammar.{phrase};
+ghost use Rattle.std.specs.Prelude.{◌≡◌, ◌<◌, ◌≤◌, [], ◌∷◌, ◌++◌, length, IfOk, OnOk, IsErrOf};
+ghost use Rattle.hera_syntax.specs.Grammar.{keep, leave, phrase};
 ghost use Rattle.hera_syntax.specs.Grammar as phrases;
-ghost use Rattle.hera_syntax.specs.Outline.{agg_outline, aggs_outline, field_outline, named_agg_outline, names_outline, renaming_outline, renamings_outline};
+ghost use Rattle.hera_syntax.specs.Outline.{agg_outline, aggs_outline, field_outline, hold, named_agg_outline, names_outline, renaming_outline, renamings_outline, skip};
 ghost use Rattle.hera_parser.specs.Reading.{Gives, Sticks};
 
 use crate::parser::{Items, Parser, Stop, joined};
 use crate::terminals::{CLOSE_PAREN, COMMA, COUNT, DOT, EQUALS, FOLD_WORDS, NAME, PAREN};
-use hera_syntax::{AggTree, NamedAgg, NamedAggs, Names, Renaming, Renamings, Token};
+use hera_syntax::{AggTree, NamedAgg, NamedAggs, Names, Renaming, Renamings, Terminal, Token};
 use std::alloc::Global;
 
 impl<'a> Parser<'a> {
@@ -26,6 +26,23 @@ impl<'a> Parser<'a> {
             rest.push(item)?;
         }
         Ok(Names::new(first, rest))
+    }
+
+    /// A keyword, a bracket, a name and the terminal that stands behind it.
+    pub fn naming(
+        &mut self,
+        words: &[Terminal],
+        end: Terminal,
+    ) -> Result<((Token, Token), Token), Stop>
+        ensures reads { IfOk result (λ head. Gives (keep words.now ∷ keep phrases.paren ∷ keep phrases.name ∷ leave end ∷ []) self.old (hold head.0.0 ++ hold head.0.1 ++ hold head.1 ++ skip end) [] self.new) }
+        ensures sticks { IsErrOf result Stop.Syntax → Sticks (keep words.now ∷ keep phrases.paren ∷ keep phrases.name ∷ leave end ∷ []) self.old self.new }
+        ensures shorter { OnOk result (length self.new < length self.old) }
+    {
+        let word = self.keep(words)?;
+        let head = self.kept_behind(word, PAREN)?;
+        let head = self.kept_behind(head, NAME)?;
+        let head = self.ended_by(head, end)?;
+        Ok(head)
     }
 
     /// `name '=' name`

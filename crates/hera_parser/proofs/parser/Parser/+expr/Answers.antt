@@ -1,9 +1,9 @@
 use Rattle.std.proofs.Common.{rules, arith, refl, sym, ap, ◌∙◌, ◌++◌, ◌∷◌, []}
 use Rattle.hera_syntax.specs.declared.expr.Level.TheVariants as levels
-use Rattle.hera_syntax.specs.Grammar.{phrase, keep}
+use Rattle.hera_syntax.specs.Grammar.{phrase, keep, leave}
 use Rattle.hera_syntax.specs.Grammar as phrases
 use Rattle.hera_syntax.specs.Operators.{operand_of, operators_of}
-use Rattle.hera_syntax.specs.Outline.{aggs_outline, args_outline, args_row, atom_outline, atoms_outline, atoms_row, binding_outline, bindings_outline, bindings_row, expr_outline, hold, line_outline, lines_outline, lines_row, more_of, names_outline, node, operand_outline, prime_outline, production_of, renamings_outline, tail_outline, tail_row}
+use Rattle.hera_syntax.specs.Outline.{aggs_outline, args_outline, args_row, atom_outline, atoms_outline, atoms_row, binding_outline, bindings_outline, bindings_row, expr_outline, hold, line_outline, lines_outline, lines_row, more_of, names_outline, node, operand_outline, prime_outline, production_of, renamings_outline, skip, tail_outline, tail_row}
 use Rattle.hera_parser.specs.Reading.{next_terminal}
 use Rattle.hera_parser.proofs.Steps.{choose, next, next_choose, stops, stops_list, join, idle, before, as_marks, items_start, items_more}
 use Rattle.hera_parser.proofs.Joined.{got, shortened}
@@ -134,215 +134,155 @@ delta-returns-clause-reads t c = as_marks c.delta.ensures (next (next (next_choo
 pub delta-returns-clause-shorter : goal.delta-returns-clause-shorter
 delta-returns-clause-shorter t c = omega (arith, c.in_ok-bracket.ensures.shorter, shortened c.in_ok-part.ensures.read c.atoms-atoms.ensures.shorter, c.in_ok-part-2.ensures.shorter)
 
-pub rows-returns-in_err-word-clause-sticks : goal.rows-returns-in_err-word-clause-sticks
-rows-returns-in_err-word-clause-sticks t c h = stops (choose phrases.prime 9 c.requires) (c.in_err-word.ensures.sticks (search rules))
-
-pub rows-returns-in_err-opened-clause-sticks : goal.rows-returns-in_err-opened-clause-sticks
-rows-returns-in_err-opened-clause-sticks t c h = stops (next (choose phrases.prime 9 c.requires) c.in_ok-word.ensures.reads) (c.in_err-opened.ensures.sticks (search rules))
-
 pub rows-returns-in_err-named-clause-sticks : goal.rows-returns-in_err-named-clause-sticks
-rows-returns-in_err-named-clause-sticks t c h = stops (next (next (choose phrases.prime 9 c.requires) c.in_ok-word.ensures.reads) c.in_ok-opened.ensures.reads) (c.in_err-named.ensures.sticks (search rules))
-
-pub rows-returns-in_err-closed-clause-sticks : goal.rows-returns-in_err-closed-clause-sticks
-rows-returns-in_err-closed-clause-sticks t c h = stops (next (next (next (choose phrases.prime 9 c.requires) c.in_ok-word.ensures.reads) c.in_ok-opened.ensures.reads) c.in_ok-named.ensures.reads) (c.in_err-closed.ensures.sticks (search rules))
+rows-returns-in_err-named-clause-sticks t c h = stops_list (keep phrases.brace ∷ phrase phrases.some_lines ∷ leave phrases.close_brace ∷ []) (choose phrases.prime 9 c.requires) (c.in_err-named.ensures.sticks (search rules))
 
 pub rows-returns-in_err-head-clause-sticks : goal.rows-returns-in_err-head-clause-sticks
-rows-returns-in_err-head-clause-sticks t c h = stops (next (next (next (next (choose phrases.prime 9 c.requires) c.in_ok-word.ensures.reads) c.in_ok-opened.ensures.reads) c.in_ok-named.ensures.reads) c.in_ok-closed.ensures.reads) (c.in_err-head.ensures.sticks (search rules))
+rows-returns-in_err-head-clause-sticks t c h = stops (join (choose phrases.prime 9 c.requires) (before (keep phrases.brace ∷ phrase phrases.some_lines ∷ leave phrases.close_brace ∷ []) c.in_ok-named.ensures.reads)) (c.in_err-head.ensures.sticks (search rules))
 
 pub rows-returns-in_err-empty-clause-sticks : goal.rows-returns-in_err-empty-clause-sticks
-rows-returns-in_err-empty-clause-sticks t c h = stops (next_choose 1 (next (next (next (next (next (choose phrases.prime 9 c.requires) c.in_ok-word.ensures.reads) c.in_ok-opened.ensures.reads) c.in_ok-named.ensures.reads) c.in_ok-closed.ensures.reads) c.in_ok-head.ensures.reads) (other phrases.some_lines ((sym c.next_is.ensures ∙ c.if-not-next_is.true), tt))) (c.in_err-empty.ensures.sticks (search rules))
+rows-returns-in_err-empty-clause-sticks t c h = stops (next_choose 1 (next (join (choose phrases.prime 9 c.requires) (before (keep phrases.brace ∷ phrase phrases.some_lines ∷ leave phrases.close_brace ∷ []) c.in_ok-named.ensures.reads)) c.in_ok-head.ensures.reads) (other phrases.some_lines ((sym c.next_is.ensures ∙ c.if-not-next_is.true), tt))) (c.in_err-empty.ensures.sticks (search rules))
 
 pub rows-returns-then-not-next_is-clause-reads : goal.rows-returns-then-not-next_is-clause-reads
-rows-returns-then-not-next_is-clause-reads t c = as_marks c.empty_rows.ensures (next (next_choose 1 (next (next (next (next (next (choose phrases.prime 9 c.requires) (as_marks (ap (λ b. hold b.0.0.0) c.in_ok-empty.ensures.same ∙ (ap (λ b. hold b.0.0) c.in_ok-head.ensures.same ∙ (ap (λ b. hold b.0.0) c.in_ok-closed.ensures.same ∙ (ap (λ b. hold b.0) c.in_ok-named.ensures.same ∙ ap hold c.in_ok-opened.ensures.same)))) c.in_ok-word.ensures.reads)) (as_marks (ap (λ b. hold b.0.0.1) c.in_ok-empty.ensures.same ∙ (ap (λ b. hold b.0.1) c.in_ok-head.ensures.same ∙ (ap (λ b. hold b.0.1) c.in_ok-closed.ensures.same ∙ ap (λ b. hold b.1) c.in_ok-named.ensures.same))) c.in_ok-opened.ensures.reads)) (as_marks (ap (λ b. hold b.0.1) c.in_ok-empty.ensures.same ∙ (ap (λ b. hold b.1) c.in_ok-head.ensures.same ∙ ap (λ b. hold b.1) c.in_ok-closed.ensures.same)) c.in_ok-named.ensures.reads)) c.in_ok-closed.ensures.reads) (as_marks (ap (λ b. hold b.1) c.in_ok-empty.ensures.same) c.in_ok-head.ensures.reads)) (other phrases.some_lines ((sym c.next_is.ensures ∙ c.if-not-next_is.true), tt))) c.in_ok-empty.ensures.reads)
+rows-returns-then-not-next_is-clause-reads t c = as_marks c.empty_rows.ensures (next (next_choose 1 (next (join (choose phrases.prime 9 c.requires) (before (keep phrases.brace ∷ phrase phrases.some_lines ∷ leave phrases.close_brace ∷ []) (as_marks (ap (λ b. hold b.0.0.0 ++ hold b.0.0.1 ++ hold b.0.1 ++ skip phrases.close_paren) c.in_ok-empty.ensures.same ∙ ap (λ b. hold b.0.0 ++ hold b.0.1 ++ hold b.1 ++ skip phrases.close_paren) c.in_ok-head.ensures.same) c.in_ok-named.ensures.reads))) (as_marks (ap (λ b. hold b.1) c.in_ok-empty.ensures.same) c.in_ok-head.ensures.reads)) (other phrases.some_lines ((sym c.next_is.ensures ∙ c.if-not-next_is.true), tt))) c.in_ok-empty.ensures.reads)
 
 pub rows-returns-in_err-part-clause-sticks : goal.rows-returns-in_err-part-clause-sticks
-rows-returns-in_err-part-clause-sticks t c h = stops (next_choose 0 (next (next (next (next (next (choose phrases.prime 9 c.requires) c.in_ok-word.ensures.reads) c.in_ok-opened.ensures.reads) c.in_ok-named.ensures.reads) c.in_ok-closed.ensures.reads) c.in_ok-head.ensures.reads) (told phrases.some_lines 0 refl (sym c.next_is.ensures ∙ c.if-not-next_is.false))) (c.lines-lines.ensures.sticks (c.in_err-part.ensures.stops (search rules)))
+rows-returns-in_err-part-clause-sticks t c h = stops (next_choose 0 (next (join (choose phrases.prime 9 c.requires) (before (keep phrases.brace ∷ phrase phrases.some_lines ∷ leave phrases.close_brace ∷ []) c.in_ok-named.ensures.reads)) c.in_ok-head.ensures.reads) (told phrases.some_lines 0 refl (sym c.next_is.ensures ∙ c.if-not-next_is.false))) (c.lines-lines.ensures.sticks (c.in_err-part.ensures.stops (search rules)))
 
 pub rows-returns-in_err-part-2-clause-sticks : goal.rows-returns-in_err-part-2-clause-sticks
-rows-returns-in_err-part-2-clause-sticks t c h = stops (next (next_choose 0 (next (next (next (next (next (choose phrases.prime 9 c.requires) c.in_ok-word.ensures.reads) c.in_ok-opened.ensures.reads) c.in_ok-named.ensures.reads) c.in_ok-closed.ensures.reads) c.in_ok-head.ensures.reads) (told phrases.some_lines 0 refl (sym c.next_is.ensures ∙ c.if-not-next_is.false))) (got lines_outline (phrase phrases.lines ∷ []) c.in_ok-part.ensures.read c.lines-lines.ensures.reads)) (c.in_err-part-2.ensures.sticks (search rules))
+rows-returns-in_err-part-2-clause-sticks t c h = stops (next (next_choose 0 (next (join (choose phrases.prime 9 c.requires) (before (keep phrases.brace ∷ phrase phrases.some_lines ∷ leave phrases.close_brace ∷ []) c.in_ok-named.ensures.reads)) c.in_ok-head.ensures.reads) (told phrases.some_lines 0 refl (sym c.next_is.ensures ∙ c.if-not-next_is.false))) (got lines_outline (phrase phrases.lines ∷ []) c.in_ok-part.ensures.read c.lines-lines.ensures.reads)) (c.in_err-part-2.ensures.sticks (search rules))
 
 pub rows-returns-clause-reads : goal.rows-returns-clause-reads
-rows-returns-clause-reads t c = as_marks c.rows.ensures (next (next (next_choose 0 (next (next (next (next (next (choose phrases.prime 9 c.requires) (as_marks (ap (λ b. hold b.0.0.0.0) c.in_ok-part-2.ensures.same ∙ (ap (λ b. hold b.0.0.0) c.in_ok-part.ensures.same ∙ (ap (λ b. hold b.0.0) c.in_ok-head.ensures.same ∙ (ap (λ b. hold b.0.0) c.in_ok-closed.ensures.same ∙ (ap (λ b. hold b.0) c.in_ok-named.ensures.same ∙ ap hold c.in_ok-opened.ensures.same))))) c.in_ok-word.ensures.reads)) (as_marks (ap (λ b. hold b.0.0.0.1) c.in_ok-part-2.ensures.same ∙ (ap (λ b. hold b.0.0.1) c.in_ok-part.ensures.same ∙ (ap (λ b. hold b.0.1) c.in_ok-head.ensures.same ∙ (ap (λ b. hold b.0.1) c.in_ok-closed.ensures.same ∙ ap (λ b. hold b.1) c.in_ok-named.ensures.same)))) c.in_ok-opened.ensures.reads)) (as_marks (ap (λ b. hold b.0.0.1) c.in_ok-part-2.ensures.same ∙ (ap (λ b. hold b.0.1) c.in_ok-part.ensures.same ∙ (ap (λ b. hold b.1) c.in_ok-head.ensures.same ∙ ap (λ b. hold b.1) c.in_ok-closed.ensures.same))) c.in_ok-named.ensures.reads)) c.in_ok-closed.ensures.reads) (as_marks (ap (λ b. hold b.0.1) c.in_ok-part-2.ensures.same ∙ ap (λ b. hold b.1) c.in_ok-part.ensures.same) c.in_ok-head.ensures.reads)) (told phrases.some_lines 0 refl (sym c.next_is.ensures ∙ c.if-not-next_is.false))) (as_marks (ap (λ b. lines_outline b.1.value) c.in_ok-part-2.ensures.same) (got lines_outline (phrase phrases.lines ∷ []) c.in_ok-part.ensures.read c.lines-lines.ensures.reads))) c.in_ok-part-2.ensures.reads)
+rows-returns-clause-reads t c = as_marks c.rows.ensures (next (next (next_choose 0 (next (join (choose phrases.prime 9 c.requires) (before (keep phrases.brace ∷ phrase phrases.some_lines ∷ leave phrases.close_brace ∷ []) (as_marks (ap (λ b. hold b.0.0.0.0 ++ hold b.0.0.0.1 ++ hold b.0.0.1 ++ skip phrases.close_paren) c.in_ok-part-2.ensures.same ∙ (ap (λ b. hold b.0.0.0 ++ hold b.0.0.1 ++ hold b.0.1 ++ skip phrases.close_paren) c.in_ok-part.ensures.same ∙ ap (λ b. hold b.0.0 ++ hold b.0.1 ++ hold b.1 ++ skip phrases.close_paren) c.in_ok-head.ensures.same)) c.in_ok-named.ensures.reads))) (as_marks (ap (λ b. hold b.0.1) c.in_ok-part-2.ensures.same ∙ ap (λ b. hold b.1) c.in_ok-part.ensures.same) c.in_ok-head.ensures.reads)) (told phrases.some_lines 0 refl (sym c.next_is.ensures ∙ c.if-not-next_is.false))) (as_marks (ap (λ b. lines_outline b.1.value) c.in_ok-part-2.ensures.same) (got lines_outline (phrase phrases.lines ∷ []) c.in_ok-part.ensures.read c.lines-lines.ensures.reads))) c.in_ok-part-2.ensures.reads)
 
 pub rows-returns-clause-shorter : goal.rows-returns-clause-shorter
-rows-returns-clause-shorter t c = omega (arith, c.in_ok-word.ensures.shorter, c.in_ok-opened.ensures.shorter, c.in_ok-named.ensures.shorter, c.in_ok-closed.ensures.shorter, c.in_ok-head.ensures.shorter, shortened c.in_ok-part.ensures.read c.lines-lines.ensures.shorter, c.in_ok-part-2.ensures.shorter)
-
-pub walk-returns-in_err-word-clause-sticks : goal.walk-returns-in_err-word-clause-sticks
-walk-returns-in_err-word-clause-sticks t c h = stops (choose phrases.prime 10 c.requires) (c.in_err-word.ensures.sticks (search rules))
+rows-returns-clause-shorter t c = omega (arith, c.in_ok-named.ensures.shorter, c.in_ok-head.ensures.shorter, shortened c.in_ok-part.ensures.read c.lines-lines.ensures.shorter, c.in_ok-part-2.ensures.shorter)
 
 pub walk-returns-in_err-head-clause-sticks : goal.walk-returns-in_err-head-clause-sticks
-walk-returns-in_err-head-clause-sticks t c h = stops (next (choose phrases.prime 10 c.requires) c.in_ok-word.ensures.reads) (c.in_err-head.ensures.sticks (search rules))
-
-pub walk-returns-in_err-head-2-clause-sticks : goal.walk-returns-in_err-head-2-clause-sticks
-walk-returns-in_err-head-2-clause-sticks t c h = stops (next (next (choose phrases.prime 10 c.requires) c.in_ok-word.ensures.reads) c.in_ok-head.ensures.reads) (c.in_err-head-2.ensures.sticks (search rules))
-
-pub walk-returns-in_err-head-3-clause-sticks : goal.walk-returns-in_err-head-3-clause-sticks
-walk-returns-in_err-head-3-clause-sticks t c h = stops (next (next (next (choose phrases.prime 10 c.requires) c.in_ok-word.ensures.reads) c.in_ok-head.ensures.reads) c.in_ok-head-2.ensures.reads) (c.in_err-head-3.ensures.sticks (search rules))
+walk-returns-in_err-head-clause-sticks t c h = stops_list (phrase phrases.expr ∷ leave phrases.colon ∷ phrase phrases.expr ∷ leave phrases.close_paren ∷ []) (choose phrases.prime 10 c.requires) (c.in_err-head.ensures.sticks (search rules))
 
 pub walk-returns-in_err-part-clause-sticks : goal.walk-returns-in_err-part-clause-sticks
-walk-returns-in_err-part-clause-sticks t c h = stops (next (next (next (next (choose phrases.prime 10 c.requires) c.in_ok-word.ensures.reads) c.in_ok-head.ensures.reads) c.in_ok-head-2.ensures.reads) c.in_ok-head-3.ensures.reads) (c.level-over.ensures.sticks (c.in_err-part.ensures.stops (search rules)))
+walk-returns-in_err-part-clause-sticks t c h = stops (join (choose phrases.prime 10 c.requires) (before (phrase phrases.expr ∷ leave phrases.colon ∷ phrase phrases.expr ∷ leave phrases.close_paren ∷ []) c.in_ok-head.ensures.reads)) (c.level-over.ensures.sticks (c.in_err-part.ensures.stops (search rules)))
 
 pub walk-returns-in_err-part-2-clause-sticks : goal.walk-returns-in_err-part-2-clause-sticks
-walk-returns-in_err-part-2-clause-sticks t c h = stops (next (next (next (next (next (choose phrases.prime 10 c.requires) c.in_ok-word.ensures.reads) c.in_ok-head.ensures.reads) c.in_ok-head-2.ensures.reads) c.in_ok-head-3.ensures.reads) (got expr_outline (phrase phrases.expr ∷ []) c.in_ok-part.ensures.read c.level-over.ensures.reads)) (c.in_err-part-2.ensures.sticks (search rules))
+walk-returns-in_err-part-2-clause-sticks t c h = stops (next (join (choose phrases.prime 10 c.requires) (before (phrase phrases.expr ∷ leave phrases.colon ∷ phrase phrases.expr ∷ leave phrases.close_paren ∷ []) c.in_ok-head.ensures.reads)) (got expr_outline (phrase phrases.expr ∷ []) c.in_ok-part.ensures.read c.level-over.ensures.reads)) (c.in_err-part-2.ensures.sticks (search rules))
 
 pub walk-returns-in_err-part-3-clause-sticks : goal.walk-returns-in_err-part-3-clause-sticks
-walk-returns-in_err-part-3-clause-sticks t c h = stops (next (next (next (next (next (next (choose phrases.prime 10 c.requires) c.in_ok-word.ensures.reads) c.in_ok-head.ensures.reads) c.in_ok-head-2.ensures.reads) c.in_ok-head-3.ensures.reads) (got expr_outline (phrase phrases.expr ∷ []) c.in_ok-part.ensures.read c.level-over.ensures.reads)) c.in_ok-part-2.ensures.reads) (c.level-body.ensures.sticks (c.in_err-part-3.ensures.stops (search rules)))
+walk-returns-in_err-part-3-clause-sticks t c h = stops (next (next (join (choose phrases.prime 10 c.requires) (before (phrase phrases.expr ∷ leave phrases.colon ∷ phrase phrases.expr ∷ leave phrases.close_paren ∷ []) c.in_ok-head.ensures.reads)) (got expr_outline (phrase phrases.expr ∷ []) c.in_ok-part.ensures.read c.level-over.ensures.reads)) c.in_ok-part-2.ensures.reads) (c.level-body.ensures.sticks (c.in_err-part-3.ensures.stops (search rules)))
 
 pub walk-returns-in_err-part-4-clause-sticks : goal.walk-returns-in_err-part-4-clause-sticks
-walk-returns-in_err-part-4-clause-sticks t c h = stops (next (next (next (next (next (next (next (choose phrases.prime 10 c.requires) c.in_ok-word.ensures.reads) c.in_ok-head.ensures.reads) c.in_ok-head-2.ensures.reads) c.in_ok-head-3.ensures.reads) (got expr_outline (phrase phrases.expr ∷ []) c.in_ok-part.ensures.read c.level-over.ensures.reads)) c.in_ok-part-2.ensures.reads) (got expr_outline (phrase phrases.expr ∷ []) c.in_ok-part-3.ensures.read c.level-body.ensures.reads)) (c.in_err-part-4.ensures.sticks (search rules))
+walk-returns-in_err-part-4-clause-sticks t c h = stops (next (next (next (join (choose phrases.prime 10 c.requires) (before (phrase phrases.expr ∷ leave phrases.colon ∷ phrase phrases.expr ∷ leave phrases.close_paren ∷ []) c.in_ok-head.ensures.reads)) (got expr_outline (phrase phrases.expr ∷ []) c.in_ok-part.ensures.read c.level-over.ensures.reads)) c.in_ok-part-2.ensures.reads) (got expr_outline (phrase phrases.expr ∷ []) c.in_ok-part-3.ensures.read c.level-body.ensures.reads)) (c.in_err-part-4.ensures.sticks (search rules))
 
 pub walk-returns-clause-reads : goal.walk-returns-clause-reads
-walk-returns-clause-reads t c = as_marks c.walk.ensures (next (next (next (next (next (next (next (next (choose phrases.prime 10 c.requires) (as_marks (ap (λ b. hold b.0.0.0.0) c.in_ok-part-4.ensures.same ∙ (ap (λ b. hold b.0.0.0) c.in_ok-part-3.ensures.same ∙ (ap (λ b. hold b.0.0.0) c.in_ok-part-2.ensures.same ∙ (ap (λ b. hold b.0.0) c.in_ok-part.ensures.same ∙ (ap (λ b. hold b.0.0) c.in_ok-head-3.ensures.same ∙ (ap (λ b. hold b.0) c.in_ok-head-2.ensures.same ∙ ap hold c.in_ok-head.ensures.same)))))) c.in_ok-word.ensures.reads)) (as_marks (ap (λ b. hold b.0.0.0.1) c.in_ok-part-4.ensures.same ∙ (ap (λ b. hold b.0.0.1) c.in_ok-part-3.ensures.same ∙ (ap (λ b. hold b.0.0.1) c.in_ok-part-2.ensures.same ∙ (ap (λ b. hold b.0.1) c.in_ok-part.ensures.same ∙ (ap (λ b. hold b.0.1) c.in_ok-head-3.ensures.same ∙ ap (λ b. hold b.1) c.in_ok-head-2.ensures.same))))) c.in_ok-head.ensures.reads)) (as_marks (ap (λ b. hold b.0.0.1) c.in_ok-part-4.ensures.same ∙ (ap (λ b. hold b.0.1) c.in_ok-part-3.ensures.same ∙ (ap (λ b. hold b.0.1) c.in_ok-part-2.ensures.same ∙ (ap (λ b. hold b.1) c.in_ok-part.ensures.same ∙ ap (λ b. hold b.1) c.in_ok-head-3.ensures.same)))) c.in_ok-head-2.ensures.reads)) c.in_ok-head-3.ensures.reads) (as_marks (ap (λ b. expr_outline b.0.1.value) c.in_ok-part-4.ensures.same ∙ (ap (λ b. expr_outline b.1.value) c.in_ok-part-3.ensures.same ∙ ap (λ b. expr_outline b.1.value) c.in_ok-part-2.ensures.same)) (got expr_outline (phrase phrases.expr ∷ []) c.in_ok-part.ensures.read c.level-over.ensures.reads))) c.in_ok-part-2.ensures.reads) (as_marks (ap (λ b. expr_outline b.1.value) c.in_ok-part-4.ensures.same) (got expr_outline (phrase phrases.expr ∷ []) c.in_ok-part-3.ensures.read c.level-body.ensures.reads))) c.in_ok-part-4.ensures.reads)
+walk-returns-clause-reads t c = as_marks c.walk.ensures (next (next (next (next (join (choose phrases.prime 10 c.requires) (before (phrase phrases.expr ∷ leave phrases.colon ∷ phrase phrases.expr ∷ leave phrases.close_paren ∷ []) (as_marks (ap (λ b. hold b.0.0.0.0 ++ hold b.0.0.0.1 ++ hold b.0.0.1 ++ skip phrases.in_word) c.in_ok-part-4.ensures.same ∙ (ap (λ b. hold b.0.0.0 ++ hold b.0.0.1 ++ hold b.0.1 ++ skip phrases.in_word) c.in_ok-part-3.ensures.same ∙ (ap (λ b. hold b.0.0.0 ++ hold b.0.0.1 ++ hold b.0.1 ++ skip phrases.in_word) c.in_ok-part-2.ensures.same ∙ ap (λ b. hold b.0.0 ++ hold b.0.1 ++ hold b.1 ++ skip phrases.in_word) c.in_ok-part.ensures.same))) c.in_ok-head.ensures.reads))) (as_marks (ap (λ b. expr_outline b.0.1.value) c.in_ok-part-4.ensures.same ∙ (ap (λ b. expr_outline b.1.value) c.in_ok-part-3.ensures.same ∙ ap (λ b. expr_outline b.1.value) c.in_ok-part-2.ensures.same)) (got expr_outline (phrase phrases.expr ∷ []) c.in_ok-part.ensures.read c.level-over.ensures.reads))) c.in_ok-part-2.ensures.reads) (as_marks (ap (λ b. expr_outline b.1.value) c.in_ok-part-4.ensures.same) (got expr_outline (phrase phrases.expr ∷ []) c.in_ok-part-3.ensures.read c.level-body.ensures.reads))) c.in_ok-part-4.ensures.reads)
 
 pub walk-returns-clause-shorter : goal.walk-returns-clause-shorter
-walk-returns-clause-shorter t c = omega (arith, c.in_ok-word.ensures.shorter, c.in_ok-head.ensures.shorter, c.in_ok-head-2.ensures.shorter, c.in_ok-head-3.ensures.shorter, shortened c.in_ok-part.ensures.read c.level-over.ensures.shorter, c.in_ok-part-2.ensures.shorter, shortened c.in_ok-part-3.ensures.read c.level-body.ensures.shorter, c.in_ok-part-4.ensures.shorter)
+walk-returns-clause-shorter t c = omega (arith, c.in_ok-head.ensures.shorter, shortened c.in_ok-part.ensures.read c.level-over.ensures.shorter, c.in_ok-part-2.ensures.shorter, shortened c.in_ok-part-3.ensures.read c.level-body.ensures.shorter, c.in_ok-part-4.ensures.shorter)
 
-pub project-returns-in_err-word-clause-sticks : goal.project-returns-in_err-word-clause-sticks
-project-returns-in_err-word-clause-sticks t c h = stops (choose phrases.prime 11 c.requires) (c.in_err-word.ensures.sticks (search rules))
+pub opened-returns-in_err-word-clause-sticks : goal.opened-returns-in_err-word-clause-sticks
+opened-returns-in_err-word-clause-sticks t c h = stops idle (c.in_err-word.ensures.sticks (search rules))
 
-pub project-returns-in_err-head-clause-sticks : goal.project-returns-in_err-head-clause-sticks
-project-returns-in_err-head-clause-sticks t c h = stops (next (choose phrases.prime 11 c.requires) c.in_ok-word.ensures.reads) (c.in_err-head.ensures.sticks (search rules))
+pub opened-returns-in_err-head-clause-sticks : goal.opened-returns-in_err-head-clause-sticks
+opened-returns-in_err-head-clause-sticks t c h = stops (next idle c.in_ok-word.ensures.reads) (c.in_err-head.ensures.sticks (search rules))
+
+pub opened-returns-in_err-part-clause-sticks : goal.opened-returns-in_err-part-clause-sticks
+opened-returns-in_err-part-clause-sticks t c h = stops (next (next idle c.in_ok-word.ensures.reads) c.in_ok-head.ensures.reads) (c.level-over.ensures.sticks (c.in_err-part.ensures.stops (search rules)))
+
+pub opened-returns-in_err-part-2-clause-sticks : goal.opened-returns-in_err-part-2-clause-sticks
+opened-returns-in_err-part-2-clause-sticks t c h = stops (next (next (next idle c.in_ok-word.ensures.reads) c.in_ok-head.ensures.reads) (got expr_outline (phrase phrases.expr ∷ []) c.in_ok-part.ensures.read c.level-over.ensures.reads)) (c.in_err-part-2.ensures.sticks (search rules))
+
+pub opened-returns-clause-reads : goal.opened-returns-clause-reads
+opened-returns-clause-reads t c = next (next (next (next idle (as_marks (ap (λ b. hold b.0.0) c.in_ok-part-2.ensures.same ∙ (ap (λ b. hold b.0) c.in_ok-part.ensures.same ∙ ap hold c.in_ok-head.ensures.same)) c.in_ok-word.ensures.reads)) (as_marks (ap (λ b. hold b.0.1) c.in_ok-part-2.ensures.same ∙ ap (λ b. hold b.1) c.in_ok-part.ensures.same) c.in_ok-head.ensures.reads)) (as_marks (ap (λ b. expr_outline b.1.value) c.in_ok-part-2.ensures.same) (got expr_outline (phrase phrases.expr ∷ []) c.in_ok-part.ensures.read c.level-over.ensures.reads))) c.in_ok-part-2.ensures.reads
+
+pub opened-returns-clause-shorter : goal.opened-returns-clause-shorter
+opened-returns-clause-shorter t c = omega (arith, c.in_ok-word.ensures.shorter, c.in_ok-head.ensures.shorter, shortened c.in_ok-part.ensures.read c.level-over.ensures.shorter, c.in_ok-part-2.ensures.shorter)
 
 pub project-returns-in_err-part-clause-sticks : goal.project-returns-in_err-part-clause-sticks
-project-returns-in_err-part-clause-sticks t c h = stops (next (next (choose phrases.prime 11 c.requires) c.in_ok-word.ensures.reads) c.in_ok-head.ensures.reads) (c.level-over.ensures.sticks (c.in_err-part.ensures.stops (search rules)))
+project-returns-in_err-part-clause-sticks t c h = stops_list (phrase phrases.names ∷ leave phrases.close_paren ∷ []) (choose phrases.prime 11 c.requires) (c.in_err-part.ensures.sticks (search rules))
 
 pub project-returns-in_err-part-2-clause-sticks : goal.project-returns-in_err-part-2-clause-sticks
-project-returns-in_err-part-2-clause-sticks t c h = stops (next (next (next (choose phrases.prime 11 c.requires) c.in_ok-word.ensures.reads) c.in_ok-head.ensures.reads) (got expr_outline (phrase phrases.expr ∷ []) c.in_ok-part.ensures.read c.level-over.ensures.reads)) (c.in_err-part-2.ensures.sticks (search rules))
+project-returns-in_err-part-2-clause-sticks t c h = stops (join (choose phrases.prime 11 c.requires) (before (phrase phrases.names ∷ leave phrases.close_paren ∷ []) c.in_ok-part.ensures.reads)) (c.names-names.ensures.sticks (c.in_err-part-2.ensures.stops (search rules)))
 
 pub project-returns-in_err-part-3-clause-sticks : goal.project-returns-in_err-part-3-clause-sticks
-project-returns-in_err-part-3-clause-sticks t c h = stops (next (next (next (next (choose phrases.prime 11 c.requires) c.in_ok-word.ensures.reads) c.in_ok-head.ensures.reads) (got expr_outline (phrase phrases.expr ∷ []) c.in_ok-part.ensures.read c.level-over.ensures.reads)) c.in_ok-part-2.ensures.reads) (c.names-names.ensures.sticks (c.in_err-part-3.ensures.stops (search rules)))
-
-pub project-returns-in_err-part-4-clause-sticks : goal.project-returns-in_err-part-4-clause-sticks
-project-returns-in_err-part-4-clause-sticks t c h = stops (next (next (next (next (next (choose phrases.prime 11 c.requires) c.in_ok-word.ensures.reads) c.in_ok-head.ensures.reads) (got expr_outline (phrase phrases.expr ∷ []) c.in_ok-part.ensures.read c.level-over.ensures.reads)) c.in_ok-part-2.ensures.reads) (got names_outline (phrase phrases.names ∷ []) c.in_ok-part-3.ensures.read c.names-names.ensures.reads)) (c.in_err-part-4.ensures.sticks (search rules))
+project-returns-in_err-part-3-clause-sticks t c h = stops (next (join (choose phrases.prime 11 c.requires) (before (phrase phrases.names ∷ leave phrases.close_paren ∷ []) c.in_ok-part.ensures.reads)) (got names_outline (phrase phrases.names ∷ []) c.in_ok-part-2.ensures.read c.names-names.ensures.reads)) (c.in_err-part-3.ensures.sticks (search rules))
 
 pub project-returns-clause-reads : goal.project-returns-clause-reads
-project-returns-clause-reads t c = as_marks c.project.ensures (next (next (next (next (next (next (choose phrases.prime 11 c.requires) (as_marks (ap (λ b. hold b.0.0.0) c.in_ok-part-4.ensures.same ∙ (ap (λ b. hold b.0.0) c.in_ok-part-3.ensures.same ∙ (ap (λ b. hold b.0.0) c.in_ok-part-2.ensures.same ∙ (ap (λ b. hold b.0) c.in_ok-part.ensures.same ∙ ap hold c.in_ok-head.ensures.same)))) c.in_ok-word.ensures.reads)) (as_marks (ap (λ b. hold b.0.0.1) c.in_ok-part-4.ensures.same ∙ (ap (λ b. hold b.0.1) c.in_ok-part-3.ensures.same ∙ (ap (λ b. hold b.0.1) c.in_ok-part-2.ensures.same ∙ ap (λ b. hold b.1) c.in_ok-part.ensures.same))) c.in_ok-head.ensures.reads)) (as_marks (ap (λ b. expr_outline b.0.1.value) c.in_ok-part-4.ensures.same ∙ (ap (λ b. expr_outline b.1.value) c.in_ok-part-3.ensures.same ∙ ap (λ b. expr_outline b.1.value) c.in_ok-part-2.ensures.same)) (got expr_outline (phrase phrases.expr ∷ []) c.in_ok-part.ensures.read c.level-over.ensures.reads))) c.in_ok-part-2.ensures.reads) (as_marks (ap (λ b. names_outline b.1) c.in_ok-part-4.ensures.same) (got names_outline (phrase phrases.names ∷ []) c.in_ok-part-3.ensures.read c.names-names.ensures.reads))) c.in_ok-part-4.ensures.reads)
+project-returns-clause-reads t c = as_marks c.project.ensures (next (next (join (choose phrases.prime 11 c.requires) (before (phrase phrases.names ∷ leave phrases.close_paren ∷ []) (as_marks (ap (λ b. hold b.0.0.0 ++ hold b.0.0.1 ++ expr_outline b.0.1.value ++ skip phrases.semicolon) c.in_ok-part-3.ensures.same ∙ ap (λ b. hold b.0.0 ++ hold b.0.1 ++ expr_outline b.1.value ++ skip phrases.semicolon) c.in_ok-part-2.ensures.same) c.in_ok-part.ensures.reads))) (as_marks (ap (λ b. names_outline b.1) c.in_ok-part-3.ensures.same) (got names_outline (phrase phrases.names ∷ []) c.in_ok-part-2.ensures.read c.names-names.ensures.reads))) c.in_ok-part-3.ensures.reads)
 
 pub project-returns-clause-shorter : goal.project-returns-clause-shorter
-project-returns-clause-shorter t c = omega (arith, c.in_ok-word.ensures.shorter, c.in_ok-head.ensures.shorter, shortened c.in_ok-part.ensures.read c.level-over.ensures.shorter, c.in_ok-part-2.ensures.shorter, shortened c.in_ok-part-3.ensures.read c.names-names.ensures.shorter, c.in_ok-part-4.ensures.shorter)
-
-pub rename-returns-in_err-word-clause-sticks : goal.rename-returns-in_err-word-clause-sticks
-rename-returns-in_err-word-clause-sticks t c h = stops (choose phrases.prime 12 c.requires) (c.in_err-word.ensures.sticks (search rules))
-
-pub rename-returns-in_err-head-clause-sticks : goal.rename-returns-in_err-head-clause-sticks
-rename-returns-in_err-head-clause-sticks t c h = stops (next (choose phrases.prime 12 c.requires) c.in_ok-word.ensures.reads) (c.in_err-head.ensures.sticks (search rules))
+project-returns-clause-shorter t c = omega (arith, c.in_ok-part.ensures.shorter, shortened c.in_ok-part-2.ensures.read c.names-names.ensures.shorter, c.in_ok-part-3.ensures.shorter)
 
 pub rename-returns-in_err-part-clause-sticks : goal.rename-returns-in_err-part-clause-sticks
-rename-returns-in_err-part-clause-sticks t c h = stops (next (next (choose phrases.prime 12 c.requires) c.in_ok-word.ensures.reads) c.in_ok-head.ensures.reads) (c.level-over.ensures.sticks (c.in_err-part.ensures.stops (search rules)))
+rename-returns-in_err-part-clause-sticks t c h = stops_list (phrase phrases.renamings ∷ leave phrases.close_paren ∷ []) (choose phrases.prime 12 c.requires) (c.in_err-part.ensures.sticks (search rules))
 
 pub rename-returns-in_err-part-2-clause-sticks : goal.rename-returns-in_err-part-2-clause-sticks
-rename-returns-in_err-part-2-clause-sticks t c h = stops (next (next (next (choose phrases.prime 12 c.requires) c.in_ok-word.ensures.reads) c.in_ok-head.ensures.reads) (got expr_outline (phrase phrases.expr ∷ []) c.in_ok-part.ensures.read c.level-over.ensures.reads)) (c.in_err-part-2.ensures.sticks (search rules))
+rename-returns-in_err-part-2-clause-sticks t c h = stops (join (choose phrases.prime 12 c.requires) (before (phrase phrases.renamings ∷ leave phrases.close_paren ∷ []) c.in_ok-part.ensures.reads)) (c.renamings-renamings.ensures.sticks (c.in_err-part-2.ensures.stops (search rules)))
 
 pub rename-returns-in_err-part-3-clause-sticks : goal.rename-returns-in_err-part-3-clause-sticks
-rename-returns-in_err-part-3-clause-sticks t c h = stops (next (next (next (next (choose phrases.prime 12 c.requires) c.in_ok-word.ensures.reads) c.in_ok-head.ensures.reads) (got expr_outline (phrase phrases.expr ∷ []) c.in_ok-part.ensures.read c.level-over.ensures.reads)) c.in_ok-part-2.ensures.reads) (c.renamings-renamings.ensures.sticks (c.in_err-part-3.ensures.stops (search rules)))
-
-pub rename-returns-in_err-part-4-clause-sticks : goal.rename-returns-in_err-part-4-clause-sticks
-rename-returns-in_err-part-4-clause-sticks t c h = stops (next (next (next (next (next (choose phrases.prime 12 c.requires) c.in_ok-word.ensures.reads) c.in_ok-head.ensures.reads) (got expr_outline (phrase phrases.expr ∷ []) c.in_ok-part.ensures.read c.level-over.ensures.reads)) c.in_ok-part-2.ensures.reads) (got renamings_outline (phrase phrases.renamings ∷ []) c.in_ok-part-3.ensures.read c.renamings-renamings.ensures.reads)) (c.in_err-part-4.ensures.sticks (search rules))
+rename-returns-in_err-part-3-clause-sticks t c h = stops (next (join (choose phrases.prime 12 c.requires) (before (phrase phrases.renamings ∷ leave phrases.close_paren ∷ []) c.in_ok-part.ensures.reads)) (got renamings_outline (phrase phrases.renamings ∷ []) c.in_ok-part-2.ensures.read c.renamings-renamings.ensures.reads)) (c.in_err-part-3.ensures.sticks (search rules))
 
 pub rename-returns-clause-reads : goal.rename-returns-clause-reads
-rename-returns-clause-reads t c = as_marks c.rename.ensures (next (next (next (next (next (next (choose phrases.prime 12 c.requires) (as_marks (ap (λ b. hold b.0.0.0) c.in_ok-part-4.ensures.same ∙ (ap (λ b. hold b.0.0) c.in_ok-part-3.ensures.same ∙ (ap (λ b. hold b.0.0) c.in_ok-part-2.ensures.same ∙ (ap (λ b. hold b.0) c.in_ok-part.ensures.same ∙ ap hold c.in_ok-head.ensures.same)))) c.in_ok-word.ensures.reads)) (as_marks (ap (λ b. hold b.0.0.1) c.in_ok-part-4.ensures.same ∙ (ap (λ b. hold b.0.1) c.in_ok-part-3.ensures.same ∙ (ap (λ b. hold b.0.1) c.in_ok-part-2.ensures.same ∙ ap (λ b. hold b.1) c.in_ok-part.ensures.same))) c.in_ok-head.ensures.reads)) (as_marks (ap (λ b. expr_outline b.0.1.value) c.in_ok-part-4.ensures.same ∙ (ap (λ b. expr_outline b.1.value) c.in_ok-part-3.ensures.same ∙ ap (λ b. expr_outline b.1.value) c.in_ok-part-2.ensures.same)) (got expr_outline (phrase phrases.expr ∷ []) c.in_ok-part.ensures.read c.level-over.ensures.reads))) c.in_ok-part-2.ensures.reads) (as_marks (ap (λ b. renamings_outline b.1) c.in_ok-part-4.ensures.same) (got renamings_outline (phrase phrases.renamings ∷ []) c.in_ok-part-3.ensures.read c.renamings-renamings.ensures.reads))) c.in_ok-part-4.ensures.reads)
+rename-returns-clause-reads t c = as_marks c.rename.ensures (next (next (join (choose phrases.prime 12 c.requires) (before (phrase phrases.renamings ∷ leave phrases.close_paren ∷ []) (as_marks (ap (λ b. hold b.0.0.0 ++ hold b.0.0.1 ++ expr_outline b.0.1.value ++ skip phrases.semicolon) c.in_ok-part-3.ensures.same ∙ ap (λ b. hold b.0.0 ++ hold b.0.1 ++ expr_outline b.1.value ++ skip phrases.semicolon) c.in_ok-part-2.ensures.same) c.in_ok-part.ensures.reads))) (as_marks (ap (λ b. renamings_outline b.1) c.in_ok-part-3.ensures.same) (got renamings_outline (phrase phrases.renamings ∷ []) c.in_ok-part-2.ensures.read c.renamings-renamings.ensures.reads))) c.in_ok-part-3.ensures.reads)
 
 pub rename-returns-clause-shorter : goal.rename-returns-clause-shorter
-rename-returns-clause-shorter t c = omega (arith, c.in_ok-word.ensures.shorter, c.in_ok-head.ensures.shorter, shortened c.in_ok-part.ensures.read c.level-over.ensures.shorter, c.in_ok-part-2.ensures.shorter, shortened c.in_ok-part-3.ensures.read c.renamings-renamings.ensures.shorter, c.in_ok-part-4.ensures.shorter)
-
-pub pair-returns-in_err-word-clause-sticks : goal.pair-returns-in_err-word-clause-sticks
-pair-returns-in_err-word-clause-sticks t c h = stops (choose phrases.prime 13 c.requires) (c.in_err-word.ensures.sticks (search rules))
-
-pub pair-returns-in_err-head-clause-sticks : goal.pair-returns-in_err-head-clause-sticks
-pair-returns-in_err-head-clause-sticks t c h = stops (next (choose phrases.prime 13 c.requires) c.in_ok-word.ensures.reads) (c.in_err-head.ensures.sticks (search rules))
+rename-returns-clause-shorter t c = omega (arith, c.in_ok-part.ensures.shorter, shortened c.in_ok-part-2.ensures.read c.renamings-renamings.ensures.shorter, c.in_ok-part-3.ensures.shorter)
 
 pub pair-returns-in_err-part-clause-sticks : goal.pair-returns-in_err-part-clause-sticks
-pair-returns-in_err-part-clause-sticks t c h = stops (next (next (choose phrases.prime 13 c.requires) c.in_ok-word.ensures.reads) c.in_ok-head.ensures.reads) (c.level-left.ensures.sticks (c.in_err-part.ensures.stops (search rules)))
+pair-returns-in_err-part-clause-sticks t c h = stops_list (phrase phrases.expr ∷ leave phrases.close_paren ∷ []) (choose phrases.prime 13 c.requires) (c.in_err-part.ensures.sticks (search rules))
 
 pub pair-returns-in_err-part-2-clause-sticks : goal.pair-returns-in_err-part-2-clause-sticks
-pair-returns-in_err-part-2-clause-sticks t c h = stops (next (next (next (choose phrases.prime 13 c.requires) c.in_ok-word.ensures.reads) c.in_ok-head.ensures.reads) (got expr_outline (phrase phrases.expr ∷ []) c.in_ok-part.ensures.read c.level-left.ensures.reads)) (c.in_err-part-2.ensures.sticks (search rules))
+pair-returns-in_err-part-2-clause-sticks t c h = stops (join (choose phrases.prime 13 c.requires) (before (phrase phrases.expr ∷ leave phrases.close_paren ∷ []) c.in_ok-part.ensures.reads)) (c.level-right.ensures.sticks (c.in_err-part-2.ensures.stops (search rules)))
 
 pub pair-returns-in_err-part-3-clause-sticks : goal.pair-returns-in_err-part-3-clause-sticks
-pair-returns-in_err-part-3-clause-sticks t c h = stops (next (next (next (next (choose phrases.prime 13 c.requires) c.in_ok-word.ensures.reads) c.in_ok-head.ensures.reads) (got expr_outline (phrase phrases.expr ∷ []) c.in_ok-part.ensures.read c.level-left.ensures.reads)) c.in_ok-part-2.ensures.reads) (c.level-right.ensures.sticks (c.in_err-part-3.ensures.stops (search rules)))
-
-pub pair-returns-in_err-part-4-clause-sticks : goal.pair-returns-in_err-part-4-clause-sticks
-pair-returns-in_err-part-4-clause-sticks t c h = stops (next (next (next (next (next (choose phrases.prime 13 c.requires) c.in_ok-word.ensures.reads) c.in_ok-head.ensures.reads) (got expr_outline (phrase phrases.expr ∷ []) c.in_ok-part.ensures.read c.level-left.ensures.reads)) c.in_ok-part-2.ensures.reads) (got expr_outline (phrase phrases.expr ∷ []) c.in_ok-part-3.ensures.read c.level-right.ensures.reads)) (c.in_err-part-4.ensures.sticks (search rules))
+pair-returns-in_err-part-3-clause-sticks t c h = stops (next (join (choose phrases.prime 13 c.requires) (before (phrase phrases.expr ∷ leave phrases.close_paren ∷ []) c.in_ok-part.ensures.reads)) (got expr_outline (phrase phrases.expr ∷ []) c.in_ok-part-2.ensures.read c.level-right.ensures.reads)) (c.in_err-part-3.ensures.sticks (search rules))
 
 pub pair-returns-clause-reads : goal.pair-returns-clause-reads
-pair-returns-clause-reads t c = as_marks c.pair.ensures (next (next (next (next (next (next (choose phrases.prime 13 c.requires) (as_marks (ap (λ b. hold b.0.0.0) c.in_ok-part-4.ensures.same ∙ (ap (λ b. hold b.0.0) c.in_ok-part-3.ensures.same ∙ (ap (λ b. hold b.0.0) c.in_ok-part-2.ensures.same ∙ (ap (λ b. hold b.0) c.in_ok-part.ensures.same ∙ ap hold c.in_ok-head.ensures.same)))) c.in_ok-word.ensures.reads)) (as_marks (ap (λ b. hold b.0.0.1) c.in_ok-part-4.ensures.same ∙ (ap (λ b. hold b.0.1) c.in_ok-part-3.ensures.same ∙ (ap (λ b. hold b.0.1) c.in_ok-part-2.ensures.same ∙ ap (λ b. hold b.1) c.in_ok-part.ensures.same))) c.in_ok-head.ensures.reads)) (as_marks (ap (λ b. expr_outline b.0.1.value) c.in_ok-part-4.ensures.same ∙ (ap (λ b. expr_outline b.1.value) c.in_ok-part-3.ensures.same ∙ ap (λ b. expr_outline b.1.value) c.in_ok-part-2.ensures.same)) (got expr_outline (phrase phrases.expr ∷ []) c.in_ok-part.ensures.read c.level-left.ensures.reads))) c.in_ok-part-2.ensures.reads) (as_marks (ap (λ b. expr_outline b.1.value) c.in_ok-part-4.ensures.same) (got expr_outline (phrase phrases.expr ∷ []) c.in_ok-part-3.ensures.read c.level-right.ensures.reads))) c.in_ok-part-4.ensures.reads)
+pair-returns-clause-reads t c = as_marks c.pair.ensures (next (next (join (choose phrases.prime 13 c.requires) (before (phrase phrases.expr ∷ leave phrases.close_paren ∷ []) (as_marks (ap (λ b. hold b.0.0.0 ++ hold b.0.0.1 ++ expr_outline b.0.1.value ++ skip phrases.comma) c.in_ok-part-3.ensures.same ∙ ap (λ b. hold b.0.0 ++ hold b.0.1 ++ expr_outline b.1.value ++ skip phrases.comma) c.in_ok-part-2.ensures.same) c.in_ok-part.ensures.reads))) (as_marks (ap (λ b. expr_outline b.1.value) c.in_ok-part-3.ensures.same) (got expr_outline (phrase phrases.expr ∷ []) c.in_ok-part-2.ensures.read c.level-right.ensures.reads))) c.in_ok-part-3.ensures.reads)
 
 pub pair-returns-clause-shorter : goal.pair-returns-clause-shorter
-pair-returns-clause-shorter t c = omega (arith, c.in_ok-word.ensures.shorter, c.in_ok-head.ensures.shorter, shortened c.in_ok-part.ensures.read c.level-left.ensures.shorter, c.in_ok-part-2.ensures.shorter, shortened c.in_ok-part-3.ensures.read c.level-right.ensures.shorter, c.in_ok-part-4.ensures.shorter)
-
-pub group-returns-in_err-word-clause-sticks : goal.group-returns-in_err-word-clause-sticks
-group-returns-in_err-word-clause-sticks t c h = stops (choose phrases.prime 14 c.requires) (c.in_err-word.ensures.sticks (search rules))
-
-pub group-returns-in_err-head-clause-sticks : goal.group-returns-in_err-head-clause-sticks
-group-returns-in_err-head-clause-sticks t c h = stops (next (choose phrases.prime 14 c.requires) c.in_ok-word.ensures.reads) (c.in_err-head.ensures.sticks (search rules))
+pair-returns-clause-shorter t c = omega (arith, c.in_ok-part.ensures.shorter, shortened c.in_ok-part-2.ensures.read c.level-right.ensures.shorter, c.in_ok-part-3.ensures.shorter)
 
 pub group-returns-in_err-part-clause-sticks : goal.group-returns-in_err-part-clause-sticks
-group-returns-in_err-part-clause-sticks t c h = stops (next (next (choose phrases.prime 14 c.requires) c.in_ok-word.ensures.reads) c.in_ok-head.ensures.reads) (c.level-over.ensures.sticks (c.in_err-part.ensures.stops (search rules)))
+group-returns-in_err-part-clause-sticks t c h = stops_list (leave phrases.by_word ∷ phrase phrases.names ∷ leave phrases.semicolon ∷ phrase phrases.aggs ∷ leave phrases.close_paren ∷ []) (choose phrases.prime 14 c.requires) (c.in_err-part.ensures.sticks (search rules))
 
 pub group-returns-in_err-part-2-clause-sticks : goal.group-returns-in_err-part-2-clause-sticks
-group-returns-in_err-part-2-clause-sticks t c h = stops (next (next (next (choose phrases.prime 14 c.requires) c.in_ok-word.ensures.reads) c.in_ok-head.ensures.reads) (got expr_outline (phrase phrases.expr ∷ []) c.in_ok-part.ensures.read c.level-over.ensures.reads)) (c.in_err-part-2.ensures.sticks (search rules))
+group-returns-in_err-part-2-clause-sticks t c h = stops (join (choose phrases.prime 14 c.requires) (before (leave phrases.by_word ∷ phrase phrases.names ∷ leave phrases.semicolon ∷ phrase phrases.aggs ∷ leave phrases.close_paren ∷ []) c.in_ok-part.ensures.reads)) (c.in_err-part-2.ensures.sticks (search rules))
 
 pub group-returns-in_err-part-3-clause-sticks : goal.group-returns-in_err-part-3-clause-sticks
-group-returns-in_err-part-3-clause-sticks t c h = stops (next (next (next (next (choose phrases.prime 14 c.requires) c.in_ok-word.ensures.reads) c.in_ok-head.ensures.reads) (got expr_outline (phrase phrases.expr ∷ []) c.in_ok-part.ensures.read c.level-over.ensures.reads)) c.in_ok-part-2.ensures.reads) (c.in_err-part-3.ensures.sticks (search rules))
+group-returns-in_err-part-3-clause-sticks t c h = stops (next (join (choose phrases.prime 14 c.requires) (before (leave phrases.by_word ∷ phrase phrases.names ∷ leave phrases.semicolon ∷ phrase phrases.aggs ∷ leave phrases.close_paren ∷ []) c.in_ok-part.ensures.reads)) c.in_ok-part-2.ensures.reads) (c.names-names.ensures.sticks (c.in_err-part-3.ensures.stops (search rules)))
 
 pub group-returns-in_err-part-4-clause-sticks : goal.group-returns-in_err-part-4-clause-sticks
-group-returns-in_err-part-4-clause-sticks t c h = stops (next (next (next (next (next (choose phrases.prime 14 c.requires) c.in_ok-word.ensures.reads) c.in_ok-head.ensures.reads) (got expr_outline (phrase phrases.expr ∷ []) c.in_ok-part.ensures.read c.level-over.ensures.reads)) c.in_ok-part-2.ensures.reads) c.in_ok-part-3.ensures.reads) (c.names-names.ensures.sticks (c.in_err-part-4.ensures.stops (search rules)))
+group-returns-in_err-part-4-clause-sticks t c h = stops (next (next (join (choose phrases.prime 14 c.requires) (before (leave phrases.by_word ∷ phrase phrases.names ∷ leave phrases.semicolon ∷ phrase phrases.aggs ∷ leave phrases.close_paren ∷ []) c.in_ok-part.ensures.reads)) c.in_ok-part-2.ensures.reads) (got names_outline (phrase phrases.names ∷ []) c.in_ok-part-3.ensures.read c.names-names.ensures.reads)) (c.in_err-part-4.ensures.sticks (search rules))
 
 pub group-returns-in_err-part-5-clause-sticks : goal.group-returns-in_err-part-5-clause-sticks
-group-returns-in_err-part-5-clause-sticks t c h = stops (next (next (next (next (next (next (choose phrases.prime 14 c.requires) c.in_ok-word.ensures.reads) c.in_ok-head.ensures.reads) (got expr_outline (phrase phrases.expr ∷ []) c.in_ok-part.ensures.read c.level-over.ensures.reads)) c.in_ok-part-2.ensures.reads) c.in_ok-part-3.ensures.reads) (got names_outline (phrase phrases.names ∷ []) c.in_ok-part-4.ensures.read c.names-names.ensures.reads)) (c.in_err-part-5.ensures.sticks (search rules))
+group-returns-in_err-part-5-clause-sticks t c h = stops (next (next (next (join (choose phrases.prime 14 c.requires) (before (leave phrases.by_word ∷ phrase phrases.names ∷ leave phrases.semicolon ∷ phrase phrases.aggs ∷ leave phrases.close_paren ∷ []) c.in_ok-part.ensures.reads)) c.in_ok-part-2.ensures.reads) (got names_outline (phrase phrases.names ∷ []) c.in_ok-part-3.ensures.read c.names-names.ensures.reads)) c.in_ok-part-4.ensures.reads) (c.aggs-aggs.ensures.sticks (c.in_err-part-5.ensures.stops (search rules)))
 
 pub group-returns-in_err-part-6-clause-sticks : goal.group-returns-in_err-part-6-clause-sticks
-group-returns-in_err-part-6-clause-sticks t c h = stops (next (next (next (next (next (next (next (choose phrases.prime 14 c.requires) c.in_ok-word.ensures.reads) c.in_ok-head.ensures.reads) (got expr_outline (phrase phrases.expr ∷ []) c.in_ok-part.ensures.read c.level-over.ensures.reads)) c.in_ok-part-2.ensures.reads) c.in_ok-part-3.ensures.reads) (got names_outline (phrase phrases.names ∷ []) c.in_ok-part-4.ensures.read c.names-names.ensures.reads)) c.in_ok-part-5.ensures.reads) (c.aggs-aggs.ensures.sticks (c.in_err-part-6.ensures.stops (search rules)))
-
-pub group-returns-in_err-part-7-clause-sticks : goal.group-returns-in_err-part-7-clause-sticks
-group-returns-in_err-part-7-clause-sticks t c h = stops (next (next (next (next (next (next (next (next (choose phrases.prime 14 c.requires) c.in_ok-word.ensures.reads) c.in_ok-head.ensures.reads) (got expr_outline (phrase phrases.expr ∷ []) c.in_ok-part.ensures.read c.level-over.ensures.reads)) c.in_ok-part-2.ensures.reads) c.in_ok-part-3.ensures.reads) (got names_outline (phrase phrases.names ∷ []) c.in_ok-part-4.ensures.read c.names-names.ensures.reads)) c.in_ok-part-5.ensures.reads) (got aggs_outline (phrase phrases.aggs ∷ []) c.in_ok-part-6.ensures.read c.aggs-aggs.ensures.reads)) (c.in_err-part-7.ensures.sticks (search rules))
+group-returns-in_err-part-6-clause-sticks t c h = stops (next (next (next (next (join (choose phrases.prime 14 c.requires) (before (leave phrases.by_word ∷ phrase phrases.names ∷ leave phrases.semicolon ∷ phrase phrases.aggs ∷ leave phrases.close_paren ∷ []) c.in_ok-part.ensures.reads)) c.in_ok-part-2.ensures.reads) (got names_outline (phrase phrases.names ∷ []) c.in_ok-part-3.ensures.read c.names-names.ensures.reads)) c.in_ok-part-4.ensures.reads) (got aggs_outline (phrase phrases.aggs ∷ []) c.in_ok-part-5.ensures.read c.aggs-aggs.ensures.reads)) (c.in_err-part-6.ensures.sticks (search rules))
 
 pub group-returns-clause-reads : goal.group-returns-clause-reads
-group-returns-clause-reads t c = as_marks c.group.ensures (next (next (next (next (next (next (next (next (next (choose phrases.prime 14 c.requires) (as_marks (ap (λ b. hold b.0.0.0.0) c.in_ok-part-7.ensures.same ∙ (ap (λ b. hold b.0.0.0) c.in_ok-part-6.ensures.same ∙ (ap (λ b. hold b.0.0.0) c.in_ok-part-5.ensures.same ∙ (ap (λ b. hold b.0.0) c.in_ok-part-4.ensures.same ∙ (ap (λ b. hold b.0.0) c.in_ok-part-3.ensures.same ∙ (ap (λ b. hold b.0.0) c.in_ok-part-2.ensures.same ∙ (ap (λ b. hold b.0) c.in_ok-part.ensures.same ∙ ap hold c.in_ok-head.ensures.same))))))) c.in_ok-word.ensures.reads)) (as_marks (ap (λ b. hold b.0.0.0.1) c.in_ok-part-7.ensures.same ∙ (ap (λ b. hold b.0.0.1) c.in_ok-part-6.ensures.same ∙ (ap (λ b. hold b.0.0.1) c.in_ok-part-5.ensures.same ∙ (ap (λ b. hold b.0.1) c.in_ok-part-4.ensures.same ∙ (ap (λ b. hold b.0.1) c.in_ok-part-3.ensures.same ∙ (ap (λ b. hold b.0.1) c.in_ok-part-2.ensures.same ∙ ap (λ b. hold b.1) c.in_ok-part.ensures.same)))))) c.in_ok-head.ensures.reads)) (as_marks (ap (λ b. expr_outline b.0.0.1.value) c.in_ok-part-7.ensures.same ∙ (ap (λ b. expr_outline b.0.1.value) c.in_ok-part-6.ensures.same ∙ (ap (λ b. expr_outline b.0.1.value) c.in_ok-part-5.ensures.same ∙ (ap (λ b. expr_outline b.1.value) c.in_ok-part-4.ensures.same ∙ (ap (λ b. expr_outline b.1.value) c.in_ok-part-3.ensures.same ∙ ap (λ b. expr_outline b.1.value) c.in_ok-part-2.ensures.same))))) (got expr_outline (phrase phrases.expr ∷ []) c.in_ok-part.ensures.read c.level-over.ensures.reads))) c.in_ok-part-2.ensures.reads) c.in_ok-part-3.ensures.reads) (as_marks (ap (λ b. names_outline b.0.1) c.in_ok-part-7.ensures.same ∙ (ap (λ b. names_outline b.1) c.in_ok-part-6.ensures.same ∙ ap (λ b. names_outline b.1) c.in_ok-part-5.ensures.same)) (got names_outline (phrase phrases.names ∷ []) c.in_ok-part-4.ensures.read c.names-names.ensures.reads))) c.in_ok-part-5.ensures.reads) (as_marks (ap (λ b. aggs_outline b.1) c.in_ok-part-7.ensures.same) (got aggs_outline (phrase phrases.aggs ∷ []) c.in_ok-part-6.ensures.read c.aggs-aggs.ensures.reads))) c.in_ok-part-7.ensures.reads)
+group-returns-clause-reads t c = as_marks c.group.ensures (next (next (next (next (next (join (choose phrases.prime 14 c.requires) (before (leave phrases.by_word ∷ phrase phrases.names ∷ leave phrases.semicolon ∷ phrase phrases.aggs ∷ leave phrases.close_paren ∷ []) (as_marks (ap (λ b. hold b.0.0.0.0 ++ hold b.0.0.0.1 ++ expr_outline b.0.0.1.value ++ skip phrases.semicolon) c.in_ok-part-6.ensures.same ∙ (ap (λ b. hold b.0.0.0 ++ hold b.0.0.1 ++ expr_outline b.0.1.value ++ skip phrases.semicolon) c.in_ok-part-5.ensures.same ∙ (ap (λ b. hold b.0.0.0 ++ hold b.0.0.1 ++ expr_outline b.0.1.value ++ skip phrases.semicolon) c.in_ok-part-4.ensures.same ∙ (ap (λ b. hold b.0.0 ++ hold b.0.1 ++ expr_outline b.1.value ++ skip phrases.semicolon) c.in_ok-part-3.ensures.same ∙ ap (λ b. hold b.0.0 ++ hold b.0.1 ++ expr_outline b.1.value ++ skip phrases.semicolon) c.in_ok-part-2.ensures.same)))) c.in_ok-part.ensures.reads))) c.in_ok-part-2.ensures.reads) (as_marks (ap (λ b. names_outline b.0.1) c.in_ok-part-6.ensures.same ∙ (ap (λ b. names_outline b.1) c.in_ok-part-5.ensures.same ∙ ap (λ b. names_outline b.1) c.in_ok-part-4.ensures.same)) (got names_outline (phrase phrases.names ∷ []) c.in_ok-part-3.ensures.read c.names-names.ensures.reads))) c.in_ok-part-4.ensures.reads) (as_marks (ap (λ b. aggs_outline b.1) c.in_ok-part-6.ensures.same) (got aggs_outline (phrase phrases.aggs ∷ []) c.in_ok-part-5.ensures.read c.aggs-aggs.ensures.reads))) c.in_ok-part-6.ensures.reads)
 
 pub group-returns-clause-shorter : goal.group-returns-clause-shorter
-group-returns-clause-shorter t c = omega (arith, c.in_ok-word.ensures.shorter, c.in_ok-head.ensures.shorter, shortened c.in_ok-part.ensures.read c.level-over.ensures.shorter, c.in_ok-part-2.ensures.shorter, c.in_ok-part-3.ensures.shorter, shortened c.in_ok-part-4.ensures.read c.names-names.ensures.shorter, c.in_ok-part-5.ensures.shorter, shortened c.in_ok-part-6.ensures.read c.aggs-aggs.ensures.shorter, c.in_ok-part-7.ensures.shorter)
-
-pub measure-returns-in_err-word-clause-sticks : goal.measure-returns-in_err-word-clause-sticks
-measure-returns-in_err-word-clause-sticks t c h = stops (choose phrases.prime 15 c.requires) (c.in_err-word.ensures.sticks (search rules))
-
-pub measure-returns-in_err-head-clause-sticks : goal.measure-returns-in_err-head-clause-sticks
-measure-returns-in_err-head-clause-sticks t c h = stops (next (choose phrases.prime 15 c.requires) c.in_ok-word.ensures.reads) (c.in_err-head.ensures.sticks (search rules))
+group-returns-clause-shorter t c = omega (arith, c.in_ok-part.ensures.shorter, c.in_ok-part-2.ensures.shorter, shortened c.in_ok-part-3.ensures.read c.names-names.ensures.shorter, c.in_ok-part-4.ensures.shorter, shortened c.in_ok-part-5.ensures.read c.aggs-aggs.ensures.shorter, c.in_ok-part-6.ensures.shorter)
 
 pub measure-returns-in_err-part-clause-sticks : goal.measure-returns-in_err-part-clause-sticks
-measure-returns-in_err-part-clause-sticks t c h = stops (next (next (choose phrases.prime 15 c.requires) c.in_ok-word.ensures.reads) c.in_ok-head.ensures.reads) (c.level-over.ensures.sticks (c.in_err-part.ensures.stops (search rules)))
-
-pub measure-returns-in_err-part-2-clause-sticks : goal.measure-returns-in_err-part-2-clause-sticks
-measure-returns-in_err-part-2-clause-sticks t c h = stops (next (next (next (choose phrases.prime 15 c.requires) c.in_ok-word.ensures.reads) c.in_ok-head.ensures.reads) (got expr_outline (phrase phrases.expr ∷ []) c.in_ok-part.ensures.read c.level-over.ensures.reads)) (c.in_err-part-2.ensures.sticks (search rules))
+measure-returns-in_err-part-clause-sticks t c h = stops_list [] (choose phrases.prime 15 c.requires) (c.in_err-part.ensures.sticks (search rules))
 
 pub measure-returns-clause-reads : goal.measure-returns-clause-reads
-measure-returns-clause-reads t c = as_marks c.measure.ensures (next (next (next (next (choose phrases.prime 15 c.requires) (as_marks (ap (λ b. hold b.0.0) c.in_ok-part-2.ensures.same ∙ (ap (λ b. hold b.0) c.in_ok-part.ensures.same ∙ ap hold c.in_ok-head.ensures.same)) c.in_ok-word.ensures.reads)) (as_marks (ap (λ b. hold b.0.1) c.in_ok-part-2.ensures.same ∙ ap (λ b. hold b.1) c.in_ok-part.ensures.same) c.in_ok-head.ensures.reads)) (as_marks (ap (λ b. expr_outline b.1.value) c.in_ok-part-2.ensures.same) (got expr_outline (phrase phrases.expr ∷ []) c.in_ok-part.ensures.read c.level-over.ensures.reads))) c.in_ok-part-2.ensures.reads)
-
-pub measure-returns-clause-shorter : goal.measure-returns-clause-shorter
-measure-returns-clause-shorter t c = omega (arith, c.in_ok-word.ensures.shorter, c.in_ok-head.ensures.shorter, shortened c.in_ok-part.ensures.read c.level-over.ensures.shorter, c.in_ok-part-2.ensures.shorter)
-
-pub fold-returns-in_err-word-clause-sticks : goal.fold-returns-in_err-word-clause-sticks
-fold-returns-in_err-word-clause-sticks t c h = stops (choose phrases.prime 16 c.requires) (c.in_err-word.ensures.sticks (search rules))
-
-pub fold-returns-in_err-head-clause-sticks : goal.fold-returns-in_err-head-clause-sticks
-fold-returns-in_err-head-clause-sticks t c h = stops (next (choose phrases.prime 16 c.requires) c.in_ok-word.ensures.reads) (c.in_err-head.ensures.sticks (search rules))
+measure-returns-clause-reads t c = as_marks c.measure.ensures (join (choose phrases.prime 15 c.requires) (before [] c.in_ok-part.ensures.reads))
 
 pub fold-returns-in_err-part-clause-sticks : goal.fold-returns-in_err-part-clause-sticks
-fold-returns-in_err-part-clause-sticks t c h = stops (next (next (choose phrases.prime 16 c.requires) c.in_ok-word.ensures.reads) c.in_ok-head.ensures.reads) (c.level-over.ensures.sticks (c.in_err-part.ensures.stops (search rules)))
+fold-returns-in_err-part-clause-sticks t c h = stops_list (keep phrases.name ∷ leave phrases.close_paren ∷ []) (choose phrases.prime 16 c.requires) (c.in_err-part.ensures.sticks (search rules))
 
 pub fold-returns-in_err-part-2-clause-sticks : goal.fold-returns-in_err-part-2-clause-sticks
-fold-returns-in_err-part-2-clause-sticks t c h = stops (next (next (next (choose phrases.prime 16 c.requires) c.in_ok-word.ensures.reads) c.in_ok-head.ensures.reads) (got expr_outline (phrase phrases.expr ∷ []) c.in_ok-part.ensures.read c.level-over.ensures.reads)) (c.in_err-part-2.ensures.sticks (search rules))
+fold-returns-in_err-part-2-clause-sticks t c h = stops (join (choose phrases.prime 16 c.requires) (before (keep phrases.name ∷ leave phrases.close_paren ∷ []) c.in_ok-part.ensures.reads)) (c.in_err-part-2.ensures.sticks (search rules))
 
 pub fold-returns-in_err-part-3-clause-sticks : goal.fold-returns-in_err-part-3-clause-sticks
-fold-returns-in_err-part-3-clause-sticks t c h = stops (next (next (next (next (choose phrases.prime 16 c.requires) c.in_ok-word.ensures.reads) c.in_ok-head.ensures.reads) (got expr_outline (phrase phrases.expr ∷ []) c.in_ok-part.ensures.read c.level-over.ensures.reads)) c.in_ok-part-2.ensures.reads) (c.in_err-part-3.ensures.sticks (search rules))
-
-pub fold-returns-in_err-part-4-clause-sticks : goal.fold-returns-in_err-part-4-clause-sticks
-fold-returns-in_err-part-4-clause-sticks t c h = stops (next (next (next (next (next (choose phrases.prime 16 c.requires) c.in_ok-word.ensures.reads) c.in_ok-head.ensures.reads) (got expr_outline (phrase phrases.expr ∷ []) c.in_ok-part.ensures.read c.level-over.ensures.reads)) c.in_ok-part-2.ensures.reads) c.in_ok-part-3.ensures.reads) (c.in_err-part-4.ensures.sticks (search rules))
+fold-returns-in_err-part-3-clause-sticks t c h = stops (next (join (choose phrases.prime 16 c.requires) (before (keep phrases.name ∷ leave phrases.close_paren ∷ []) c.in_ok-part.ensures.reads)) c.in_ok-part-2.ensures.reads) (c.in_err-part-3.ensures.sticks (search rules))
 
 pub fold-returns-clause-reads : goal.fold-returns-clause-reads
-fold-returns-clause-reads t c = as_marks c.fold.ensures (next (next (next (next (next (next (choose phrases.prime 16 c.requires) (as_marks (ap (λ b. hold b.0.0.0) c.in_ok-part-4.ensures.same ∙ (ap (λ b. hold b.0.0) c.in_ok-part-3.ensures.same ∙ (ap (λ b. hold b.0.0) c.in_ok-part-2.ensures.same ∙ (ap (λ b. hold b.0) c.in_ok-part.ensures.same ∙ ap hold c.in_ok-head.ensures.same)))) c.in_ok-word.ensures.reads)) (as_marks (ap (λ b. hold b.0.0.1) c.in_ok-part-4.ensures.same ∙ (ap (λ b. hold b.0.1) c.in_ok-part-3.ensures.same ∙ (ap (λ b. hold b.0.1) c.in_ok-part-2.ensures.same ∙ ap (λ b. hold b.1) c.in_ok-part.ensures.same))) c.in_ok-head.ensures.reads)) (as_marks (ap (λ b. expr_outline b.0.1.value) c.in_ok-part-4.ensures.same ∙ (ap (λ b. expr_outline b.1.value) c.in_ok-part-3.ensures.same ∙ ap (λ b. expr_outline b.1.value) c.in_ok-part-2.ensures.same)) (got expr_outline (phrase phrases.expr ∷ []) c.in_ok-part.ensures.read c.level-over.ensures.reads))) c.in_ok-part-2.ensures.reads) (as_marks (ap (λ b. hold b.1) c.in_ok-part-4.ensures.same) c.in_ok-part-3.ensures.reads)) c.in_ok-part-4.ensures.reads)
-
-pub fold-returns-clause-shorter : goal.fold-returns-clause-shorter
-fold-returns-clause-shorter t c = omega (arith, c.in_ok-word.ensures.shorter, c.in_ok-head.ensures.shorter, shortened c.in_ok-part.ensures.read c.level-over.ensures.shorter, c.in_ok-part-2.ensures.shorter, c.in_ok-part-3.ensures.shorter, c.in_ok-part-4.ensures.shorter)
+fold-returns-clause-reads t c = as_marks c.fold.ensures (next (next (join (choose phrases.prime 16 c.requires) (before (keep phrases.name ∷ leave phrases.close_paren ∷ []) (as_marks (ap (λ b. hold b.0.0.0 ++ hold b.0.0.1 ++ expr_outline b.0.1.value ++ skip phrases.comma) c.in_ok-part-3.ensures.same ∙ ap (λ b. hold b.0.0 ++ hold b.0.1 ++ expr_outline b.1.value ++ skip phrases.comma) c.in_ok-part-2.ensures.same) c.in_ok-part.ensures.reads))) (as_marks (ap (λ b. hold b.1) c.in_ok-part-3.ensures.same) c.in_ok-part-2.ensures.reads)) c.in_ok-part-3.ensures.reads)
 
 pub bulk-returns-in_err-word-clause-sticks : goal.bulk-returns-in_err-word-clause-sticks
 bulk-returns-in_err-word-clause-sticks t c h = stops (choose phrases.prime 17 c.requires) (c.in_err-word.ensures.sticks (search rules))
@@ -371,29 +311,20 @@ bulk-returns-clause-reads t c = as_marks c.bulk.ensures (next (next (next (next 
 pub bulk-returns-clause-shorter : goal.bulk-returns-clause-shorter
 bulk-returns-clause-shorter t c = omega (arith, c.in_ok-word.ensures.shorter, c.in_ok-head.ensures.shorter, c.in_ok-head-2.ensures.shorter, c.in_ok-head-3.ensures.shorter, c.in_ok-head-4.ensures.shorter, shortened c.in_ok-part.ensures.read c.level-over.ensures.shorter, c.in_ok-part-2.ensures.shorter)
 
-pub part-returns-in_err-word-clause-sticks : goal.part-returns-in_err-word-clause-sticks
-part-returns-in_err-word-clause-sticks t c h = stops (choose phrases.prime 18 c.requires) (c.in_err-word.ensures.sticks (search rules))
-
 pub part-returns-in_err-head-clause-sticks : goal.part-returns-in_err-head-clause-sticks
-part-returns-in_err-head-clause-sticks t c h = stops (next (choose phrases.prime 18 c.requires) c.in_ok-word.ensures.reads) (c.in_err-head.ensures.sticks (search rules))
-
-pub part-returns-in_err-head-2-clause-sticks : goal.part-returns-in_err-head-2-clause-sticks
-part-returns-in_err-head-2-clause-sticks t c h = stops (next (next (choose phrases.prime 18 c.requires) c.in_ok-word.ensures.reads) c.in_ok-head.ensures.reads) (c.in_err-head-2.ensures.sticks (search rules))
-
-pub part-returns-in_err-head-3-clause-sticks : goal.part-returns-in_err-head-3-clause-sticks
-part-returns-in_err-head-3-clause-sticks t c h = stops (next (next (next (choose phrases.prime 18 c.requires) c.in_ok-word.ensures.reads) c.in_ok-head.ensures.reads) c.in_ok-head-2.ensures.reads) (c.in_err-head-3.ensures.sticks (search rules))
+part-returns-in_err-head-clause-sticks t c h = stops_list (phrase phrases.expr ∷ leave phrases.close_paren ∷ []) (choose phrases.prime 18 c.requires) (c.in_err-head.ensures.sticks (search rules))
 
 pub part-returns-in_err-part-clause-sticks : goal.part-returns-in_err-part-clause-sticks
-part-returns-in_err-part-clause-sticks t c h = stops (next (next (next (next (choose phrases.prime 18 c.requires) c.in_ok-word.ensures.reads) c.in_ok-head.ensures.reads) c.in_ok-head-2.ensures.reads) c.in_ok-head-3.ensures.reads) (c.level-over.ensures.sticks (c.in_err-part.ensures.stops (search rules)))
+part-returns-in_err-part-clause-sticks t c h = stops (join (choose phrases.prime 18 c.requires) (before (phrase phrases.expr ∷ leave phrases.close_paren ∷ []) c.in_ok-head.ensures.reads)) (c.level-over.ensures.sticks (c.in_err-part.ensures.stops (search rules)))
 
 pub part-returns-in_err-part-2-clause-sticks : goal.part-returns-in_err-part-2-clause-sticks
-part-returns-in_err-part-2-clause-sticks t c h = stops (next (next (next (next (next (choose phrases.prime 18 c.requires) c.in_ok-word.ensures.reads) c.in_ok-head.ensures.reads) c.in_ok-head-2.ensures.reads) c.in_ok-head-3.ensures.reads) (got expr_outline (phrase phrases.expr ∷ []) c.in_ok-part.ensures.read c.level-over.ensures.reads)) (c.in_err-part-2.ensures.sticks (search rules))
+part-returns-in_err-part-2-clause-sticks t c h = stops (next (join (choose phrases.prime 18 c.requires) (before (phrase phrases.expr ∷ leave phrases.close_paren ∷ []) c.in_ok-head.ensures.reads)) (got expr_outline (phrase phrases.expr ∷ []) c.in_ok-part.ensures.read c.level-over.ensures.reads)) (c.in_err-part-2.ensures.sticks (search rules))
 
 pub part-returns-clause-reads : goal.part-returns-clause-reads
-part-returns-clause-reads t c = as_marks c.part.ensures (next (next (next (next (next (next (choose phrases.prime 18 c.requires) (as_marks (ap (λ b. hold b.0.0.0) c.in_ok-part-2.ensures.same ∙ (ap (λ b. hold b.0.0) c.in_ok-part.ensures.same ∙ (ap (λ b. hold b.0.0) c.in_ok-head-3.ensures.same ∙ (ap (λ b. hold b.0) c.in_ok-head-2.ensures.same ∙ ap hold c.in_ok-head.ensures.same)))) c.in_ok-word.ensures.reads)) (as_marks (ap (λ b. hold b.0.0.1) c.in_ok-part-2.ensures.same ∙ (ap (λ b. hold b.0.1) c.in_ok-part.ensures.same ∙ (ap (λ b. hold b.0.1) c.in_ok-head-3.ensures.same ∙ ap (λ b. hold b.1) c.in_ok-head-2.ensures.same))) c.in_ok-head.ensures.reads)) (as_marks (ap (λ b. hold b.0.1) c.in_ok-part-2.ensures.same ∙ (ap (λ b. hold b.1) c.in_ok-part.ensures.same ∙ ap (λ b. hold b.1) c.in_ok-head-3.ensures.same)) c.in_ok-head-2.ensures.reads)) c.in_ok-head-3.ensures.reads) (as_marks (ap (λ b. expr_outline b.1.value) c.in_ok-part-2.ensures.same) (got expr_outline (phrase phrases.expr ∷ []) c.in_ok-part.ensures.read c.level-over.ensures.reads))) c.in_ok-part-2.ensures.reads)
+part-returns-clause-reads t c = as_marks c.part.ensures (next (next (join (choose phrases.prime 18 c.requires) (before (phrase phrases.expr ∷ leave phrases.close_paren ∷ []) (as_marks (ap (λ b. hold b.0.0.0 ++ hold b.0.0.1 ++ hold b.0.1 ++ skip phrases.comma) c.in_ok-part-2.ensures.same ∙ ap (λ b. hold b.0.0 ++ hold b.0.1 ++ hold b.1 ++ skip phrases.comma) c.in_ok-part.ensures.same) c.in_ok-head.ensures.reads))) (as_marks (ap (λ b. expr_outline b.1.value) c.in_ok-part-2.ensures.same) (got expr_outline (phrase phrases.expr ∷ []) c.in_ok-part.ensures.read c.level-over.ensures.reads))) c.in_ok-part-2.ensures.reads)
 
 pub part-returns-clause-shorter : goal.part-returns-clause-shorter
-part-returns-clause-shorter t c = omega (arith, c.in_ok-word.ensures.shorter, c.in_ok-head.ensures.shorter, c.in_ok-head-2.ensures.shorter, c.in_ok-head-3.ensures.shorter, shortened c.in_ok-part.ensures.read c.level-over.ensures.shorter, c.in_ok-part-2.ensures.shorter)
+part-returns-clause-shorter t c = omega (arith, c.in_ok-head.ensures.shorter, shortened c.in_ok-part.ensures.read c.level-over.ensures.shorter, c.in_ok-part-2.ensures.shorter)
 
 pub name_or_call-returns-in_err-name-clause-sticks : goal.name_or_call-returns-in_err-name-clause-sticks
 name_or_call-returns-in_err-name-clause-sticks t c h = stops (choose phrases.prime 5 c.requires) (c.in_err-name.ensures.sticks (search rules))

@@ -49,6 +49,9 @@ decreases-rows l = 64 * length l.self.now + 1
 abbrev pub decreases-walk : goal.decreases-walk
 decreases-walk l = 64 * length l.self.now + 1
 
+abbrev pub decreases-opened : goal.decreases-opened
+decreases-opened l = 64 * length l.self.now + 0
+
 abbrev pub decreases-project : goal.decreases-project
 decreases-project l = 64 * length l.self.now + 1
 
