@@ -1,7 +1,7 @@
 -- Expressions and lists of expressions that have a given outline.
-use Rattle.std.proofs.Common.{◌≡◌, ◌<◌, ◌≤◌, ◌^◌, ℕ, List, [], ◌∷◌, ◌++◌, Option, Some, None, length, refl, sym, ap, subst, ◌∙◌, arith, Vec, Global}
+use Rattle.std.proofs.Common.{◌≡◌, ◌≤◌, List, ◌++◌, length, sym, ap, subst, ◌∙◌, Vec, Global}
 use Rattle.std.specs.List.{flat_map}
-use Rattle.hera_syntax.specs.declared.expr.Expr.{Expr, Expr', items-the_row-Tail}
+use Rattle.hera_syntax.specs.declared.expr.Expr.{Expr, Expr'}
 use Rattle.hera_syntax.specs.declared.expr.Level.{Level}
 use Rattle.hera_syntax.specs.declared.expr.Level.TheVariants as levels
 use Rattle.hera_syntax.specs.declared.expr.Operand.{Operand}
@@ -15,7 +15,7 @@ use Rattle.hera_syntax.specs.declared.expr.Atoms.{Atoms, Atoms'}
 use Rattle.hera_syntax.specs.declared.expr.Line.{Line}
 use Rattle.hera_syntax.specs.declared.expr.Lines.{Lines, Lines'}
 use Rattle.hera_syntax.specs.Grammar as phrases
-use Rattle.hera_syntax.specs.Outline.{Mark, node, args_outline, args_row, atom_outline, atoms_outline, atoms_row, binding_outline, bindings_outline, bindings_row, chain, comparison_rest, expr_outline, line_outline, lines_outline, lines_row, more_of, operand_outline, production_of, tail_row, tails_outline}
+use Rattle.hera_syntax.specs.Outline.{node, args_outline, args_row, atom_outline, atoms_outline, atoms_row, binding_outline, bindings_outline, bindings_row, comparison_rest, expr_outline, line_outline, lines_outline, lines_row, more_of, operand_outline, production_of, tail_row}
 use Rattle.hera_syntax.proofs.Rows.{chain_rows, comparison_rows, args_rows, bindings_rows, atoms_rows, lines_rows}
 
 pub expr_of : Level → Operand → Vec Tail Global → Expr

@@ -1,10 +1,9 @@
 -- The first fault of a script's types has a place.
-use Rattle.std.proofs.Common.{◌≡◌, ℕ, List, [], ◌∷◌, ◌++◌, ◌+◌, ◌||◌, Option, Some, None, Result, Ok, Err, Bool, true, false, cond, length, map, is_some, nat_lt, subst}
+use Rattle.std.proofs.Common.{ℕ, List, [], ◌∷◌, ◌++◌, ◌+◌, ◌||◌, Option, Some, None, Result, true, false, length, map, is_some, nat_lt, subst}
 use Rattle.hera_sets.specs.Rows.{holds}
 use Rattle.hera_meaning.specs.declared.schemas.RelDecl.{RelDecl}
 use Rattle.hera_meaning.specs.declared.trees.Shape.{Shape}
 use Rattle.hera_meaning.specs.Catalogues.{decl_name}
-use Rattle.hera_meaning.specs.Sound.{returns}
 use Rattle.hera_meaning.specs.Trees.{Command, Body_tree, commit, rollback}
 use Rattle.hera_host.specs.Tables.{Host}
 use Rattle.hera_rules.specs.declared.words.Word.{Word}
@@ -12,14 +11,14 @@ use Rattle.hera_rules.specs.declared.env.Local.{Local}
 use Rattle.hera_rules.specs.declared.env.FuncSig.{FuncSig}
 use Rattle.hera_rules.specs.declared.env.ProcSig.{ProcSig}
 use Rattle.hera_rules.specs.declared.fault.TypeFault.{TypeFault}
-use Rattle.hera_rules.specs.declared.fault.TypeFault.TheVariants.{Repeated, NoReturn, Memory}
+use Rattle.hera_rules.specs.declared.fault.TypeFault.TheVariants.{Memory}
 use Rattle.hera_rules.specs.Environments.{Env}
 use Rattle.hera_rules.specs.Phrases.{Phrase, literal, named, calling, operation, prefixed, attribute, row, atom, atoms, line, lines, walking, projecting, renaming, pairing, grouping, testing, folding, bulk, part, Phrases, no_phrase, phrase, Uses, no_use, uses, Act, declaring, assigning, performing, choosing, looping, visiting, printing, applying, asserting, committing, rolling_back, returning, returning_value, Acts, no_act, act, Branches, no_branch, branch, Relation_phrase, Param_phrase, Func_phrase, Proc_phrase, Script}
-use Rattle.hera_rules.specs.Rules.{Typing, Step, call_row, joint_row, row_row, atom_row, line_row, lines_row, variable_row, walk_row}
+use Rattle.hera_rules.specs.Rules.{Typing, Step, joint_row, variable_row}
 use Rattle.hera_rules.specs.Typing.{slots_of}
 use Rattle.hera_rules.specs.Statements.{slots_of_act, slots_of_acts, slots_of_branches}
 use Rattle.hera_rules.specs.Commands.{type_row, fields_row, Armed, cond_row, assign_row, perform_row, print_row, apply_row, assert_row, effect_row, return_row, return_value_row}
-use Rattle.hera_rules.specs.Checked.{and_then, check, check_all, check_uses}
+use Rattle.hera_rules.specs.Checked.{check, check_all, check_uses}
 use Rattle.hera_rules.specs.CheckedActs.{stays, check_act, check_acts, check_branches}
 use Rattle.hera_rules.specs.CheckedScripts.{check_body, check_funcs, check_procs, check_script}
 use Rattle.hera_rules.specs.Programs.{relation_name, relations_row, new_name_row, names_row, local_name, param_row, params_row, func_row, funcs_row, proc_row, procs_row, env_row, body_with, returns_row, FirstFault}

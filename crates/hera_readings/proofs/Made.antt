@@ -1,5 +1,5 @@
 -- Each alternative of each production makes a value of its parts.
-use Rattle.std.proofs.Common.{◌≡◌, ◌<◌, ◌+◌, ℕ, zero, suc, List, [], ◌∷◌, length, refl, sym, ap, subst, ◌∙◌, arith}
+use Rattle.std.proofs.Common.{◌≡◌, ◌<◌, ◌+◌, ℕ, zero, suc, List, [], ◌∷◌, length, subst, arith}
 use Rattle.std.specs.Prelude.{slice_index_or}
 use Rattle.hera_syntax.specs.Grammar.{Production, Part, alternatives, alternative}
 use Rattle.hera_syntax.specs.Grammar as phrases

@@ -1,5 +1,5 @@
 -- The productions of declarations, statements and the whole program make trees of their parts.
-use Rattle.std.proofs.Common.{◌≡◌, ℕ, List, [], ◌∷◌, ◌++◌, Option, Some, None, ◌⊎◌, inl, inr, refl, sym, ap, ◌∙◌, append_assoc, zero-lt-suc}
+use Rattle.std.proofs.Common.{◌≡◌, List, [], ◌∷◌, ◌++◌, Option, Some, None, ◌⊎◌, inl, inr, refl, ap, ◌∙◌, append_assoc, zero-lt-suc}
 use Rattle.std.specs.List.{flat_map}
 use Rattle.hera_syntax.specs.declared.token.Token.{Token}
 use Rattle.hera_syntax.specs.declared.expr.Args.{Args}
@@ -33,9 +33,12 @@ pub makes_attr : Makes phrases.attr 0 (alternatives phrases.attr)
 makes_attr = (λ (t, (k, _)) short. (record { name = t; kind = k }, refl), tt)
 
 pub makes_attrs : Makes phrases.attrs 0 (alternatives phrases.attrs)
-makes_attrs = (λ (a, (xs, _)) short.
-    let few = fits attr_row (λ x. zero-lt-suc _) (node phrases.attrs 0 ++ attr_outline a) xs (node phrases.more_attrs 1) short in
-    (record { first = a; rest = vec_of xs few }, append_assoc (node phrases.attrs 0 ++ attr_outline a) (flat_map attr_row xs) (node phrases.more_attrs 1)), tt)
+makes_attrs = (
+  λ (a, (xs, _)) short.
+      let few = fits attr_row (λ x. zero-lt-suc _) (node phrases.attrs 0 ++ attr_outline a) xs (node phrases.more_attrs 1) short in
+      (record { first = a; rest = vec_of xs few }, append_assoc (node phrases.attrs 0 ++ attr_outline a) (flat_map attr_row xs) (node phrases.more_attrs 1)),
+  tt,
+)
 
 pub makes_more_attrs : Makes phrases.more_attrs 0 (alternatives phrases.more_attrs)
 makes_more_attrs = (λ (a, (xs, _)) short. (a ∷ xs, row_more attr_row a xs (node phrases.more_attrs 1)), (λ _ short. ([], refl), tt))
@@ -50,9 +53,12 @@ pub makes_param : Makes phrases.param 0 (alternatives phrases.param)
 makes_param = (λ (t, (n, _)) short. (record { type_tree = t; name = n }, refl), tt)
 
 pub makes_params : Makes phrases.params 0 (alternatives phrases.params)
-makes_params = (λ (p, (xs, _)) short.
-    let few = fits param_row (λ x. zero-lt-suc _) (node phrases.params 0 ++ param_outline p) xs (node phrases.more_params 1) short in
-    (record { first = p; rest = vec_of xs few }, append_assoc (node phrases.params 0 ++ param_outline p) (flat_map param_row xs) (node phrases.more_params 1)), tt)
+makes_params = (
+  λ (p, (xs, _)) short.
+      let few = fits param_row (λ x. zero-lt-suc _) (node phrases.params 0 ++ param_outline p) xs (node phrases.more_params 1) short in
+      (record { first = p; rest = vec_of xs few }, append_assoc (node phrases.params 0 ++ param_outline p) (flat_map param_row xs) (node phrases.more_params 1)),
+  tt,
+)
 
 pub makes_more_params : Makes phrases.more_params 0 (alternatives phrases.more_params)
 makes_more_params = (λ (p, (xs, _)) short. (p ∷ xs, row_more param_row p xs (node phrases.more_params 1)), (λ _ short. ([], refl), tt))
@@ -63,10 +69,13 @@ makes_some_params = (λ (p, _) short. (Some p, refl), (λ _ short. (None, refl),
 -- ---- statements
 
 pub makes_block : Makes phrases.block 0 (alternatives phrases.block)
-makes_block = (λ (b, (xs, _)) short.
-    let front : List Mark = node phrases.block 0 ++ hold b in
-    let few = fits stmt_row stmt_prints front xs (node phrases.stmts 1) (shorter (front ++ (flat_map stmt_row xs ++ node phrases.stmts 1)) (skip phrases.close_brace) short) in
-    (record { bracket = b; stmts = vec_of xs few }, ap (λ r. r ++ skip phrases.close_brace) (append_assoc front (flat_map stmt_row xs) (node phrases.stmts 1))), tt)
+makes_block = (
+  λ (b, (xs, _)) short.
+      let front : List Mark = node phrases.block 0 ++ hold b in
+      let few = fits stmt_row stmt_prints front xs (node phrases.stmts 1) (shorter (front ++ (flat_map stmt_row xs ++ node phrases.stmts 1)) (skip phrases.close_brace) short) in
+      (record { bracket = b; stmts = vec_of xs few }, ap (λ r. r ++ skip phrases.close_brace) (append_assoc front (flat_map stmt_row xs) (node phrases.stmts 1))),
+  tt,
+)
 
 pub makes_stmts : Makes phrases.stmts 0 (alternatives phrases.stmts)
 makes_stmts = (λ (s, (xs, _)) short. (s ∷ xs, row_more stmt_row s xs (node phrases.stmts 1)), (λ _ short. ([], refl), tt))
@@ -89,9 +98,9 @@ branch w b e block (es, last) short =
     let few = fits else_if_row (λ x. zero-lt-suc _) front es (last_else last) short in (
       acts.If w b e block (vec_of es few) last,
       all_three (λ x y z. node phrases.stmt 2 ++ hold w ++ hold b ++ expr_outline e ++ skip phrases.close_paren
-      ++ (node phrases.block 0 ++ hold block.bracket ++ x ++ node phrases.stmts 1 ++ skip phrases.close_brace) ++ y ++ z)
-      (block_rows block) (else_ifs_rows (vec_of es few)) (last_rows last)
-      ∙ append_assoc front (flat_map else_if_row es) (last_else last),
+          ++ (node phrases.block 0 ++ hold block.bracket ++ x ++ node phrases.stmts 1 ++ skip phrases.close_brace) ++ y ++ z)
+          (block_rows block) (else_ifs_rows (vec_of es few)) (last_rows last)
+          ∙ append_assoc front (flat_map else_if_row es) (last_else last),
     )
 
 repeat : (w b : Token) (e : Expr) (block : Block) → Made phrases.stmt (node phrases.stmt 3 ++ hold w ++ hold b ++ expr_outline e ++ skip phrases.close_paren ++ block_outline block)
@@ -105,22 +114,44 @@ walk : (w b n : Token) (e : Expr) (block : Block)
 walk w b n e block = (
   acts.Foreach w b n e block,
   ap (λ x. node phrases.stmt 4 ++ hold w ++ hold b ++ hold n ++ skip phrases.in_word ++ expr_outline e ++ skip phrases.close_paren
-  ++ (node phrases.block 0 ++ hold block.bracket ++ x ++ node phrases.stmts 1 ++ skip phrases.close_brace)) (block_rows block),
+      ++ (node phrases.block 0 ++ hold block.bracket ++ x ++ node phrases.stmts 1 ++ skip phrases.close_brace)) (block_rows block),
 )
 
 pub makes_stmt : Makes phrases.stmt 0 (alternatives phrases.stmt)
 makes_stmt = (
-    λ (t, (n, (e, _))) short. (Declare t n e, refl), (
-    λ (n, (x, _)) short. assign_or_call n x, (
-    λ (w, (b, (e, (block, (more, _))))) short. branch w b e block more short, (
-    λ (w, (b, (e, (block, _)))) short. repeat w b e block, (
-    λ (w, (b, (n, (e, (block, _))))) short. walk w b n e block, (
-    λ (w, (e, _)) short. (Print w e, refl), (
-    λ (w, (e, _)) short. (Apply w e, refl), (
-    λ (w, (e, _)) short. (Assert w e, refl), (
-    λ (w, _) short. (Commit w, refl), (
-    λ (w, _) short. (Rollback w, refl), (
-    λ (w, (e, _)) short. (Return w e, refl), tt)))))))))))
+  λ (t, (n, (e, _))) short. (Declare t n e, refl),
+  (
+    λ (n, (x, _)) short. assign_or_call n x,
+    (
+      λ (w, (b, (e, (block, (more, _))))) short. branch w b e block more short,
+      (
+        λ (w, (b, (e, (block, _)))) short. repeat w b e block,
+        (
+          λ (w, (b, (n, (e, (block, _))))) short. walk w b n e block,
+          (
+            λ (w, (e, _)) short. (Print w e, refl),
+            (
+              λ (w, (e, _)) short. (Apply w e, refl),
+              (
+                λ (w, (e, _)) short. (Assert w e, refl),
+                (
+                  λ (w, _) short. (Commit w, refl),
+                  (
+                    λ (w, _) short. (Rollback w, refl),
+                    (
+                      λ (w, (e, _)) short. (Return w e, refl),
+                      tt,
+                    ),
+                  ),
+                ),
+              ),
+            ),
+          ),
+        ),
+      ),
+    ),
+  ),
+)
 
 else_more : (x : (ElseIf × Elses) ⊎ Block) → Made phrases.else_part (node phrases.else_part 0 ++ skip (phrases.word 11) ++ after_else_outline x)
 else_more (inl (e, (es, last))) = ((e ∷ es, last), append_assoc (else_if_row e) (flat_map else_if_row es) (last_else last))

@@ -1,5 +1,5 @@
 -- The productions of expressions make trees of their parts.
-use Rattle.std.proofs.Common.{◌≡◌, ℕ, List, [], ◌∷◌, ◌++◌, Option, Some, None, inl, inr, length, refl, sym, ap, ◌∙◌, append_assoc, arith, zero-lt-suc}
+use Rattle.std.proofs.Common.{◌≡◌, List, [], ◌∷◌, ◌++◌, Option, Some, None, refl, ◌∙◌, append_assoc, arith, zero-lt-suc}
 use Rattle.std.specs.List.{flat_map}
 use Rattle.hera_syntax.specs.declared.token.Token.{Token}
 use Rattle.hera_syntax.specs.declared.expr.Expr.{Expr}
@@ -8,36 +8,42 @@ use Rattle.hera_syntax.specs.declared.expr.Level.TheVariants as levels
 use Rattle.hera_syntax.specs.declared.expr.Operand.{Operand, Inner', Prefix'}
 use Rattle.hera_syntax.specs.declared.expr.Tail.{Tail}
 use Rattle.hera_syntax.specs.declared.expr.Args.{Args}
-use Rattle.hera_syntax.specs.declared.expr.Binding.{Binding, Binding'}
-use Rattle.hera_syntax.specs.declared.expr.Atom.{Atom, Atom'}
-use Rattle.hera_syntax.specs.declared.expr.Line.{Line, Line'}
+use Rattle.hera_syntax.specs.declared.expr.Binding.{Binding'}
+use Rattle.hera_syntax.specs.declared.expr.Atom.{Atom'}
+use Rattle.hera_syntax.specs.declared.expr.Line.{Line'}
 use Rattle.hera_syntax.specs.declared.expr.Atoms.{Atoms}
 use Rattle.hera_syntax.specs.declared.expr.Lines.{Lines}
 use Rattle.hera_syntax.specs.declared.expr.AggTree.TheVariants.{Count, Of}
-use Rattle.hera_syntax.specs.declared.expr.Prime.{Prime, Int, Text, True, False, Fail, Name, Call', Paren', Row', Delta', Rows', Walk', Project', Rename', Pair', Group', Measure', Fold', Bulk', Part', Held-Prime-Call-2, Prime-Call-2-None', Prime-Call-2-Some', Held-Prime-Delta-1, Prime-Delta-1-None', Prime-Delta-1-Some', Held-Prime-Rows-4, Prime-Rows-4-None', Prime-Rows-4-Some'}
+use Rattle.hera_syntax.specs.declared.expr.Prime.{Int, Text, True, False, Fail, Name, Call', Paren', Row', Delta', Rows', Walk', Project', Rename', Pair', Group', Measure', Fold', Bulk', Part', Prime-Call-2-None', Prime-Call-2-Some', Prime-Delta-1-None', Prime-Delta-1-Some', Prime-Rows-4-None', Prime-Rows-4-Some'}
 use Rattle.hera_syntax.specs.Grammar.{Production, Part, alternatives}
 use Rattle.hera_syntax.specs.Grammar as phrases
-use Rattle.hera_syntax.specs.Outline.{Mark, node, hold, skip, agg_row, args_row, atoms_row, bindings_row, call_args, atom_outline, binding_outline, expr_outline, line_outline, lines_row, more_of, named_agg_outline, renaming_outline, some_atoms_outline, some_lines_outline, tail_row, name_row, operand_outline, production_of, renaming_row}
+use Rattle.hera_syntax.specs.Outline.{node, hold, skip, agg_row, args_row, atoms_row, bindings_row, atom_outline, binding_outline, expr_outline, line_outline, lines_row, more_of, named_agg_outline, renaming_outline, some_atoms_outline, some_lines_outline, tail_row, name_row, operand_outline, production_of, renaming_row}
 use Rattle.hera_readings.proofs.Vecs.{box, vec_of}
 use Rattle.hera_readings.proofs.Nodes.{Node, call_outline, level_row, more_cmp_outline}
-use Rattle.hera_readings.proofs.Fits.{Short, Prints, fits}
+use Rattle.hera_readings.proofs.Fits.{Short, fits}
 use Rattle.hera_readings.proofs.Chains.{expr_of, chain_of, comparison_of, args_of, args_are, bindings_of, bindings_are, atoms_of, atoms_are, lines_of, lines_are}
 use Rattle.hera_readings.proofs.Makes.{Made, Makes, row_more}
 
 -- ---- names, renamings and aggregates
 
 pub makes_names : Makes phrases.names 0 (alternatives phrases.names)
-makes_names = (λ (t, (xs, _)) short.
-    let few = fits name_row (λ x. zero-lt-suc _) (node phrases.names 0 ++ hold t) xs (node phrases.more_names 1) short in
-    (record { first = t; rest = vec_of xs few }, append_assoc (node phrases.names 0 ++ hold t) (flat_map name_row xs) (node phrases.more_names 1)), tt)
+makes_names = (
+  λ (t, (xs, _)) short.
+      let few = fits name_row (λ x. zero-lt-suc _) (node phrases.names 0 ++ hold t) xs (node phrases.more_names 1) short in
+      (record { first = t; rest = vec_of xs few }, append_assoc (node phrases.names 0 ++ hold t) (flat_map name_row xs) (node phrases.more_names 1)),
+  tt,
+)
 
 pub makes_more_names : Makes phrases.more_names 0 (alternatives phrases.more_names)
 makes_more_names = (λ (t, (xs, _)) short. (t ∷ xs, row_more name_row t xs (node phrases.more_names 1)), (λ _ short. ([], refl), tt))
 
 pub makes_renamings : Makes phrases.renamings 0 (alternatives phrases.renamings)
-makes_renamings = (λ (r, (xs, _)) short.
-    let few = fits renaming_row (λ x. zero-lt-suc _) (node phrases.renamings 0 ++ renaming_outline r) xs (node phrases.more_renamings 1) short in
-    (record { first = r; rest = vec_of xs few }, append_assoc (node phrases.renamings 0 ++ renaming_outline r) (flat_map renaming_row xs) (node phrases.more_renamings 1)), tt)
+makes_renamings = (
+  λ (r, (xs, _)) short.
+      let few = fits renaming_row (λ x. zero-lt-suc _) (node phrases.renamings 0 ++ renaming_outline r) xs (node phrases.more_renamings 1) short in
+      (record { first = r; rest = vec_of xs few }, append_assoc (node phrases.renamings 0 ++ renaming_outline r) (flat_map renaming_row xs) (node phrases.more_renamings 1)),
+  tt,
+)
 
 pub makes_more_renamings : Makes phrases.more_renamings 0 (alternatives phrases.more_renamings)
 makes_more_renamings = (λ (r, (xs, _)) short. (r ∷ xs, row_more renaming_row r xs (node phrases.more_renamings 1)), (λ _ short. ([], refl), tt))
@@ -46,9 +52,12 @@ pub makes_renaming : Makes phrases.renaming 0 (alternatives phrases.renaming)
 makes_renaming = (λ (t, (u, _)) short. (record { new = t; old = u }, refl), tt)
 
 pub makes_aggs : Makes phrases.aggs 0 (alternatives phrases.aggs)
-makes_aggs = (λ (a, (xs, _)) short.
-    let few = fits agg_row (λ x. zero-lt-suc _) (node phrases.aggs 0 ++ named_agg_outline a) xs (node phrases.more_aggs 1) short in
-    (record { first = a; rest = vec_of xs few }, append_assoc (node phrases.aggs 0 ++ named_agg_outline a) (flat_map agg_row xs) (node phrases.more_aggs 1)), tt)
+makes_aggs = (
+  λ (a, (xs, _)) short.
+      let few = fits agg_row (λ x. zero-lt-suc _) (node phrases.aggs 0 ++ named_agg_outline a) xs (node phrases.more_aggs 1) short in
+      (record { first = a; rest = vec_of xs few }, append_assoc (node phrases.aggs 0 ++ named_agg_outline a) (flat_map agg_row xs) (node phrases.more_aggs 1)),
+  tt,
+)
 
 pub makes_more_aggs : Makes phrases.more_aggs 0 (alternatives phrases.more_aggs)
 makes_more_aggs = (λ (a, (xs, _)) short. (a ∷ xs, row_more agg_row a xs (node phrases.more_aggs 1)), (λ _ short. ([], refl), tt))
@@ -65,17 +74,23 @@ pub makes_some_args : Makes phrases.some_args 0 (alternatives phrases.some_args)
 makes_some_args = (λ (a, _) short. (Some a, refl), (λ _ short. (None, refl), tt))
 
 pub makes_args : Makes phrases.args 0 (alternatives phrases.args)
-makes_args = (λ (first, (xs, _)) short.
-    let few = fits args_row (λ x. zero-lt-suc _) (node phrases.args 0 ++ expr_outline first) xs (node phrases.more_args 1) short in
-    (args_of first (vec_of xs few), args_are first (vec_of xs few) ∙ append_assoc (node phrases.args 0 ++ expr_outline first) (flat_map args_row xs) (node phrases.more_args 1)), tt)
+makes_args = (
+  λ (first, (xs, _)) short.
+      let few = fits args_row (λ x. zero-lt-suc _) (node phrases.args 0 ++ expr_outline first) xs (node phrases.more_args 1) short in
+      (args_of first (vec_of xs few), args_are first (vec_of xs few) ∙ append_assoc (node phrases.args 0 ++ expr_outline first) (flat_map args_row xs) (node phrases.more_args 1)),
+  tt,
+)
 
 pub makes_more_args : Makes phrases.more_args 0 (alternatives phrases.more_args)
 makes_more_args = (λ (e, (xs, _)) short. (e ∷ xs, row_more args_row e xs (node phrases.more_args 1)), (λ _ short. ([], refl), tt))
 
 pub makes_bindings : Makes phrases.bindings 0 (alternatives phrases.bindings)
-makes_bindings = (λ (first, (xs, _)) short.
-    let few = fits bindings_row (λ x. zero-lt-suc _) (node phrases.bindings 0 ++ binding_outline first) xs (node phrases.more_bindings 1) short in
-    (bindings_of first (vec_of xs few), bindings_are first (vec_of xs few) ∙ append_assoc (node phrases.bindings 0 ++ binding_outline first) (flat_map bindings_row xs) (node phrases.more_bindings 1)), tt)
+makes_bindings = (
+  λ (first, (xs, _)) short.
+      let few = fits bindings_row (λ x. zero-lt-suc _) (node phrases.bindings 0 ++ binding_outline first) xs (node phrases.more_bindings 1) short in
+      (bindings_of first (vec_of xs few), bindings_are first (vec_of xs few) ∙ append_assoc (node phrases.bindings 0 ++ binding_outline first) (flat_map bindings_row xs) (node phrases.more_bindings 1)),
+  tt,
+)
 
 pub makes_more_bindings : Makes phrases.more_bindings 0 (alternatives phrases.more_bindings)
 makes_more_bindings = (λ (e, (xs, _)) short. (e ∷ xs, row_more bindings_row e xs (node phrases.more_bindings 1)), (λ _ short. ([], refl), tt))
@@ -87,9 +102,12 @@ pub makes_some_atoms : Makes phrases.some_atoms 0 (alternatives phrases.some_ato
 makes_some_atoms = (λ (a, _) short. (Some a, refl), (λ _ short. (None, refl), tt))
 
 pub makes_atoms : Makes phrases.atoms 0 (alternatives phrases.atoms)
-makes_atoms = (λ (first, (xs, _)) short.
-    let few = fits atoms_row (λ x. zero-lt-suc _) (node phrases.atoms 0 ++ atom_outline first) xs (node phrases.more_atoms 1) short in
-    (atoms_of first (vec_of xs few), atoms_are first (vec_of xs few) ∙ append_assoc (node phrases.atoms 0 ++ atom_outline first) (flat_map atoms_row xs) (node phrases.more_atoms 1)), tt)
+makes_atoms = (
+  λ (first, (xs, _)) short.
+      let few = fits atoms_row (λ x. zero-lt-suc _) (node phrases.atoms 0 ++ atom_outline first) xs (node phrases.more_atoms 1) short in
+      (atoms_of first (vec_of xs few), atoms_are first (vec_of xs few) ∙ append_assoc (node phrases.atoms 0 ++ atom_outline first) (flat_map atoms_row xs) (node phrases.more_atoms 1)),
+  tt,
+)
 
 pub makes_more_atoms : Makes phrases.more_atoms 0 (alternatives phrases.more_atoms)
 makes_more_atoms = (λ (e, (xs, _)) short. (e ∷ xs, row_more atoms_row e xs (node phrases.more_atoms 1)), (λ _ short. ([], refl), tt))
@@ -101,9 +119,12 @@ pub makes_some_lines : Makes phrases.some_lines 0 (alternatives phrases.some_lin
 makes_some_lines = (λ (a, _) short. (Some a, refl), (λ _ short. (None, refl), tt))
 
 pub makes_lines : Makes phrases.lines 0 (alternatives phrases.lines)
-makes_lines = (λ (first, (xs, _)) short.
-    let few = fits lines_row (λ x. zero-lt-suc _) (node phrases.lines 0 ++ line_outline first) xs (node phrases.more_lines 1) short in
-    (lines_of first (vec_of xs few), lines_are first (vec_of xs few) ∙ append_assoc (node phrases.lines 0 ++ line_outline first) (flat_map lines_row xs) (node phrases.more_lines 1)), tt)
+makes_lines = (
+  λ (first, (xs, _)) short.
+      let few = fits lines_row (λ x. zero-lt-suc _) (node phrases.lines 0 ++ line_outline first) xs (node phrases.more_lines 1) short in
+      (lines_of first (vec_of xs few), lines_are first (vec_of xs few) ∙ append_assoc (node phrases.lines 0 ++ line_outline first) (flat_map lines_row xs) (node phrases.more_lines 1)),
+  tt,
+)
 
 pub makes_more_lines : Makes phrases.more_lines 0 (alternatives phrases.more_lines)
 makes_more_lines = (λ (e, (xs, _)) short. (e ∷ xs, row_more lines_row e xs (node phrases.more_lines 1)), (λ _ short. ([], refl), tt))
@@ -131,25 +152,63 @@ makes_call = (λ (b, (args, _)) short. (Some (b, args), refl), (λ _ short. (Non
 
 pub makes_prime : Makes phrases.prime 0 (alternatives phrases.prime)
 makes_prime = (
-    λ (t, _) short. (Int t, refl), (
-    λ (t, _) short. (Text t, refl), (
-    λ (t, _) short. (True t, refl), (
-    λ (t, _) short. (False t, refl), (
-    λ (t, _) short. (Fail t, refl), (
-    λ (n, (c, _)) short. name_or_call n c, (
-    λ (b, (e, _)) short. (Paren' b box e, refl), (
-    λ (b, (bindings, _)) short. (Row' b box bindings, refl), (
-    λ (b, (o, _)) short. delta b o, (
-    λ (w, (b, (n, (c, (o, _))))) short. rows w b n c o, (
-    λ (w, (b, (n, (over, (body, _))))) short. (Walk' w b n box over box body, refl), (
-    λ (w, (b, (e, (names, _)))) short. (Project' w b box e names, refl), (
-    λ (w, (b, (e, (renamings, _)))) short. (Rename' w b box e renamings, refl), (
-    λ (w, (b, (e, (f, _)))) short. (Pair' w b box e box f, refl), (
-    λ (w, (b, (e, (names, (aggs, _))))) short. (Group' w b box e names aggs, refl), (
-    λ (w, (b, (e, _))) short. (Measure' w b box e, refl), (
-    λ (w, (b, (e, (n, _)))) short. (Fold' w b box e n, refl), (
-    λ (w, (b, (sign, (n, (e, _))))) short. (Bulk' w b sign n box e, refl), (
-    λ (w, (b, (n, (e, _)))) short. (Part' w b n box e, refl), tt)))))))))))))))))))
+  λ (t, _) short. (Int t, refl),
+  (
+    λ (t, _) short. (Text t, refl),
+    (
+      λ (t, _) short. (True t, refl),
+      (
+        λ (t, _) short. (False t, refl),
+        (
+          λ (t, _) short. (Fail t, refl),
+          (
+            λ (n, (c, _)) short. name_or_call n c,
+            (
+              λ (b, (e, _)) short. (Paren' b box e, refl),
+              (
+                λ (b, (bindings, _)) short. (Row' b box bindings, refl),
+                (
+                  λ (b, (o, _)) short. delta b o,
+                  (
+                    λ (w, (b, (n, (c, (o, _))))) short. rows w b n c o,
+                    (
+                      λ (w, (b, (n, (over, (body, _))))) short. (Walk' w b n box over box body, refl),
+                      (
+                        λ (w, (b, (e, (names, _)))) short. (Project' w b box e names, refl),
+                        (
+                          λ (w, (b, (e, (renamings, _)))) short. (Rename' w b box e renamings, refl),
+                          (
+                            λ (w, (b, (e, (f, _)))) short. (Pair' w b box e box f, refl),
+                            (
+                              λ (w, (b, (e, (names, (aggs, _))))) short. (Group' w b box e names aggs, refl),
+                              (
+                                λ (w, (b, (e, _))) short. (Measure' w b box e, refl),
+                                (
+                                  λ (w, (b, (e, (n, _)))) short. (Fold' w b box e n, refl),
+                                  (
+                                    λ (w, (b, (sign, (n, (e, _))))) short. (Bulk' w b sign n box e, refl),
+                                    (
+                                      λ (w, (b, (n, (e, _)))) short. (Part' w b n box e, refl),
+                                      tt,
+                                    ),
+                                  ),
+                                ),
+                              ),
+                            ),
+                          ),
+                        ),
+                      ),
+                    ),
+                  ),
+                ),
+              ),
+            ),
+          ),
+        ),
+      ),
+    ),
+  ),
+)
 
 pub makes_field : Makes phrases.field 0 (alternatives phrases.field)
 makes_field = (λ (t, _) short. (Some t, refl), (λ _ short. (None, refl), tt))

@@ -1,5 +1,5 @@
 -- What it is to make a production's value of the values of an alternative's parts.
-use Rattle.std.proofs.Common.{◌≡◌, ℕ, suc, List, [], ◌∷◌, ◌++◌, refl, sym, ap, ◌∙◌, append_assoc}
+use Rattle.std.proofs.Common.{◌≡◌, ℕ, suc, List, [], ◌∷◌, ◌++◌, append_assoc}
 use Rattle.std.specs.List.{flat_map}
 use Rattle.hera_syntax.specs.Grammar.{Production, Part}
 use Rattle.hera_syntax.specs.Outline.{Mark, node}

@@ -1,6 +1,6 @@
 -- A value for each production: the tree of a phrase of it, with the phrase's outline. Where the tree has no type of
 -- its own for a production, the value is what the tree around it takes.
-use Rattle.std.proofs.Common.{ℕ, List, [], ◌∷◌, ◌++◌, Option, Some, None, ◌⊎◌, inl, inr}
+use Rattle.std.proofs.Common.{List, [], ◌∷◌, ◌++◌, Option, Some, None, ◌⊎◌, inl, inr}
 use Rattle.std.specs.List.{flat_map}
 use Rattle.hera_syntax.specs.declared.token.Token.{Token}
 use Rattle.hera_syntax.specs.declared.expr.Expr.{Expr}

@@ -1,11 +1,9 @@
 -- No row of the table of typing gives want of memory.
-use Rattle.std.proofs.Common.{◌≡◌, ℕ, List, [], ◌∷◌, ◌++◌, Option, Some, None, Result, Ok, Err, Bool, true, false, cond, not, length, nat_lt, ◌&&◌, ◌||◌, ◌+◌, map, is_some, filter, find}
-use Rattle.std.specs.List.{list_all}
+use Rattle.std.proofs.Common.{ℕ, List, [], ◌∷◌, ◌++◌, Option, Some, None, Result, Ok, Err, Bool, true, false, cond, length, nat_lt, ◌+◌, is_some}
 use Rattle.hera_sets.specs.Rows.{holds}
 use Rattle.hera_meaning.specs.declared.schemas.Attr.{Attr}
 use Rattle.hera_meaning.specs.declared.schemas.RelDecl.{RelDecl}
 use Rattle.hera_meaning.specs.declared.scalars.Sign.{Sign}
-use Rattle.hera_meaning.specs.declared.trees.Op.{Op}
 use Rattle.hera_meaning.specs.declared.trees.Shape.{Shape}
 use Rattle.hera_meaning.specs.declared.trees.Shape.TheVariants as shapes
 use Rattle.hera_meaning.specs.Trees.{Expr, Command}
@@ -36,7 +34,7 @@ use Rattle.hera_rules.specs.Environments.{Env, relation_named, func_named, proc_
 use Rattle.hera_rules.specs.Phrases.{Schema_phrase, of_relation, written, Type_phrase, kind_type as of_kind, delta_type, rel_type, tuple_type}
 use Rattle.hera_rules.specs.Checked.{and_then}
 use Rattle.hera_rules.specs.Rules.{Typing, given, unless, either, relation_row, value_row, name_row, host_row, call_of, call_row, prefix_row, joint_row, field_type, field_of, field_row as attribute_row, repeat_in, row_row, atom_of, atom_row, line_of, line_row, lines_of, lines_row, over, variable_row, image_row, walk_row, stranger_in, word_names, agg_words, measured_words, old_words, old_names, kept_names, project_type, project_row, rename_repeat, rename_of, rename_row, sets_of, join_type, pair_row, result_fault, group_type, group_row, test_row, fold_at, fold_in, fold_row, bulk_of, bulk_row, part_of, part_row}
-use Rattle.hera_rules.specs.Commands.{named_schema, field_row, fields_row, schema_row, shape_with, type_row, Done, declare_local, declare_row, assigned, assign_row, performed, perform_row, cond_row, effect_row, print_row, apply_row, assert_row, return_row, return_value_row}
+use Rattle.hera_rules.specs.Commands.{named_schema, field_row, fields_row, schema_row, shape_with, type_row, declare_local, declare_row, assigned, assign_row, performed, perform_row, cond_row, effect_row, apply_row, assert_row, return_row, return_value_row}
 
 -- a fault that has a place
 abbrev pub Placed : TypeFault → Type 0

@@ -1,5 +1,5 @@
 -- A list of tokens is a text, or has a place of a fault.
-use Rattle.std.proofs.Common.{◌≡◌, ◌<◌, ◌≤◌, ◌+◌, ◌-◌, ◌^◌, ◌⊎◌, inl, inr, ℕ, List, [], ◌∷◌, length, refl, sym, ap, subst, ◌∙◌, arith}
+use Rattle.std.proofs.Common.{◌≡◌, ◌≤◌, ◌-◌, ◌⊎◌, inl, inr, ℕ, List, [], ◌∷◌, length, refl, sym, subst, arith}
 use Rattle.hera_syntax.specs.declared.token.Token.{Token}
 use Rattle.hera_syntax.specs.declared.tree.Tree.{Tree}
 use Rattle.hera_syntax.specs.Grammar.{phrase}
@@ -7,11 +7,10 @@ use Rattle.hera_syntax.specs.Grammar as phrases
 use Rattle.hera_syntax.specs.Outline.{Mark}
 use Rattle.hera_syntax.specs.Programs.{outline}
 use Rattle.hera_syntax.specs.Tokens.{script_limit}
-use Rattle.hera_syntax.specs.Trees.{Printed, printed, Agree, at_end, one_more, IsTextOf, IsFaultAt}
+use Rattle.hera_syntax.specs.Trees.{Printed, Agree, at_end, one_more, IsTextOf, IsFaultAt}
 use Rattle.hera_parser.specs.Reading.{Runs, End, accept, stuck, ReadsProgram, StopsBefore}
 use Rattle.hera_parser.proofs.Exact.{accepted_obeys, accepted_agrees, stuck_length}
 use Rattle.hera_readings.proofs.Ends.{ended}
-use Rattle.hera_readings.proofs.Fits.{Short}
 use Rattle.hera_readings.proofs.Trees.{tree_of}
 
 -- as many tokens as are printed

@@ -10,7 +10,7 @@ use Rattle.hera_syntax.specs.declared.token.TokenKind.{TokenKind}
 use Rattle.hera_syntax.specs.declared.token.TokenKind.TheVariants as kinds
 use Rattle.hera_syntax.specs.declared.token.Token.{Token}
 use Rattle.hera_syntax.specs.Lexemes.{IsPiece, IsLongest, IsToken, IsBetween, punct, blank, line_comment, comment, number_of}
-use Rattle.hera_syntax.specs.Lex.{size, Cuts, Fails, IsStuck, Lex, LexFails, done, skip, keep, here}
+use Rattle.hera_syntax.specs.Lex.{size, Cuts, Fails, Lex, LexFails, done, skip, keep, here}
 use Rattle.hera_lexer.specs.Read.{keyword_of, value_of}
 use Rattle.hera_lexer.specs.Scan.{scan_of}
 use Rattle.std.proofs.lemmas.Str.{length-le-encodes}
@@ -92,13 +92,16 @@ module _ (at : ℕ) (k : PieceShape) (p more : List ℕ) (longest : IsLongest k 
   kept kind t (inr (place, fails)) = inr (place, keep longest t fails)
 
   refused : (p ++ more ≡ [] → ⊥) → (IsBetween k → ⊥) → ((kind : TokenKind) → IsToken k p kind → ⊥) → CutOrStuck at (p ++ more)
-  refused some no_between no_token = inr (at, here (record {
-    some = some;
-    none = λ j q rest e l. let one = one_longest k j p q more rest longest l e in (
-      λ b. no_between (subst IsBetween (sym one.shape) b),
-      λ kind t. no_token kind (subst (λ z. IsToken z p kind) (sym one.shape) (subst (λ z. IsToken j z kind) (sym one.piece) t)),
-    );
-  }))
+  refused some no_between no_token = inr (
+    at,
+    here (record {
+      some = some;
+      none = λ j q rest e l. let one = one_longest k j p q more rest longest l e in (
+        λ b. no_between (subst IsBetween (sym one.shape) b),
+        λ kind t. no_token kind (subst (λ z. IsToken z p kind) (sym one.shape) (subst (λ z. IsToken j z kind) (sym one.piece) t)),
+      );
+    }),
+  )
 
   by_verdict : (n : ℕ) → Cutter n → (p ++ more ≡ [] → ⊥) → scalars (p ++ more) ≡ true → length (p ++ more) < suc n → Judged k p → CutOrStuck at (p ++ more)
   by_verdict n cut some s l (between b) = passed b (cut (at + size p) more (scalars_back p more s) (let long = length-append p more in let front = piece_some k p longest.looks in omega (arith, long, front, l)))

@@ -9,8 +9,9 @@ use Rattle.hera_syntax.specs.Outline.{Mark, at_node, kept, left_out, node, hold,
 use Rattle.hera_syntax.specs.Programs.{outline}
 use Rattle.hera_syntax.specs.Trees.{printed, Obeys, no_part, keeps, leaves, produces}
 use Rattle.hera_readings.proofs.Nodes.{Node, marks_of, Parts, spelled}
-use Rattle.hera_readings.proofs.Fits.{Short, long_printed, shorter}
+use Rattle.hera_readings.proofs.Fits.{Short, long_printed}
 use Rattle.hera_readings.proofs.Made.{make}
+use Rattle.hera_readings.proofs.Makes.{Made}
 
 -- a value of the production's phrase stands in front of what obeys the other parts
 record Reads (s : Production) (ps : List Part) (ms : List Mark) : Type 0 where
@@ -79,17 +80,24 @@ split n read (phrase s ∷ q) ps front ms l short o =
     let r = split n read q ps (front ++ here) k.rest (within ms here k.rest n k.cut l) (behind ms here k.rest k.cut short) k.obeys in
     record { parts = (k.value, r.parts); rest = r.rest; cut = ap (λ x. front ++ x) k.cut ∙ sym (append_assoc front here k.rest) ∙ r.cut; obeys = r.obeys }
 
+-- the value that is made of what was split off
+made_reads : {s : Production} {ps : List Part} {ms : List Mark} (front rest : List Mark) → Made s front → ms ≡ front ++ rest → Obeys ps rest → Reads s ps ms
+made_reads front rest m cut o = record { value = m.0; rest = rest; cut = cut ∙ ap (λ x. x ++ rest) (sym m.1); obeys = o }
+
+front_short : (ms front rest : List Mark) → ms ≡ front ++ rest → Short ms → Short front
+front_short ms front rest e short = let both = ap (λ x. length (printed x)) e ∙ long_printed front rest in omega (arith, both, short)
+
+from_parts : (s : Production) (k : ℕ) (ps : List Part) (ms rest : List Mark) → k < length (alternatives s) → ms ≡ at_node s k ∷ rest → Short ms → Splits (alternative s k) ps (node s k) rest → Reads s ps ms
+from_parts s k ps ms rest l e short r =
+    let front : List Mark = spelled (node s k) (alternative s k) r.parts in
+    let cut : ms ≡ front ++ r.rest = e ∙ r.cut in
+    made_reads front r.rest (make s k l r.parts (front_short ms front r.rest cut short)) cut r.obeys
+
 read_here : (n : ℕ) → Reader n → (s : Production) (ps : List Part) (ms : List Mark) → length ms < suc n → Short ms → Obeys (phrase s ∷ ps) ms → Reads s ps ms
 read_here n read s ps ms l short o =
     let k = is_produced o in
-    let front : List Mark = node s k.number in
     let long : length k.rest < n = (let both = ap length k.cut in omega (arith, both, l)) in
-    let r = split n read (alternative s k.number) ps front k.rest long (behind ms front k.rest k.cut short) k.obeys in
-    let cut : ms ≡ spelled front (alternative s k.number) r.parts ++ r.rest = k.cut ∙ r.cut in
-    let m = make s k.number k.within r.parts (shorter (spelled front (alternative s k.number) r.parts) r.rest (subst_short cut)) in
-    record { value = m.0; rest = r.rest; cut = cut ∙ ap (λ x. x ++ r.rest) (sym m.1); obeys = r.obeys } where
-      subst_short : {xs : List Mark} → ms ≡ xs → Short xs
-      subst_short {xs} e = let same = ap (λ x. length (printed x)) e in omega (arith, same, short)
+    from_parts s k.number ps ms k.rest k.within k.cut short (split n read (alternative s k.number) ps (node s k.number) k.rest long (behind ms (node s k.number) k.rest k.cut short) k.obeys)
 
 reader : (n : ℕ) → Reader n
 reader zero s ps ms l short o = absurd (omega (arith, l))
