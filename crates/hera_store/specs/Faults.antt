@@ -1,6 +1,6 @@
 -- What the refusals of the store say.
 use Rattle.std.specs.Prelude.{◌≡◌, ◌≤◌, ◌<◌, ◌⊎◌, ◌+◌, ◌*◌, ℕ, List, length}
-use Rattle.hera_meaning.specs.Deltas.{Delta}
+use Rattle.hera_meaning.specs.Deltas.{Atom, Delta}
 use Rattle.delta_atoms.specs.Atoms.{atoms_in}
 use Rattle.commit_journal.specs.Prepare.{need_of}
 use Rattle.rel_format.specs.Pages.{format_one, header_of, page_count, half_of}
@@ -14,6 +14,13 @@ use Rattle.hera_store.specs.declared.faults.CheckFault.TheVariants.{Full as Chec
 -- the place behind the gate that comes behind the delta's record
 abbrev pub commit_need : Standing → Delta → ℕ
 commit_need store delta = need_of (atoms_in delta) store.end
+
+-- the same of a record that is not written yet, so the device is not asked
+abbrev pub IsRecordRefusal : List Atom → ℕ → ℕ → CommitFault → Type 0
+IsRecordRefusal xs end limit (Full need most) = (need ≡ need_of xs end) × (most ≡ limit) × (limit < need)
+IsRecordRefusal xs end limit Device = ⊥
+IsRecordRefusal xs end limit Memory = Unit {0}
+IsRecordRefusal xs end limit Closed = ⊥
 
 -- `Full` tells the need, which passes the limit, and the limit; the device is asked only for a need within the limit
 abbrev pub IsCommitRefusal : Standing → Delta → ℕ → CommitFault → Type 0

@@ -1,7 +1,7 @@
 -- What contracts see of a store, and when it stands for the files.
-use Rattle.std.specs.Prelude.{◌≡◌, ◌+◌, ℕ, Bool, false, List, [], ◌∷◌, ◌++◌, length}
+use Rattle.std.specs.Prelude.{◌≡◌, ◌+◌, ℕ, Bool, false, List, [], ◌∷◌, ◌++◌, length, All}
 use Rattle.hera_meaning.specs.declared.schemas.RelDecl.{RelDecl}
-use Rattle.hera_meaning.specs.Deltas.{Delta, IsDeltaOf, is_fail}
+use Rattle.hera_meaning.specs.Deltas.{Delta, State, IsState, IsDeltaOf, is_fail, apply_of}
 use Rattle.delta_atoms.specs.Atoms.{atoms_in}
 use Rattle.hera_volume.specs.Disk.{Disk, IsSettled}
 use Rattle.hera_volume.specs.declared.file_id.FileId.{FileId}
@@ -33,6 +33,16 @@ database_after store delta = record { catalogue = store.base.catalogue; state = 
 pub record IsCommitOf (rels : List RelDecl) (delta : Delta) : Type 0 where
   pub proper : is_fail delta ≡ false
   pub known : IsDeltaOf rels delta
+
+-- what a delta does to a state, these deltas do one after another
+pub record IsSmashOf (rels : List RelDecl) (deltas : List Delta) (all : Delta) : Type 0 where
+  pub proper : IsCommitOf rels all
+  pub same : (s : State) → IsState rels s → apply_of s all ≡ state_with s deltas
+
+-- what some commits do to a state, these deltas do
+pub record AreAsGood (rels : List RelDecl) (deltas commits : List Delta) : Type 0 where
+  pub proper : All (IsCommitOf rels) commits
+  pub same : (s : State) → IsState rels s → state_with s commits ≡ state_with s deltas
 
 -- A crash leaves of each file what a read gives; the half that `select` names is the store's, it holds the store's
 -- database, and its journal ends where the store keeps its end.

@@ -1,7 +1,7 @@
 //! Stores: databases that are open.
-ghost use Rattle.std.specs.Prelude.{◌≡◌, ◌≢◌, ◌≤◌, ◌++◌, [], ◌∷◌, false, true, Some, Err, OnOk, OnErr, IfErr, take, length, All};
+ghost use Rattle.std.specs.Prelude.{◌≡◌, ◌≢◌, ◌≤◌, ◌++◌, [], ◌∷◌, false, true, Some, Err, OnOk, OnErr, IfOk, IfErr, IfSome, ◌+◌, take, length, All};
 ghost use Rattle.hera_causes.specs.Causes.{Rose};
-ghost use Rattle.hera_meaning.specs.Deltas.{is_fail, IsDeltaOf, IsState};
+ghost use Rattle.hera_meaning.specs.Deltas.{is_fail, IsDelta, IsDeltaOf, IsState};
 ghost use Rattle.delta_atoms.specs.Atoms.{atoms_in};
 ghost use Rattle.hera_volume.specs.Disk.{IsSettled};
 ghost use Rattle.hera_volume.specs.Time.{LeavesOnly};
@@ -9,15 +9,17 @@ ghost use Rattle.hera_volume.specs.declared.file_id.FileId.{FileId};
 ghost use Rattle.hera_volume.specs.declared.file_id.FileId.TheVariants.{Select};
 ghost use Rattle.rel_format.specs.Journal.{record_of};
 ghost use Rattle.commit_journal.specs.Gate.{IsWith};
+ghost use Rattle.commit_journal.specs.Prepare.{need_of};
 ghost use Rattle.hera_store.specs.Standing.{StandsFor, IsCommitOf, database_of, database_after, end_with, other_half, select_byte};
-ghost use Rattle.hera_store.specs.Faults.{IsCommitRefusal, IsCheckRefusal, commit_need, half_with};
+ghost use Rattle.hera_store.specs.Faults.{IsRecordRefusal, IsCommitRefusal, IsCheckRefusal, commit_need, half_with};
 ghost use Rattle.hera_store.specs.Moments.{IsEither, IsStill};
 
 use crate::{CheckFault, CommitFault};
+use commit_journal::{PrepareFault, Prepared, prepare, seal};
 use delta_atoms::Delta;
 use hera_volume::{FileId, Outside};
 use rel_pages::Base;
-use std::alloc::Global;
+use std::alloc::{AllocError, Global};
 use std::marker::Model;
 
 /// A database that is open: the half as it was read, and the commits since.
@@ -29,6 +31,17 @@ pub struct Store {
     end: u64,
     closed: bool,
     alloc: Global,
+}
+
+impl From<AllocError> for CommitFault {
+    ghost use Rattle.std.specs.Prelude.{◌≡◌};
+    ghost use Rattle.hera_store.specs.declared.faults.CommitFault.TheVariants.{Memory};
+
+    ghost from_gives = { λ _ e. e ≡ Memory };
+
+    fn from(_: AllocError) -> Self {
+        CommitFault::Memory
+    }
 }
 
 impl Model for Store {
@@ -43,6 +56,27 @@ impl Model for Store {
 }
 
 impl Store {
+    /// The store of this half, whose first gate that is not open is at `end`.
+    pub(crate) fn opened(
+        alloc: Global,
+        base: Base,
+        commits: Vec<Delta>,
+        half: FileId,
+        end: u64,
+    ) -> Store
+        requires { All (IsCommitOf base.catalogue) commits.items }
+        ensures { result ≡ record { base = base; commits = commits.items; half = half; end = end; closed = false } }
+    {
+        Store {
+            base,
+            commits,
+            half,
+            end,
+            closed: false,
+            alloc,
+        }
+    }
+
     /// The half as it was read.
     pub fn base(&self) -> &Base
         ensures base { result.now ≡ self.now.base }
@@ -107,7 +141,19 @@ impl Store {
         if self.closed {
             return Err(CommitFault::Closed);
         }
-        Err(CommitFault::Memory)
+        self.commits.reserve(1)?;
+        let (prepared, next) = record_behind(self.alloc, &delta, self.end, limit)?;
+        match seal(outside, self.half, prepared) {
+            Ok(()) => {
+                self.end = next;
+                self.commits.push(delta).unwrap();
+                Ok(())
+            }
+            Err(_) => {
+                self.closed = true;
+                Err(CommitFault::Device)
+            }
+        }
     }
 
     /// Writes the other half with all that is stored in its pages, and selects it.
@@ -142,5 +188,46 @@ impl Store {
             return Err(CheckFault::Closed);
         }
         Err(CheckFault::Memory)
+    }
+}
+
+/// The delta's record, whose gate is at `end`, and the place of the gate behind it.
+fn record_behind(
+    alloc: Global,
+    delta: &Delta,
+    end: u64,
+    limit: u64,
+) -> Result<(Prepared, u64), CommitFault>
+    requires proper { is_fail delta.now ≡ false }
+    requires limit { limit ≤ 268435456 }
+    ensures body { IfOk result (λ x. x.0.body ≡ record_of (atoms_in delta.now)) }
+    ensures end { IfOk result (λ x. x.0.end ≡ end) }
+    ensures next { IfOk result (λ x. x.1 ≡ end + length (record_of (atoms_in delta.now)) + 1) }
+    ensures fits { OnOk result (need_of (atoms_in delta.now) end ≤ limit) }
+    ensures delta { OnOk result (IsDelta delta.now) }
+    ensures refusal { IfErr result (IsRecordRefusal (atoms_in delta.now) end limit) }
+{
+    let prepared = match prepare(alloc, delta, end, limit) {
+        Ok(prepared) => prepared,
+        Err(PrepareFault::Full { need, limit }) => return Err(CommitFault::Full { need, limit }),
+        Err(PrepareFault::Memory) => return Err(CommitFault::Memory),
+    };
+    match next_gate(alloc, delta, end) {
+        Some(next) => Ok((prepared, next)),
+        None => Err(CommitFault::Memory),
+    }
+}
+
+/// The place of the gate behind the delta's record, whose own gate is at `end`. The refusal of a
+/// record within no bytes tells it.
+fn next_gate(alloc: Global, delta: &Delta, end: u64) -> Option<u64>
+    requires { is_fail delta.now ≡ false }
+    ensures next { IfSome result (λ next. next ≡ end + length (record_of (atoms_in delta.now)) + 1) }
+    ensures delta { IsDelta delta.now }
+{
+    let _fails = delta.is_fail();
+    match prepare(alloc, delta, end, 0) {
+        Err(PrepareFault::Full { need, .. }) => u64::try_from(need - 1).ok(),
+        _ => None,
     }
 }
