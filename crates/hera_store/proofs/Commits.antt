@@ -31,6 +31,14 @@ stands_holds disks store stands = record {
   half = subst (λ (f : FileId). IsHalf format_one (disks f).bytes store.base.catalogue (state_with store.base.state store.commits)) (sym stands.named.2) stands.half.half;
 }
 
+-- it still does where the files stay as they are
+pub stands_still : (before now : FileId → Disk) (store : Standing) → ((f : FileId) → now f ≡ before f) → StandsFor before store → StandsFor now store
+stands_still before now store same stands = record {
+  settled = λ f. subst IsSettled (sym (same f)) (stands.settled f);
+  named = (stands.named.0, ap (λ (d : Disk). d.bytes) (same Select) ∙ stands.named.1, stands.named.2);
+  half = subst (λ (d : Disk). IsHalfTo format_one d.bytes store.base.catalogue (state_with store.base.state store.commits) store.end) (sym (same store.half)) stands.half;
+}
+
 module _ (disks : FileId → Disk) (store : Standing) (delta : Delta) (stands : StandsFor disks store) (proper : is_fail delta ≡ false) (valid : IsDelta delta) (known : IsDeltaOf store.base.catalogue delta) (fits : need_of (atoms_in delta) store.end ≤ half_limit) where
   pub is_ready : IsReady (disks store.half) store.end
   is_ready = half_ready format_one (disks store.half) store.base.catalogue (state_with store.base.state store.commits) store.end stands.half (stands.settled store.half)

@@ -11,7 +11,7 @@ use Rattle.hera_meaning.specs.Identifiers.{IsIdentifier}
 use Rattle.hera_meaning.specs.Schemas.{names_of}
 use Rattle.hera_meaning.specs.Catalogues.{IsCatalogue, IsDecl}
 use Rattle.hera_meaning.specs.Deltas.{State, IsState}
-use Rattle.rel_format.specs.Pages.{Format, format_one, attr_bytes, decl_bytes, header_of, pages_of, half_of}
+use Rattle.rel_format.specs.Pages.{Format, format_one, kind_byte, attr_bytes, decl_bytes, header_of, pages_of, half_of}
 use Rattle.rel_format.specs.Journal.{IsHalf, IsRecordOf, half_limit}
 use Rattle.rel_pages.specs.declared.parts.Part.{Part}
 use Rattle.rel_pages.specs.Stored.{empty_state}
@@ -41,12 +41,12 @@ attrs_length [] names = omega arith
 attrs_length (a ∷ attrs) names =
     let one = (All-head IsIdentifier a.name (names_of attrs) names).short in
     let more = attrs_length attrs (All-tail IsIdentifier a.name (names_of attrs) names) in
-    omega (arith, one, more, length-append (attr_bytes a) (flat_map attr_bytes attrs), length-append (length a.name ∷ a.name) (length a.name ∷ []))
+    omega (arith, one, more, length-append (attr_bytes a) (flat_map attr_bytes attrs), length-append a.name (kind_byte a.kind ∷ []))
 
 decl_length : (d : RelDecl) → IsDecl d → length (decl_bytes d) ≤ 4369
 decl_length d valid =
     let attrs = attrs_length d.schema valid.attrs in
-    omega (arith, valid.name.short, valid.schema.few, attrs, length-append (length d.name ∷ d.name) (length d.schema ∷ flat_map attr_bytes d.schema))
+    omega (arith, valid.name.short, valid.schema.few, attrs, length-append d.name (length d.schema ∷ flat_map attr_bytes d.schema))
 
 decls_length : (rels : List RelDecl) → All IsDecl rels → length (flat_map decl_bytes rels) ≤ 4369 * length rels
 decls_length [] all = omega arith

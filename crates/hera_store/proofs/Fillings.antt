@@ -19,6 +19,17 @@ settled_still before now f same settled = subst IsSettled (sym same) settled
 pub bytes_still : (before now : FileId → Disk) (f : FileId) (bytes : List ℕ) → now f ≡ before f → (before f).bytes ≡ bytes → (now f).bytes ≡ bytes
 bytes_still before now f bytes same is = ap (λ (d : Disk). d.bytes) same ∙ is
 
+-- the half that is written is neither `select` nor the half that is named
+pub select_apart : (which : FileId) (bytes : List ℕ) → Names bytes (other_half which) → Select ≢ which
+select_apart Select bytes named = absurd (not_select Select bytes named refl)
+select_apart Left bytes named = λ e. cc
+select_apart Right bytes named = λ e. cc
+
+pub other_apart : (which : FileId) (bytes : List ℕ) → Names bytes (other_half which) → other_half which ≢ which
+other_apart Select bytes named = absurd (not_select Select bytes named refl)
+other_apart Left bytes named = λ e. cc
+other_apart Right bytes named = λ e. cc
+
 module _ {D : Type 0} (disk : D → FileId → Disk) (emitted : D → Option (List ℕ)) (moment : D → ℕ) (left_since : D → ℕ → Image → Type 0) (db : Database) (a b : D) where
   -- ---- a database is made
 

@@ -5,3 +5,6 @@ pub mod Commits
 pub mod EmptyHalves
 pub mod Smashes
 pub mod Fillings
+pub mod Printings
+pub mod Renewals
+pub mod Founds

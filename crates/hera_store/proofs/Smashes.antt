@@ -10,6 +10,8 @@ use Rattle.rel_format.specs.Pages.{format_one}
 use Rattle.rel_pages.specs.Stored.{Stored}
 use Rattle.rel_pages.specs.Halves.{IsPages, IsDamagedAt}
 use Rattle.commit_journal.specs.Halves.{state_with, HasPages, IsHalfTo}
+use Rattle.commit_journal.specs.Places.{IsJournal}
+use Rattle.commit_journal.proofs.Halves.{half_read}
 use Rattle.commit_journal.proofs.Wholes.{pages_damaged}
 use Rattle.hera_store.specs.Databases.{IsDamagedHalf}
 use Rattle.hera_store.specs.Standing.{IsCommitOf, IsSmashOf, AreAsGood}
@@ -63,3 +65,18 @@ pages_are bytes base pages = record {
 pub half_is_damaged : (bytes : List ℕ) (at : ℕ) → IsDamagedAt format_one bytes at → IsDamagedHalf bytes at
 half_is_damaged bytes at (inl long) = inl long
 half_is_damaged bytes at (inr damage) = inr (damage.0, pages_damaged format_one bytes at damage.1.stops)
+
+-- ---- the journal
+
+all_commits : (rels : List RelDecl) (bytes : List ℕ) (at end : ℕ) (deltas : List Delta) → IsJournal rels bytes at deltas end → All (IsCommitOf rels) deltas
+all_commits rels bytes at end deltas journal = subst (All (IsCommitOf rels)) (sym journal.told) (records_are_commits rels journal.records journal.valid)
+
+module _ (rels : List RelDecl) (bytes : List ℕ) (at end : ℕ) (deltas commits : List Delta) (journal : IsJournal rels bytes at deltas end) (as_good : All (IsCommitOf rels) deltas → AreAsGood rels deltas commits) where
+  good : AreAsGood rels deltas commits
+  good = as_good (all_commits rels bytes at end deltas journal)
+
+  pub journal_proper : All (IsCommitOf rels) commits
+  journal_proper = good.proper
+
+  pub journal_held : (state : State) → HasPages format_one bytes rels state at → IsHalfTo format_one bytes rels (state_with state commits) end
+  journal_held state pages = subst (λ (s : State). IsHalfTo format_one bytes rels s end) (sym (good.same state pages.valid)) (half_read format_one bytes rels state at deltas end pages journal)

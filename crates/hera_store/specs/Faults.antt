@@ -4,6 +4,8 @@ use Rattle.hera_meaning.specs.Deltas.{Atom, Delta}
 use Rattle.delta_atoms.specs.Atoms.{atoms_in}
 use Rattle.commit_journal.specs.Prepare.{need_of}
 use Rattle.rel_format.specs.Pages.{format_one, header_of, page_count, half_of}
+use Rattle.half_writer.specs.declared.pages.HalfFault.{HalfFault}
+use Rattle.half_writer.specs.declared.pages.HalfFault.TheVariants.{Full as HalfFull, Memory as HalfMemory}
 use Rattle.hera_store.specs.Databases.{Database}
 use Rattle.hera_store.specs.Standing.{Standing}
 use Rattle.hera_store.specs.declared.faults.CommitFault.{CommitFault}
@@ -41,6 +43,18 @@ pub record IsFirstNeed (db : Database) (limit need : ℕ) : Type 0 where
   pub sum : need ≡ length (header_of format_one db.catalogue) + 5 + 8192 * pages
   pub past : limit < need
   pub first : (pages ≡ 0) ⊎ (need ≤ limit + 8192)
+
+-- the same of a half that is not written yet, so the device is not asked
+abbrev pub IsPrintRefusal : Database → ℕ → CheckFault → Type 0
+IsPrintRefusal db limit (CheckFull need most) = IsFirstNeed db limit need × (most ≡ limit) × (limit < length (half_with db))
+IsPrintRefusal db limit CheckDevice = ⊥
+IsPrintRefusal db limit CheckMemory = Unit {0}
+IsPrintRefusal db limit CheckClosed = ⊥
+
+-- a writer's refusal
+abbrev pub check_fault : HalfFault → CheckFault
+check_fault (HalfFull need limit) = CheckFull need limit
+check_fault HalfMemory = CheckMemory
 
 -- `Full` tells that need and the limit; the device is asked only for a half within the limit
 abbrev pub IsCheckRefusal : Database → ℕ → CheckFault → Type 0

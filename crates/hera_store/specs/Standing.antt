@@ -21,18 +21,27 @@ pub record Standing : Type 0 where
   pub end : ℕ
   pub closed : Bool
 
+-- the base's catalogue, with its state after commits in order
+abbrev pub database_over : Stored → List Delta → Database
+database_over base commits = record { catalogue = base.catalogue; state = state_with base.state commits }
+
 -- the database for which it stands
 abbrev pub database_of : Standing → Database
-database_of store = record { catalogue = store.base.catalogue; state = state_with store.base.state store.commits }
+database_of store = database_over store.base store.commits
 
 -- the same with one commit more
 abbrev pub database_after : Standing → Delta → Database
-database_after store delta = record { catalogue = store.base.catalogue; state = state_with store.base.state (store.commits ++ delta ∷ []) }
+database_after store delta = database_over store.base (store.commits ++ delta ∷ [])
 
 -- it is not `fail`, and names relations and rows of the catalogue
 pub record IsCommitOf (rels : List RelDecl) (delta : Delta) : Type 0 where
   pub proper : is_fail delta ≡ false
   pub known : IsDeltaOf rels delta
+
+-- the base's state is one of its catalogue, and each commit is one of it
+pub record AreOver (base : Stored) (commits : List Delta) : Type 0 where
+  pub state : IsState base.catalogue base.state
+  pub proper : All (IsCommitOf base.catalogue) commits
 
 -- what a delta does to a state, these deltas do one after another
 pub record IsSmashOf (rels : List RelDecl) (deltas : List Delta) (all : Delta) : Type 0 where

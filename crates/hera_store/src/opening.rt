@@ -117,11 +117,7 @@ fn half_named(byte: u8) -> FileId
 }
 
 /// The bytes of a half.
-fn read_file<W: Outside>(
-    alloc: Global,
-    outside: &mut W,
-    half: FileId,
-) -> Result<Vec<u8>, OpenFault>
+fn read_file<W: Outside>(alloc: Global, outside: &mut W, half: FileId) -> Result<Vec<u8>, OpenFault>
     ensures bytes { W.told → IfOk result (λ bytes. bytes.items ≡ (W.disk outside.old half).bytes) }
     ensures present { result ≢ Err OpenFault.NoDatabase }
     ensures damaged { W.told → (file : FileId) (at : ℕ) → result ≡ Err (OpenFault.Damaged file at) → (half_limit < length (W.disk outside.old half).bytes) × (file ≡ half) × (at ≡ half_limit) }
@@ -200,9 +196,11 @@ fn as_one(alloc: Global, deltas: &[Delta]) -> Result<Vec<Delta>, AllocError>
     ensures { (rels : List RelDecl) → All (IsCommitOf rels) deltas.now → IfOk result (λ commits. AreAsGood rels deltas.now commits.items) }
 {
     let mut commits = Vec::new(alloc);
-    if !deltas.is_empty() {
-        commits.push(smash_all(alloc, deltas)?)?;
+    if deltas.is_empty() {
+        return Ok(commits);
     }
+    let all = smash_all(alloc, deltas)?;
+    commits.push(all)?;
     Ok(commits)
 }
 

@@ -10,10 +10,13 @@ ghost use Rattle.hera_volume.specs.declared.file_id.FileId.TheVariants.{Select};
 ghost use Rattle.rel_format.specs.Journal.{record_of};
 ghost use Rattle.commit_journal.specs.Gate.{IsWith};
 ghost use Rattle.commit_journal.specs.Prepare.{need_of};
-ghost use Rattle.hera_store.specs.Standing.{StandsFor, IsCommitOf, database_of, database_after, end_with, other_half, select_byte};
+ghost use Rattle.hera_store.specs.Databases.{Holds};
+ghost use Rattle.hera_store.specs.Standing.{StandsFor, IsCommitOf, AreOver, database_of, database_after, end_with, other_half, select_byte};
 ghost use Rattle.hera_store.specs.Faults.{IsRecordRefusal, IsCommitRefusal, IsCheckRefusal, commit_need, half_with};
 ghost use Rattle.hera_store.specs.Moments.{IsEither, IsStill};
 
+use crate::printing::half_bytes;
+use crate::switching::switch_to;
 use crate::{CheckFault, CommitFault};
 use commit_journal::{PrepareFault, Prepared, prepare, seal};
 use delta_atoms::Delta;
@@ -45,14 +48,13 @@ impl From<AllocError> for CommitFault {
 }
 
 impl Model for Store {
-    ghost use Rattle.std.specs.Prelude.{◌≤◌, All};
-    ghost use Rattle.hera_store.specs.Standing.{Standing, IsCommitOf};
+    ghost use Rattle.hera_store.specs.Standing.{Standing, AreOver};
 
     ghost Value = { Standing };
 
     ghost view = { λ s. record { base = s.base; commits = s.commits.items; half = s.half; end = s.end; closed = s.closed } };
 
-    ghost invariant = { λ s. All (IsCommitOf s.base.catalogue) s.commits.items };
+    ghost invariant = { λ s. AreOver s.base s.commits.items };
 }
 
 impl Store {
@@ -64,7 +66,7 @@ impl Store {
         half: FileId,
         end: u64,
     ) -> Store
-        requires { All (IsCommitOf base.catalogue) commits.items }
+        requires { AreOver base commits.items }
         ensures { result ≡ record { base = base; commits = commits.items; half = half; end = end; closed = false } }
     {
         Store {
@@ -168,7 +170,8 @@ impl Store {
         ensures settled { W.told → OnOk result ((f : FileId) → IsSettled (W.disk outside.new f)) }
         ensures selects { W.told → OnOk result ((W.disk outside.new Select).bytes ≡ select_byte (other_half self.half) ∷ []) }
         ensures renewed { W.told → OnOk result ((W.disk outside.new (other_half self.half)).bytes ≡ half_with (database_of self)) }
-        ensures former { W.told → self.closed ≡ false → W.disk outside.new self.half ≡ W.disk outside.old self.half }
+        ensures holds { W.told → OnOk result (Holds (λ f. (W.disk outside.new f).bytes) (database_of self)) }
+        ensures former { W.told → W.disk outside.new self.half ≡ W.disk outside.old self.half }
         // Why it is refused.
         ensures closed { result ≡ Err CheckFault.Closed → self.closed ≡ true }
         ensures stays_closed { self.closed ≡ true → result ≡ Err CheckFault.Closed }
@@ -187,7 +190,22 @@ impl Store {
         if self.closed {
             return Err(CheckFault::Closed);
         }
-        Err(CheckFault::Memory)
+        let bytes = half_bytes(self.alloc, &self.base, &self.commits, limit)?;
+        match switch_to(outside, other_half(self.half), &bytes) {
+            Ok(()) => Ok(()),
+            Err(_) => Err(CheckFault::Device),
+        }
+    }
+}
+
+/// The other of two halves.
+fn other_half(half: FileId) -> FileId
+    ensures { result ≡ other_half half }
+{
+    match half {
+        FileId::Left => FileId::Right,
+        FileId::Right => FileId::Left,
+        FileId::Select => FileId::Select,
     }
 }
 
