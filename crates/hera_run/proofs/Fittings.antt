@@ -1,5 +1,5 @@
 -- Stores that fit, and those that follow them.
-use Rattle.std.proofs.Common.{◌≡◌, ◌⊎◌, ℕ, Bool, true, false, ◌&&◌, not, cond, inl, inr, Result, Ok, Err, List, [], ◌∷◌, ◌++◌, refl, sym, ap, ◌∙◌, append-nil}
+use Rattle.std.proofs.Common.{◌≡◌, ◌⊎◌, ℕ, Bool, true, false, ◌&&◌, not, cond, inl, inr, List, [], ◌∷◌, ◌++◌, refl, sym, ap, ◌∙◌, append-nil}
 use Rattle.hera_meaning.specs.Deltas.{Delta}
 use Rattle.hera_meaning.specs.Worlds.{Event, out, store}
 use Rattle.hera_codegen.specs.Correct.{IsPrefix}
@@ -77,10 +77,3 @@ fit-store false none = absurd (no_truth none)
 pub true_or_false : (b : Bool) → (b ≡ true) ⊎ (b ≡ false)
 true_or_false true = inl refl
 true_or_false false = inr refl
-
-pub ok_is_no_err : {A E : Type 0} (x : A) (e : E) → Ok x ≡ Err e → ⊥
-ok_is_no_err x e is = cc (is)
-
-err_or : {A E : Type 0} → E → Result A E → E
-err_or e (Ok x) = e
-err_or e (Err y) = y

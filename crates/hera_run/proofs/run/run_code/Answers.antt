@@ -1,4 +1,4 @@
-use Rattle.std.proofs.Common.{◌≡◌, ◌+◌, ◌-◌, ◌++◌, ◌∷◌, [], suc, length, List, true, false, not, inl, inr, ⊎_elim, refl, sym, ap, ◌∙◌, subst, arith}
+use Rattle.std.proofs.Common.{◌≡◌, ◌+◌, ◌-◌, ◌++◌, ◌∷◌, [], suc, length, List, true, false, not, Err, inl, inr, ⊎_elim, refl, sym, ap, ◌∙◌, subst, arith}
 use Rattle.std.proofs.lemmas.Result.{MatchResult-from_err, err_from_is_err_and}
 use Rattle.std.proofs.KnownBytes.{Appends-nil}
 use Rattle.std.specs.Io.KnownBytes.{Appends}
@@ -17,8 +17,10 @@ use Rattle.hera_volume.specs.Time.{LeavesOnly}
 use Rattle.hera_volume.proofs.Moments.{leaves-none, leaves-on}
 use Rattle.hera_store.specs.Standing.{database_of}
 use Rattle.hera_run.specs.Fitting.{fits}
+use Rattle.hera_run.specs.declared.fault.RunFault.TheVariants as RunFault
 use Rattle.hera_run.specs.Running.{ending_of, IsPartDone, IsCodeCut}
-use Rattle.hera_run.proofs.Fittings.{true_or_false, ok_is_no_err}
+use Rattle.hera_run.proofs.Fittings.{true_or_false}
+use Rattle.hera_run.proofs.Results.{ok_is_no_err, same_error}
 use Rattle.hera_run.proofs.Steps.{at_start, stepped, state_read, at_quiet, at_out, at_commit, committing, carried_out, carried_commit, adds_out, adds_commit, adds_end, cut_next, cut_commit, part_next, part_here, part_out, part_commit, said_out, said_commit, all_done, done_up_to, proper_commit, ending_fits}
 use Rattle.hera_run.proofs.run.run_code.Goals as goal
 
@@ -265,10 +267,10 @@ returns-in_err-commit-in-Commit-clause-full g c =
     let q = err_from_is_err_and c.from_residual-in_err-commit-in-Commit.result c.from_residual-in_err-commit-in-Commit.ensures.1 in
     rw (q.1, q.2)
     (λ h.
-    let no : fits old.end d ≡ false = c.commit.ensures.full (c.in_err-commit-in-Commit.was ∙ h) in
+    let no : fits old.end d ≡ false = c.commit.ensures.full (c.in_err-commit-in-Commit.was ∙ ap Err (same_error c.in_err-commit-in-Commit.field-0.0 RunFault.Full h)) in
     done_up_to c.args.code.now c.args.relations.now (specs_of c.args.hosts.now) db c.args.turns gate i.events (committing c.args.code.now c.args.relations.now (specs_of c.args.hosts.now) db c.args.turns i.events d) m (database_of c.commit.new.store) start (g.W.Output.emitted c.commit.new.outside) adds i.carried.fit
     (ap not (ap (λ (k : _). fits k d) (sym i.carried.ends) ∙ no))
-    (ap database_of (c.commit.ensures.nothing_full (c.in_err-commit-in-Commit.was ∙ h)) ∙ i.carried.stored)
+    (ap database_of (c.commit.ensures.nothing_full (c.in_err-commit-in-Commit.was ∙ ap Err (same_error c.in_err-commit-in-Commit.field-0.0 RunFault.Full h))) ∙ i.carried.stored)
     (subst (λ x. Appends start (g.W.Output.emitted x) (printed i.events)) (sym (c.commit.ensures.nothing_done no)) i.said))
 
 pub returns-in_err-say_end-in-Ended-clause-cut : goal.returns-in_err-say_end-in-Ended-clause-cut
