@@ -1,6 +1,5 @@
 -- Stores that fit, and those that follow them.
-use Rattle.std.proofs.Common.{◌≡◌, ◌⊎◌, ℕ, Bool, true, false, ◌&&◌, not, cond, inl, inr, List, [], ◌∷◌, ◌++◌, refl, sym, ap, ◌∙◌, append-nil}
-use Rattle.hera_meaning.specs.Deltas.{Delta}
+use Rattle.std.proofs.Common.{◌≡◌, ◌⊎◌, ℕ, Bool, true, false, ◌&&◌, not, cond, inl, inr, List, [], ◌∷◌, ◌++◌, refl, sym, ap, ◌∙◌}
 use Rattle.hera_meaning.specs.Worlds.{Event, out, store}
 use Rattle.hera_codegen.specs.Correct.{IsPrefix}
 use Rattle.hera_run.specs.Fitting.{fits, gate_behind, gate_after, all_fit, fitting, overfills}

@@ -2,7 +2,7 @@
 use Rattle.std.proofs.lemmas.Bool.{cases_lt}
 use Rattle.std.proofs.lemmas.List.{take_all, take-append-le}
 use Rattle.std.proofs.Math.Seq.{take-append_seam}
-use Rattle.std.proofs.Common.{◌<◌, ◌≤◌, length, arith, ◌≡◌, ◌⊎◌, ℕ, Bool, true, false, cond, inl, inr, ⊎_elim, List, [], ◌∷◌, ◌++◌, take, Option, Some, refl, sym, ap, ◌∙◌, subst, append-nil, append_assoc}
+use Rattle.std.proofs.Common.{◌<◌, ◌≤◌, length, arith, ◌≡◌, ◌⊎◌, ℕ, Bool, true, false, cond, inl, inr, ⊎_elim, List, [], ◌∷◌, ◌++◌, take, Option, refl, sym, ap, ◌∙◌, subst, append-nil, append_assoc}
 use Rattle.std.specs.Io.KnownBytes.{Appends}
 use Rattle.hera_meaning.specs.declared.schemas.RelDecl.{RelDecl}
 use Rattle.hera_meaning.specs.Deltas.{State}
@@ -19,7 +19,6 @@ use Rattle.hera_machine.specs.declared.events.End.{End}
 use Rattle.hera_machine.specs.Standing.{stop_of}
 use Rattle.hera_machine.proofs.Along.{printed-append}
 use Rattle.hera_volume.specs.Time.{Image}
-use Rattle.hera_volume.specs.declared.file_id.FileId.{FileId}
 use Rattle.hera_store.specs.Databases.{Database, Holds}
 use Rattle.hera_store.specs.Standing as seen
 use Rattle.hera_run.specs.declared.status.RunStatus.{RunStatus}
@@ -27,11 +26,11 @@ use Rattle.hera_run.specs.declared.status.RunStatus.TheVariants.{Device, Output,
 use Rattle.hera_run.specs.declared.fault.RunFault.{RunFault}
 use Rattle.hera_run.specs.declared.fault.RunFault.TheVariants.{Device as DeviceFault, Output as OutputFault, Memory as MemoryFault, Full as FullFault}
 use Rattle.hera_run.specs.Cut.{IsCut, with_state}
-use Rattle.hera_run.specs.Fitting.{all_fit, fitting, gate_after, overfills}
+use Rattle.hera_run.specs.Fitting.{all_fit, fitting, gate_after}
 use Rattle.hera_run.specs.Running.{IsAllDone, IsDoneUpToFull, IsPartDone, IsCodeCut}
 use Rattle.hera_run.specs.Bound.{events_of}
 use Rattle.hera_run.specs.Passages.{Passage}
-use Rattle.hera_run.specs.Outcome.{RunOutcome, barred, ran_in, filled, outcome_from, text_of_outcome, status_of_finish, KeepsFiles, IsWhole, IsSaid}
+use Rattle.hera_run.specs.Outcome.{RunOutcome, ran_in, filled, outcome_from, text_of_outcome, status_of_finish, KeepsFiles, IsWhole, IsSaid}
 use Rattle.hera_run.proofs.Cuts.{cut-longer}
 use Rattle.hera_run.proofs.Fittings.{all_fit-append, fitting-append, fitting-all, fitting-none, all_fit-none, prefix_fitting}
 use Rattle.hera_store.proofs.Commits.{stands_holds}

@@ -6,14 +6,14 @@ use Rattle.hera_meaning.specs.Trees.{Program_tree}
 use Rattle.hera_meaning.specs.Worlds.{Event}
 use Rattle.hera_host.specs.Tables.{Host, specs_of}
 use Rattle.hera_rules.specs.Bound.{bound}
-use Rattle.hera_volume.specs.Disk.{Disk, IsSettled}
+use Rattle.hera_volume.specs.Disk.{Disk}
 use Rattle.hera_volume.specs.Time.{Image, IsImageOf, IsImageAmid, LeavesOnly}
 use Rattle.hera_volume.specs.declared.file_id.FileId.{FileId}
 use Rattle.hera_volume.specs.declared.file_id.FileId.TheVariants.{Select}
 use Rattle.hera_volume.proofs.Moments.{leaves-weaker, leaves-on}
 use Rattle.rel_format.specs.Pages.{format_one}
 use Rattle.commit_journal.specs.Halves.{IsHalfTo}
-use Rattle.hera_store.specs.Databases.{Database, Names, Found, IsFound, held}
+use Rattle.hera_store.specs.Databases.{Names, IsFound, held}
 use Rattle.hera_store.specs.Moments.{IsUntouched}
 use Rattle.hera_store.specs.Standing.{Standing, StandsFor, database_of}
 use Rattle.hera_run.specs.declared.refusal.FolderRefusal.{FolderRefusal}

@@ -2,7 +2,7 @@
 use Rattle.std.proofs.Common.{◌≡◌, ℕ, suc, ◌+◌, true, false, List, [], ◌∷◌, ◌++◌, take, length, Option, None, refl, sym, ap, ◌∙◌, subst, arith, append-nil, zero-add, length-append}
 use Rattle.std.proofs.Math.Seq.{take-append-add}
 use Rattle.std.specs.Io.KnownBytes.{Appends}
-use Rattle.std.proofs.KnownBytes.{Appends-trans, Appends-nil}
+use Rattle.std.proofs.KnownBytes.{Appends-trans}
 use Rattle.hera_meaning.specs.declared.schemas.RelDecl.{RelDecl}
 use Rattle.hera_meaning.specs.Deltas.{Delta, State, apply_of, is_fail, IsDeltaOf}
 use Rattle.hera_meaning.specs.Hosts.{Hosts}
@@ -11,7 +11,7 @@ use Rattle.hera_meaning.specs.Worlds.{Event, out, store}
 use Rattle.hera_meaning.specs.Run.{printed, state_after, finished, stopped, out_of_turns}
 use Rattle.hera_code.specs.declared.instrs.Code.{Code}
 use Rattle.hera_code.specs.Machine.{Machine, Step, quiet, says, commits, ends, Stop, ended, stuck, code_step}
-use Rattle.hera_code.specs.Reached.{still, over, after_step, stores, with_line, exec_code, code_at, start_of}
+use Rattle.hera_code.specs.Reached.{still, after_step, stores, with_line, exec_code, code_at, start_of}
 use Rattle.hera_code.specs.Forward.{Forward}
 use Rattle.hera_codegen.specs.Correct.{events_in, AreStoresOf}
 use Rattle.hera_machine.specs.Over.{state_over}

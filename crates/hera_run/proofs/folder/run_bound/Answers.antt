@@ -1,4 +1,4 @@
-use Rattle.std.proofs.Common.{◌≡◌, List, Err, inl, refl, sym, ap, ◌∙◌, subst}
+use Rattle.std.proofs.Common.{List, Err, inl, refl, sym, ap, ◌∙◌, subst}
 use Rattle.hera_meaning.specs.declared.schemas.RelDecl.{RelDecl}
 use Rattle.hera_meaning.specs.Deltas.{IsState}
 use Rattle.hera_meaning.specs.Plain.{program_of}
@@ -120,4 +120,3 @@ returns-clause-any_moment g c =
     let state = subst (λ (rs : List RelDecl). IsState rs db.state) (sym c.requires.relations) c.requires.state in
     let compiles : Compiles p hosts db.state c.args.turns = record { only = means.only p hosts db.state c.args.turns c.requires.sound state; stores = means.stores p hosts db.state c.args.turns c.requires.sound state; prefixes = means.prefixes p hosts db.state c.args.turns c.requires.sound state } in
     λ told. leaves-weaker _ _ (c.run_code.ensures.any_moment told) (λ image cut. cut_of_outcome p hosts db gate c.args.turns compiles c.in-Ok.code c.deref.result.now (g.W.Output.emitted c.args.outside.now) image c.in-Ok.ensures.code c.deref.ensures.value cut)
-

@@ -1,6 +1,6 @@
 use Rattle.std.proofs.Common.{Err, ap, ◌∙◌}
 use Rattle.hera_meaning.specs.Plain.{program_of}
-use Rattle.hera_store.specs.Databases.{absent, spoilt}
+use Rattle.hera_store.specs.Databases.{absent}
 use Rattle.hera_run.specs.Outcome.{finds_none, finds_damage}
 use Rattle.hera_run.specs.declared.refusal.FolderRefusal.TheVariants.{NoDatabase, Damaged}
 use Rattle.hera_run.proofs.Opening.{run_answers, refusal_answers}

@@ -1,24 +1,23 @@
-use Rattle.std.proofs.Common.{◌≡◌, ◌+◌, ◌-◌, ◌++◌, ◌∷◌, [], suc, length, List, true, false, not, Err, inl, inr, ⊎_elim, refl, sym, ap, ◌∙◌, subst, arith}
+use Rattle.std.proofs.Common.{◌≡◌, ◌+◌, ◌-◌, ◌++◌, ◌∷◌, [], suc, length, List, true, false, not, Err, ⊎_elim, refl, sym, ap, ◌∙◌, subst, arith}
 use Rattle.std.proofs.lemmas.Result.{MatchResult-from_err, err_from_is_err_and}
 use Rattle.std.proofs.KnownBytes.{Appends-nil}
 use Rattle.std.specs.Io.KnownBytes.{Appends}
-use Rattle.hera_meaning.specs.Deltas.{Delta, State}
-use Rattle.hera_meaning.specs.Printed.{commit_text}
-use Rattle.hera_meaning.specs.Worlds.{Event, out}
+use Rattle.hera_meaning.specs.Deltas.{Delta}
+use Rattle.hera_meaning.specs.Worlds.{out}
 use Rattle.hera_meaning.specs.Run.{printed, state_after}
 use Rattle.hera_host.specs.Tables.{specs_of}
 use Rattle.hera_code.specs.Machine.{commits}
 use Rattle.hera_code.specs.Reached.{stores}
 use Rattle.hera_machine.specs.declared.events.Event.TheVariants as events
 use Rattle.hera_machine.specs.Over.{state_over}
-use Rattle.hera_machine.specs.Standing.{Standing, status_by, commit_over, WaitsBy}
+use Rattle.hera_machine.specs.Standing.{Standing, commit_over, WaitsBy}
 use Rattle.rel_pages.specs.Stored.{Stored}
 use Rattle.hera_volume.specs.Time.{LeavesOnly}
 use Rattle.hera_volume.proofs.Moments.{leaves-none, leaves-on}
 use Rattle.hera_store.specs.Standing.{database_of}
 use Rattle.hera_run.specs.Fitting.{fits}
 use Rattle.hera_run.specs.declared.fault.RunFault.TheVariants as RunFault
-use Rattle.hera_run.specs.Running.{ending_of, IsPartDone, IsCodeCut}
+use Rattle.hera_run.specs.Running.{ending_of, IsCodeCut}
 use Rattle.hera_run.proofs.Fittings.{true_or_false}
 use Rattle.hera_run.proofs.Results.{ok_is_no_err, same_error}
 use Rattle.hera_run.proofs.Steps.{at_start, stepped, state_read, at_quiet, at_out, at_commit, committing, carried_out, carried_commit, adds_out, adds_commit, adds_end, cut_next, cut_commit, part_next, part_here, part_out, part_commit, said_out, said_commit, all_done, done_up_to, proper_commit, ending_fits}
@@ -337,4 +336,3 @@ returns-in-Ended-clause-whole g c =
     let same = state_read old db (state_after db.state i.events) c.base.result.now c.commits.result.now c.base.ensures.base c.commits.ensures.commits i.carried.stored in
     let to = stepped c.args.code.now c.args.relations.now (specs_of c.args.hosts.now) db c.args.turns i.events m n (state_over c.base.result.now.state c.commits.result.now) c.in_ok-step.field-0 (events.Ended c.in-Ended.end) i.at same c.in-Ended.is (ens.steps i.at.works) ens.status ens.code ens.relations in
     all_done c.args.code.now c.args.relations.now (specs_of c.args.hosts.now) db c.args.turns gate i.events m n c.in-Ended.end (database_of old) start mid _ to i.carried.fit i.carried.stored i.said c.in_ok-say_end-in-Ended.ensures.whole
-
