@@ -11,12 +11,15 @@ use denote.RawPtr.{null_ptr}
 use denote.Plain.{Nothing}
 use base.Fml.{ftrue}
 
+-- an allocator; no outline sees which
 pub heap : Global
 heap = heaps.struct.make (memories.struct.make (tt, tt) tt, tt) tt
 
+-- of its blocks nothing is said
 abbrev pub ghosts : Ghosts Global
 ghosts = record { dealloc_token = λ a t p. ftrue }
 
+-- what a box in a tree keeps, but for its value
 pub box : Box (Unit {0}) Global
 box = (boxes.struct Nothing heaps.the_row ghosts).make (null_ptr, (heap, tt)) (tt, tt)
 
