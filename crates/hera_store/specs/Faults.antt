@@ -1,0 +1,43 @@
+-- What the refusals of the store say.
+use Rattle.std.specs.Prelude.{◌≡◌, ◌≤◌, ◌<◌, ◌⊎◌, ◌+◌, ◌*◌, ℕ, List, length}
+use Rattle.hera_meaning.specs.Deltas.{Delta}
+use Rattle.delta_atoms.specs.Atoms.{atoms_in}
+use Rattle.commit_journal.specs.Prepare.{need_of}
+use Rattle.rel_format.specs.Pages.{format_one, header_of, page_count, half_of}
+use Rattle.hera_store.specs.Databases.{Database}
+use Rattle.hera_store.specs.Standing.{Standing}
+use Rattle.hera_store.specs.declared.faults.CommitFault.{CommitFault}
+use Rattle.hera_store.specs.declared.faults.CommitFault.TheVariants.{Full, Device, Memory, Closed}
+use Rattle.hera_store.specs.declared.faults.CheckFault.{CheckFault}
+use Rattle.hera_store.specs.declared.faults.CheckFault.TheVariants.{Full as CheckFull, Device as CheckDevice, Memory as CheckMemory, Closed as CheckClosed}
+
+-- the place behind the gate that comes behind the delta's record
+abbrev pub commit_need : Standing → Delta → ℕ
+commit_need store delta = need_of (atoms_in delta) store.end
+
+-- `Full` tells the need, which passes the limit, and the limit; the device is asked only for a need within the limit
+abbrev pub IsCommitRefusal : Standing → Delta → ℕ → CommitFault → Type 0
+IsCommitRefusal store delta limit (Full need most) = (need ≡ commit_need store delta) × (most ≡ limit) × (limit < need)
+IsCommitRefusal store delta limit Device = commit_need store delta ≤ limit
+IsCommitRefusal store delta limit Memory = Unit {0}
+IsCommitRefusal store delta limit Closed = Unit {0}
+
+-- the bytes of the half with this database in its pages
+abbrev pub half_with : Database → List ℕ
+half_with db = half_of format_one db.catalogue db.state
+
+-- the first number of bytes past the limit, as the pages of the database are put one by one between the header with
+-- the page count and a closed gate
+pub record IsFirstNeed (db : Database) (limit need : ℕ) : Type 0 where
+  pub pages : ℕ
+  pub few : pages ≤ page_count 8192 db.state
+  pub sum : need ≡ length (header_of format_one db.catalogue) + 5 + 8192 * pages
+  pub past : limit < need
+  pub first : (pages ≡ 0) ⊎ (need ≤ limit + 8192)
+
+-- `Full` tells that need and the limit; the device is asked only for a half within the limit
+abbrev pub IsCheckRefusal : Database → ℕ → CheckFault → Type 0
+IsCheckRefusal db limit (CheckFull need most) = IsFirstNeed db limit need × (most ≡ limit) × (limit < length (half_with db))
+IsCheckRefusal db limit CheckDevice = length (half_with db) ≤ limit
+IsCheckRefusal db limit CheckMemory = Unit {0}
+IsCheckRefusal db limit CheckClosed = Unit {0}

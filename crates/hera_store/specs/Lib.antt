@@ -1,0 +1,4 @@
+pub mod Databases
+pub mod Standing
+pub mod Moments
+pub mod Faults

@@ -1,0 +1,146 @@
+//! Stores: databases that are open.
+ghost use Rattle.std.specs.Prelude.{◌≡◌, ◌≢◌, ◌≤◌, ◌++◌, [], ◌∷◌, false, true, Some, Err, OnOk, OnErr, IfErr, take, length, All};
+ghost use Rattle.hera_causes.specs.Causes.{Rose};
+ghost use Rattle.hera_meaning.specs.Deltas.{is_fail, IsDeltaOf, IsState};
+ghost use Rattle.delta_atoms.specs.Atoms.{atoms_in};
+ghost use Rattle.hera_volume.specs.Disk.{IsSettled};
+ghost use Rattle.hera_volume.specs.Time.{LeavesOnly};
+ghost use Rattle.hera_volume.specs.declared.file_id.FileId.{FileId};
+ghost use Rattle.hera_volume.specs.declared.file_id.FileId.TheVariants.{Select};
+ghost use Rattle.rel_format.specs.Journal.{record_of};
+ghost use Rattle.commit_journal.specs.Gate.{IsWith};
+ghost use Rattle.hera_store.specs.Standing.{StandsFor, IsCommitOf, database_of, database_after, end_with, other_half, select_byte};
+ghost use Rattle.hera_store.specs.Faults.{IsCommitRefusal, IsCheckRefusal, commit_need, half_with};
+ghost use Rattle.hera_store.specs.Moments.{IsEither, IsStill};
+
+use crate::{CheckFault, CommitFault};
+use delta_atoms::Delta;
+use hera_volume::{FileId, Outside};
+use rel_pages::Base;
+use std::alloc::Global;
+use std::marker::Model;
+
+/// A database that is open: the half as it was read, and the commits since.
+#[derive(Drop)]
+pub struct Store {
+    base: Base,
+    commits: Vec<Delta>,
+    half: FileId,
+    end: u64,
+    closed: bool,
+    alloc: Global,
+}
+
+impl Model for Store {
+    ghost use Rattle.std.specs.Prelude.{◌≤◌, All};
+    ghost use Rattle.hera_store.specs.Standing.{Standing, IsCommitOf};
+
+    ghost Value = { Standing };
+
+    ghost view = { λ s. record { base = s.base; commits = s.commits.items; half = s.half; end = s.end; closed = s.closed } };
+
+    ghost invariant = { λ s. All (IsCommitOf s.base.catalogue) s.commits.items };
+}
+
+impl Store {
+    /// The half as it was read.
+    pub fn base(&self) -> &Base
+        ensures base { result.now ≡ self.now.base }
+        ensures state { IsState self.now.base.catalogue (database_of self.now).state }
+    {
+        &self.base
+    }
+
+    /// The commits since, in order. None is `fail`, and each names relations and rows of the base's
+    /// catalogue.
+    pub fn commits(&self) -> &[Delta]
+        ensures commits { result.now ≡ self.now.commits }
+        ensures proper { All (IsCommitOf self.now.base.catalogue) self.now.commits }
+    {
+        &self.commits
+    }
+
+    /// Stores one commit more: its record is written behind the last gate and synced, and then that
+    /// gate is opened and synced.
+    ///
+    /// The store has to be closed or to stand for the outside. `Full` comes exactly where the record
+    /// and the next gate end behind the limit. A store that answered `Device` answers `Closed` from
+    /// then on. Where it answers anything else than Ok and `Device`, no call on a file was made.
+    pub fn commit<W: Outside>(
+        &mut self,
+        outside: &mut W,
+        delta: Delta,
+        limit: u64,
+    ) -> Result<(), CommitFault>
+        requires stands { W.told → self.old.closed ≡ false → StandsFor (W.disk outside.old) self.old }
+        requires proper { is_fail delta ≡ false }
+        requires known { IsDeltaOf self.old.base.catalogue delta }
+        requires limit { limit ≤ 268435456 }
+        // The store afterwards.
+        ensures base { self.new.base ≡ self.old.base }
+        ensures half { self.new.half ≡ self.old.half }
+        ensures stored { OnOk result (self.new.commits ≡ self.old.commits ++ delta ∷ []) }
+        ensures end { OnOk result (self.new.end ≡ end_with self.old delta) }
+        ensures stands { W.told → self.new.closed ≡ false → StandsFor (W.disk outside.new) self.new }
+        ensures open { result ≢ Err CommitFault.Device → self.new.closed ≡ self.old.closed }
+        ensures refused { OnErr result (self.new.commits ≡ self.old.commits) }
+        // Why it is refused.
+        ensures closed { result ≡ Err CommitFault.Closed → self.old.closed ≡ true }
+        ensures closes { result ≡ Err CommitFault.Device → self.new.closed ≡ true }
+        ensures stays_closed { self.old.closed ≡ true → result ≡ Err CommitFault.Closed }
+        ensures fits { OnOk result (commit_need self.old delta ≤ limit) }
+        ensures refusal { IfErr result (IsCommitRefusal self.old delta limit) }
+        ensures unchanged { OnErr result (result ≢ Err CommitFault.Device → self.new ≡ self.old) }
+        ensures untouched { OnErr result (result ≢ Err CommitFault.Device → outside.new ≡ outside.old) }
+        // The files: the delta's record stands behind the former bytes of the half up to its last gate.
+        ensures sealed { W.told → OnOk result (IsWith (take self.old.end (W.disk outside.old self.old.half).bytes) (record_of (atoms_in delta)) (W.disk outside.new self.old.half).bytes) }
+        ensures others { W.told → (f : FileId) → f ≢ self.old.half → W.disk outside.new f ≡ W.disk outside.old f }
+        // At each moment the database is the one before or the one after.
+        ensures any_moment { W.told → self.old.closed ≡ false → LeavesOnly W.moment W.left_since outside.old outside.new
+            (IsEither (database_of self.old) (database_after self.old delta) (W.emitted outside.old)) }
+        ensures emitted { W.emitted outside.new ≡ W.emitted outside.old }
+        ensures output { W.output_faults outside.new ≡ W.output_faults outside.old }
+        ensures device { result ≡ Err CommitFault.Device → Rose (W.device_faults outside.old) (W.device_faults outside.new) }
+        ensures device_later { W.device_faults outside.old ≤ W.device_faults outside.new }
+        ensures device_still { result ≢ Err CommitFault.Device → W.device_faults outside.new ≡ W.device_faults outside.old }
+    {
+        if self.closed {
+            return Err(CommitFault::Closed);
+        }
+        Err(CommitFault::Memory)
+    }
+
+    /// Writes the other half with all that is stored in its pages, and selects it.
+    ///
+    /// The store has to be closed or to stand for the outside, and is used up. `Full` comes exactly
+    /// where the half has more bytes than the limit. Where it answers anything else than Ok and
+    /// `Device`, no call on a file was made.
+    pub fn checkpoint<W: Outside>(self, outside: &mut W, limit: u64) -> Result<(), CheckFault>
+        requires stands { W.told → self.closed ≡ false → StandsFor (W.disk outside.old) self }
+        requires limit { limit ≤ 268435456 }
+        // The files: the other half is selected, and is printed anew; the former one stays.
+        ensures settled { W.told → OnOk result ((f : FileId) → IsSettled (W.disk outside.new f)) }
+        ensures selects { W.told → OnOk result ((W.disk outside.new Select).bytes ≡ select_byte (other_half self.half) ∷ []) }
+        ensures renewed { W.told → OnOk result ((W.disk outside.new (other_half self.half)).bytes ≡ half_with (database_of self)) }
+        ensures former { W.told → self.closed ≡ false → W.disk outside.new self.half ≡ W.disk outside.old self.half }
+        // Why it is refused.
+        ensures closed { result ≡ Err CheckFault.Closed → self.closed ≡ true }
+        ensures stays_closed { self.closed ≡ true → result ≡ Err CheckFault.Closed }
+        ensures fits { OnOk result (length (half_with (database_of self)) ≤ limit) }
+        ensures refusal { IfErr result (IsCheckRefusal (database_of self) limit) }
+        ensures untouched { OnErr result (result ≢ Err CheckFault.Device → outside.new ≡ outside.old) }
+        // At each moment the database is the same.
+        ensures any_moment { W.told → self.closed ≡ false → LeavesOnly W.moment W.left_since outside.old outside.new
+            (IsStill (database_of self) (W.emitted outside.old)) }
+        ensures emitted { W.emitted outside.new ≡ W.emitted outside.old }
+        ensures output { W.output_faults outside.new ≡ W.output_faults outside.old }
+        ensures device { result ≡ Err CheckFault.Device → Rose (W.device_faults outside.old) (W.device_faults outside.new) }
+        ensures device_later { W.device_faults outside.old ≤ W.device_faults outside.new }
+        ensures device_still { result ≢ Err CheckFault.Device → W.device_faults outside.new ≡ W.device_faults outside.old }
+    {
+        if self.closed {
+            return Err(CheckFault::Closed);
+        }
+        Err(CheckFault::Memory)
+    }
+}
