@@ -1,0 +1,4 @@
+pub mod Layering
+pub mod Signing
+pub mod Meeting
+pub mod Viewing

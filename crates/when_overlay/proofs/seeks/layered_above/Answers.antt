@@ -1,0 +1,40 @@
+use Rattle.std.proofs.Common.{◌++◌, ◌<◌, ◌∙◌, ap, sym, subst, append_assoc}
+use Rattle.std.specs.Option.{option_copied}
+use Rattle.hera_sets.specs.Sets.{least_of}
+use Rattle.when_overlay.specs.Layered.{path}
+use Rattle.when_overlay.specs.Seeking.{plus_of, pluses, next_of}
+use Rattle.when_overlay.proofs.Layering.{path_step, path_none, parent_lower, parent_tip, height}
+use Rattle.when_overlay.proofs.Meeting.{next_append, pluses-push}
+use Rattle.when_overlay.proofs.seeks.layered_above.Goals as goal
+
+pub loop-at-smaller : goal.loop-at-smaller
+loop-at-smaller c =
+    let s = path_step c.args.layers.now.layers c.in-Some.i c.layer-layer.result.now c.layer-layer.ensures.valid c.layer-layer.ensures.layer in
+    subst (λ o. height c.layer-layer.result.now.parent < height o) (sym c.in-Some.is) (parent_lower c.args.layers.now.layers c.in-Some.i c.layer-layer.result.now s)
+
+pub loop-at-preserved : goal.loop-at-preserved
+loop-at-preserved c =
+    let ls = c.args.layers.now.layers in
+    let l = c.layer-layer.result.now in
+    let rows = c.loop-at.invariant.0 in
+    let s = path_step ls c.in-Some.i l c.layer-layer.ensures.valid c.layer-layer.ensures.layer in (
+      plus_of c.args.rel.0 l.delta ++ rows,
+      c.lesser-first.ensures
+          ∙ (λ j. least_of (c.plus_above.ensures j) (c.loop-at.invariant.1 j))
+          ∙ next_append (option_copied c.args.bound) (plus_of c.args.rel.0 l.delta) rows,
+      sym (append_assoc (pluses c.args.rel.0 (path ls l.parent)) (plus_of c.args.rel.0 l.delta) rows)
+          ∙ ap (λ xs. xs ++ rows) (sym (pluses-push c.args.rel.0 (path ls l.parent) l.delta) ∙ ap (pluses c.args.rel.0) (sym s.step))
+          ∙ ap (λ o. pluses c.args.rel.0 (path ls o) ++ rows) (sym c.in-Some.is)
+          ∙ c.loop-at.invariant.2,
+      parent_tip ls c.in-Some.i l s,
+    )
+
+pub returns : goal.returns
+returns c =
+    let ls = c.args.layers.now.layers in
+    let rows = c.loop-at.invariant.0 in
+    c.loop-at.invariant.1
+    ∙ ap (next_of (option_copied c.args.bound))
+    (ap (λ ds. pluses c.args.rel.0 ds ++ rows) (sym (path_none ls))
+    ∙ ap (λ o. pluses c.args.rel.0 (path ls o) ++ rows) (sym c.in_default.is)
+    ∙ c.loop-at.invariant.2)

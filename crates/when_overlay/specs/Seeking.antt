@@ -1,0 +1,45 @@
+-- What deltas say of one row, and the rows that they put in.
+use Rattle.std.specs.Prelude.{ℕ, Bool, true, false, cond, List, [], ◌∷◌, ◌++◌, Option, None, Some}
+use Rattle.std.specs.List.{find}
+use Rattle.hera_sets.specs.Rows.{Row, holds, normal, is_past}
+use Rattle.hera_meaning.specs.declared.scalars.Sign.{Sign}
+use Rattle.hera_meaning.specs.declared.scalars.Sign.TheVariants.{Plus, Minus}
+use Rattle.hera_meaning.specs.Deltas.{Delta, fail, atoms, rows_named, plus_atoms, minus_atoms}
+
+-- whether a delta takes the row out of relation r or puts it in, or says nothing of it
+abbrev pub sign_in : ℕ → Delta → Row → Option Sign
+sign_in r fail q = None
+sign_in r (atoms xs) q = cond (holds (rows_named r (minus_atoms xs)) q) (Some Minus) (cond (holds (rows_named r (plus_atoms xs)) q) (Some Plus) None)
+
+-- the later of two, where it says something
+abbrev pub later : Option Sign → Option Sign → Option Sign
+later None o = o
+later (Some s) o = Some s
+
+-- what the last delta that says something of the row says
+abbrev pub sign_over : ℕ → List Delta → Row → Option Sign
+sign_over r [] q = None
+sign_over r (d ∷ ds) q = later (sign_over r ds q) (sign_in r d q)
+
+-- whether the row is there, if it was there before or not
+abbrev pub stands : Option Sign → Bool → Bool
+stands None b = b
+stands (Some Plus) b = true
+stands (Some Minus) b = false
+
+-- the rows of relation r that a delta puts in
+abbrev pub plus_of : ℕ → Delta → List Row
+plus_of r fail = []
+plus_of r (atoms xs) = rows_named r (plus_atoms xs)
+
+abbrev pub pluses : ℕ → List Delta → List Row
+pluses r [] = []
+pluses r (d ∷ ds) = plus_of r d ++ pluses r ds
+
+-- the rows that were there, or that a delta puts in
+abbrev pub met : ℕ → List Row → List Delta → List Row
+met r rows ds = normal (rows ++ pluses r ds)
+
+-- the least of the rows past the bound
+abbrev pub next_of : Option Row → List Row → Option Row
+next_of b rows = find (is_past b) (normal rows)
