@@ -5,3 +5,8 @@ mod Distinct
 mod Lines
 mod One
 mod Evaluated
+mod Dumped
+mod Opening
+mod Renewing
+mod Making
+mod Answering

@@ -1,13 +1,24 @@
 -- What is seen of an outside over a call.
 use Rattle.std.specs.Prelude.{◌≡◌, ℕ, List, Option}
 use Rattle.std.specs.Io.KnownBytes.{Keeps}
-use Rattle.hera_volume.specs.Disk.{Disk}
+use Rattle.hera_volume.specs.Disk.{Disk, IsSettled}
 use Rattle.hera_volume.specs.Time.{Image, IsImageOf, LeavesOnly}
 use Rattle.hera_volume.specs.declared.file_id.FileId.{FileId}
+use Rattle.hera_store.specs.Moments.{IsUntouched, LeavesOnceSettled}
+
+-- Up to a moment between, at which all files are settled, a read gives what it gave, a stop leaves what it might have
+-- left at the start, and nothing is emitted. At that moment and from there on a stop leaves only what has P.
+pub record LeavesOnceOpened {D : Type 0} (disk : D → FileId → Disk) (emitted : D → Option (List ℕ)) (moment : D → ℕ) (left_since : D → ℕ → Image → Type 0) (old new : D) (P : Image → Type 0) : Type 0 where
+  pub between : D
+  pub before : IsUntouched disk emitted moment left_since old between
+  pub settled : (f : FileId) → IsSettled (disk between f)
+  pub there : (c : Image) → IsImageOf (disk between) (emitted between) c → P c
+  pub behind : LeavesOnly moment left_since between new P
 
 -- Whether the files are told, and what they, the emitted bytes and the two counts of faults were when the call began and
 -- are now. `leaves_only` says of a property that a stop at any moment of the call leaves only images that have it, beside
--- those that it might have left before.
+-- those that it might have left before. `once_opened` says it of the moments behind the opening of a folder, and
+-- `once_settled` of those behind the first sync of `select`.
 pub record Passage : Type 1 where
   pub told : Type 0
   pub disks_before : FileId → Disk
@@ -19,6 +30,8 @@ pub record Passage : Type 1 where
   pub device_before : ℕ
   pub device_now : ℕ
   pub leaves_only : (Image → Type 0) → Type 0
+  pub once_opened : (Image → Type 0) → Type 0
+  pub once_settled : (Image → Type 0) → Type 0
 
 -- the passage of an outside from the first of two moments to the second
 abbrev pub passage : {D : Type 0} → Type 0 → (D → FileId → Disk) → (D → Option (List ℕ)) → (D → ℕ) → (D → ℕ) → (D → ℕ) → (D → ℕ → Image → Type 0) → D → D → Passage
@@ -33,6 +46,8 @@ passage told disk emitted output_faults device_faults moment left_since old new 
   device_before = device_faults old;
   device_now = device_faults new;
   leaves_only = λ P. LeavesOnly moment left_since old new P;
+  once_opened = λ P. LeavesOnceOpened disk emitted moment left_since old new P;
+  once_settled = λ P. LeavesOnceSettled disk emitted moment left_since old new P;
 }
 
 -- no call on a file was made that shows: they read as before, and a stop leaves of them what it would have left

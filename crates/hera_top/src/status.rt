@@ -14,16 +14,22 @@ pub enum ExitStatus {
     Refused,
     /// A turn was due, and none was left.
     Spent,
+    /// There is a database and there should be none, there is none, or it is damaged.
+    FolderRefused,
+    /// A call on a file of the folder failed.
+    DeviceFailed,
     /// The source of the script failed.
     Unread,
     /// The output failed.
     OutputFailed,
     /// There was no memory.
     NoMemory,
+    /// The half of the database would be too long.
+    Full,
 }
 
 impl ExitStatus {
-    /// The exit status as the program gives it: 0 to 4, and 7 to 9.
+    /// The exit status as the program gives it: 0 to 10.
     pub(crate) fn number(self) -> u8
         ensures { result ≡ number_of self }
     {
@@ -33,9 +39,12 @@ impl ExitStatus {
             ExitStatus::Usage => 2,
             ExitStatus::Refused => 3,
             ExitStatus::Spent => 4,
+            ExitStatus::FolderRefused => 5,
+            ExitStatus::DeviceFailed => 6,
             ExitStatus::Unread => 7,
             ExitStatus::OutputFailed => 8,
             ExitStatus::NoMemory => 9,
+            ExitStatus::Full => 10,
         }
     }
 }

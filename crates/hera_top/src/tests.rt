@@ -1,7 +1,7 @@
-use crate::{files_of, hera};
+use crate::{files_of, folder_of, hera};
 use hera_causes::{MemSource, Piece};
 use hera_host::HostTable;
-use hera_volume::MemOutside;
+use hera_volume::{FileId, MemOutside};
 use std::alloc::{AllocError, Global};
 use std::process::Abort;
 use std::test::Fail;
@@ -94,6 +94,138 @@ fn faults_end_the_call(rt: HostRuntime) -> Result<(), Fail> {
             output,
             status,
         );
+    }
+    Ok(())
+}
+
+/// Two relations.
+const TWO: &[u8] = b"relation R(a int); relation S(a int); ";
+
+/// What `dump` prints of them without rows.
+const EMPTY: &[u8] = b"relation R(a int);\nrows 0\nrelation S(a int);\nrows 0\n";
+
+/// Empty files, and an output. Each call from the number `stop` on fails.
+fn outside_until(alloc: Global, stop: Option<u64>) -> MemOutside {
+    MemOutside::new(alloc, Vec::new(alloc), stop, Vec::new(alloc))
+}
+
+/// Calls with these words and this script over an outside, and gives the status.
+fn call(
+    rt: &impl Abort,
+    alloc: Global,
+    line: &[&str],
+    script: &[u8],
+    outside: &mut MemOutside,
+) -> Result<u8, AllocError> {
+    let words = words_in(alloc, line)?;
+    let (first, last) = files_of(&words);
+    let mut sources = Vec::new(alloc);
+    if first < last {
+        sources.push(MemSource::new(script.to_vec(alloc)?, Vec::new(alloc)))?;
+    }
+    assert!(rt; first < 4);
+    assert!(rt; sources.len() + first == last);
+    Ok(hera(alloc, &words, &mut sources, outside, &HostTable::new(alloc)))
+}
+
+#[test]
+fn a_folder_is_made_printed_and_checkpointed(rt: HostRuntime) -> Result<(), Fail> {
+    let alloc = rt.alloc();
+    let cases: [(&[&str], &[u8], u8); 7] = [
+        (&["dump", "d"], b"no database\n", 5),
+        (&["checkpoint", "d"], b"no database\n", 5),
+        (&["init", "d", "f"], b"created\n", 0),
+        (&["init", "d", "f"], b"database exists\n", 5),
+        (&["dump", "d"], EMPTY, 0),
+        (&["checkpoint", "d"], b"checkpointed\n", 0),
+        (&["dump", "d"], EMPTY, 0),
+    ];
+    let mut outside = outside_until(alloc, None);
+    for (line, output, status) in cases {
+        let before = outside.bytes().len();
+        let answer = call(&rt, alloc, line, TWO, &mut outside)?;
+        assert_eq!(rt; outside.bytes().get(before..).unwrap_or(b""), output);
+        assert_eq!(rt; answer, status);
+    }
+    assert_eq!(rt; outside.file(FileId::Select), b"\x01");
+    Ok(())
+}
+
+#[test]
+fn the_words_of_a_folder_have_a_place(rt: HostRuntime) -> Result<(), Fail> {
+    let alloc = rt.alloc();
+    let cases: [(&[&str], Option<usize>, (usize, usize)); 5] = [
+        (&["init", "d", "f"], Some(1), (2, 3)),
+        (&["dump", "d"], Some(1), (0, 0)),
+        (&["checkpoint", "d"], Some(1), (0, 0)),
+        (&["eval", "1", "f"], None, (2, 3)),
+        (&["dump", "d", "f"], None, (0, 0)),
+    ];
+    for (line, folder, files) in cases {
+        let words = words_in(alloc, line)?;
+        assert_eq!(rt; folder_of(&words), folder);
+        assert_eq!(rt; files_of(&words), files);
+    }
+    Ok(())
+}
+
+/// Stops `init` at a call on a file, and looks for what is found after a crash: no database, or the empty one, and that
+/// alone where anything was printed.
+fn stop_init(rt: &impl Abort, alloc: Global, stop: u64, fill: u8) -> Result<(), AllocError> {
+    let mut outside = outside_until(alloc, Some(stop));
+    call(rt, alloc, &["init", "d", "f"], TWO, &mut outside)?;
+    let mut found = outside.crash(fill);
+    let before = found.bytes().len();
+    let status = call(rt, alloc, &["dump", "d"], b"", &mut found)?;
+    let text = found.bytes().get(before..).unwrap_or(b"");
+    if before == 0 && status == 5 {
+        assert_eq!(rt; text, b"no database\n");
+    } else {
+        assert_eq!(rt; status, 0);
+        assert_eq!(rt; text, EMPTY);
+    }
+    Ok(())
+}
+
+#[test]
+fn a_stopped_init_leaves_no_database_or_the_empty_one(rt: HostRuntime) -> Result<(), Fail> {
+    for stop in 0..16 {
+        for fill in [0, 1, 255] {
+            stop_init(&rt, rt.alloc(), stop, fill)?;
+        }
+    }
+    Ok(())
+}
+
+/// Stops `checkpoint` at a call on a file after those of `init`, and looks for what is found after a crash: the database,
+/// and the other half where anything was printed.
+fn stop_checkpoint(rt: &impl Abort, alloc: Global, stop: u64, fill: u8) -> Result<(), AllocError> {
+    let mut outside = outside_until(alloc, Some(stop));
+    call(rt, alloc, &["init", "d", "f"], TWO, &mut outside)?;
+    let made = outside.bytes().len();
+    assert_eq!(rt; outside.bytes(), b"created\n");
+    call(rt, alloc, &["checkpoint", "d"], b"", &mut outside)?;
+    let mut found = outside.crash(fill);
+    let before = found.bytes().len();
+    if before > made {
+        assert_eq!(rt; found.file(FileId::Select), b"\x01");
+    }
+    let status = call(rt, alloc, &["dump", "d"], b"", &mut found)?;
+    assert_eq!(rt; status, 0);
+    assert_eq!(rt; found.bytes().get(before..).unwrap_or(b""), EMPTY);
+    Ok(())
+}
+
+#[test]
+fn a_stopped_checkpoint_leaves_the_database(rt: HostRuntime) -> Result<(), Fail> {
+    let alloc = rt.alloc();
+    let mut outside = outside_until(alloc, None);
+    call(&rt, alloc, &["init", "d", "f"], TWO, &mut outside)?;
+    let made = outside.calls() as u64;
+    for more in 0..20 {
+        for fill in [0, 1, 255] {
+            stop_checkpoint(&rt, alloc, made.saturating_add(more), fill)?;
+        }
     }
     Ok(())
 }

@@ -1,0 +1,49 @@
+-- What a command with a folder answers, of what was said on the way.
+use Rattle.std.proofs.Common.{◌≡◌, ◌∙◌, ℕ, ⊎_elim, ◌⊎◌, List, refl, sym, ap, subst}
+use Rattle.hera_meaning.specs.declared.schemas.RelDecl.{RelDecl}
+use Rattle.hera_meaning.specs.Trees.{Program_tree}
+use Rattle.hera_host.specs.Tables.{Host}
+use Rattle.hera_top.specs.declared.words.FolderCommand.{FolderCommand}
+use Rattle.hera_top.specs.declared.words.FolderCommand.TheVariants.{Init, Dump, Checkpoint}
+use Rattle.hera_top.specs.declared.status.ExitStatus.{ExitStatus}
+use Rattle.hera_top.specs.declared.status.ExitStatus.TheVariants.{Done, OutputFailed}
+use Rattle.hera_top.specs.Outcome.{IsRead}
+use Rattle.hera_top.specs.Folder.{Gives, refuses, reads_none, makes, is_taken, dump_comes, checkpoint_comes, AnswersIn, tells, fails}
+use Rattle.hera_top.specs.Passages.{Passage}
+use Rattle.hera_top.specs.Said.{AnswersThere, SaysMade, SaysCreated}
+use Rattle.hera_top.specs.Sources.{Seen}
+use Rattle.hera_top.specs.Statuses.{number_of}
+
+-- a text without numbers is said, or its output fails
+pub never_nine : (status : ExitStatus) → (status ≡ Done) ⊎ (status ≡ OutputFailed) → number_of status ≡ 9 → ⊥
+never_nine status either is =
+    ⊎_elim (λ done. (let bad : 0 ≡ 9 = ap number_of (sym done) ∙ is in cc (bad))) (λ failed. (let bad : 8 ≡ 9 = ap number_of (sym failed) ∙ is in cc (bad))) either
+
+pub same_rels : (a b : List RelDecl) (status : ℕ) (v : Passage) → a ≡ b → SaysMade a status v → SaysMade b status v
+same_rels a b status v is said = subst (λ (r : List RelDecl). SaysMade r status v) is said
+
+made_told : (hosts : List Host) (before now : Seen) (p : Program_tree) (status : ℕ) (v : Passage) → Gives hosts before now p → SaysMade p.relations status v → AnswersIn hosts Init before now status v
+made_told hosts before now p status v gives said =
+    ⊎_elim (λ (vacant, one). tells (makes gives vacant) one) (λ more. ⊎_elim (λ (taken, one). tells (is_taken gives taken) one) (λ given. fails gives.still given) more) said
+
+-- a script that was read whole
+pub created_read : (hosts : List Host) (before now : Seen) (script : List ℕ) (status : ℕ) (v : Passage) → IsRead before.left now.left script → now.faults ≡ before.faults
+    → SaysCreated hosts script status v → AnswersIn hosts Init before now status v
+created_read hosts before now script status v read still said =
+    ⊎_elim (λ (cause, at, refused, one). tells (reads_none (refuses script read still refused)) one)
+    (λ more. ⊎_elim (λ (p, short, accepted, made). made_told hosts before now p status v (record { script = script; read = read; still = still; short = short; accepted = accepted }) made) (λ given. fails still given) more) said
+
+-- no script is read
+pub dump_told : (hosts : List Host) (seen : Seen) (status : ℕ) (v : Passage) → AnswersThere Dump status v → AnswersIn hosts Dump seen seen status v
+dump_told hosts seen status v said = ⊎_elim (λ (outcome, comes, one). tells (dump_comes comes) one) (λ given. fails refl given) said
+
+pub checkpoint_told : (hosts : List Host) (seen : Seen) (status : ℕ) (v : Passage) → AnswersThere Checkpoint status v → AnswersIn hosts Checkpoint seen seen status v
+checkpoint_told hosts seen status v said = ⊎_elim (λ (outcome, comes, one). tells (checkpoint_comes comes) one) (λ given. fails refl given) said
+
+pub same_folder_answers : (hosts : List Host) (read command : FolderCommand) (b c n m : Seen) (status number : ℕ) (v : Passage) → read ≡ command → b ≡ c → n ≡ m → number ≡ status
+    → AnswersIn hosts read b n status v → AnswersIn hosts command c m number v
+same_folder_answers hosts read command b c n m status number v is before now same answers =
+    subst (λ (x : FolderCommand). AnswersIn hosts x c m number v) is
+    (subst (λ (x : Seen). AnswersIn hosts read x m number v) before
+    (subst (λ (x : Seen). AnswersIn hosts read b x number v) now
+    (subst (λ (x : ℕ). AnswersIn hosts read b n x v) (sym same) answers)))
