@@ -1,2 +1,10 @@
 pub mod States
 pub mod Untouched
+pub mod Selections
+pub mod Commits
+pub mod EmptyHalves
+pub mod Smashes
+pub mod Fillings
+pub mod Printings
+pub mod Renewals
+pub mod Founds

@@ -1,5 +1,7 @@
 -- Calls that touch nothing.
 use Rattle.std.proofs.Common.{◌≡◌, ◌≢◌, List, Option, Some, ℕ, refl, sym, ap, subst, ◌∙◌}
+use Rattle.std.specs.Prelude.{Result, OnOk}
+use Rattle.std.proofs.lemmas.Result.{on_ok_weaker}
 use Rattle.std.specs.Io.KnownBytes.{Keeps}
 use Rattle.hera_volume.specs.Disk.{Disk, IsImage, IsSound, IsSettled, Within, after_sync}
 use Rattle.hera_volume.specs.Time.{Image, IsImageOf, LeavesOnly}
@@ -20,6 +22,16 @@ each P Left p others Right = others Right (λ e. cc)
 each P Right p others Select = others Select (λ e. cc)
 each P Right p others Left = others Left (λ e. cc)
 each P Right p others Right = p
+
+-- three files settled one after another
+pub settled-three : {T E : Type 0} (a b c : FileId → Disk) (last : Result T E) → IsSettled (a Select) → IsSettled (b Left) → OnOk last (IsSettled (c Right)) → ((f : FileId) → f ≢ Left → b f ≡ a f) → ((f : FileId) → f ≢ Right → c f ≡ b f)
+    → OnOk last ((f : FileId) → IsSettled (c f))
+settled-three a b c last select left right second third = on_ok_weaker last here right
+  where
+    here : IsSettled (c Right) → (f : FileId) → IsSettled (c f)
+    here settled Select = subst IsSettled (sym (third Select (λ e. cc) ∙ second Select (λ e. cc))) select
+    here settled Left = subst IsSettled (sym (third Left (λ e. cc))) left
+    here settled Right = settled
 
 module _ {D : Type 0} (disk : D → FileId → Disk) (emitted : D → Option (List ℕ)) (moment : D → ℕ) (left_since : D → ℕ → Image → Type 0) where
   -- no call at all

@@ -1,9 +1,11 @@
 -- What the refusals of the store say.
 use Rattle.std.specs.Prelude.{◌≡◌, ◌≤◌, ◌<◌, ◌⊎◌, ◌+◌, ◌*◌, ℕ, List, length}
-use Rattle.hera_meaning.specs.Deltas.{Delta}
+use Rattle.hera_meaning.specs.Deltas.{Atom, Delta}
 use Rattle.delta_atoms.specs.Atoms.{atoms_in}
 use Rattle.commit_journal.specs.Prepare.{need_of}
 use Rattle.rel_format.specs.Pages.{format_one, header_of, page_count, half_of}
+use Rattle.half_writer.specs.declared.pages.HalfFault.{HalfFault}
+use Rattle.half_writer.specs.declared.pages.HalfFault.TheVariants.{Full as HalfFull, Memory as HalfMemory}
 use Rattle.hera_store.specs.Databases.{Database}
 use Rattle.hera_store.specs.Standing.{Standing}
 use Rattle.hera_store.specs.declared.faults.CommitFault.{CommitFault}
@@ -14,6 +16,13 @@ use Rattle.hera_store.specs.declared.faults.CheckFault.TheVariants.{Full as Chec
 -- the place behind the gate that comes behind the delta's record
 abbrev pub commit_need : Standing → Delta → ℕ
 commit_need store delta = need_of (atoms_in delta) store.end
+
+-- the same of a record that is not written yet, so the device is not asked
+abbrev pub IsRecordRefusal : List Atom → ℕ → ℕ → CommitFault → Type 0
+IsRecordRefusal xs end limit (Full need most) = (need ≡ need_of xs end) × (most ≡ limit) × (limit < need)
+IsRecordRefusal xs end limit Device = ⊥
+IsRecordRefusal xs end limit Memory = Unit {0}
+IsRecordRefusal xs end limit Closed = ⊥
 
 -- `Full` tells the need, which passes the limit, and the limit; the device is asked only for a need within the limit
 abbrev pub IsCommitRefusal : Standing → Delta → ℕ → CommitFault → Type 0
@@ -34,6 +43,18 @@ pub record IsFirstNeed (db : Database) (limit need : ℕ) : Type 0 where
   pub sum : need ≡ length (header_of format_one db.catalogue) + 5 + 8192 * pages
   pub past : limit < need
   pub first : (pages ≡ 0) ⊎ (need ≤ limit + 8192)
+
+-- the same of a half that is not written yet, so the device is not asked
+abbrev pub IsPrintRefusal : Database → ℕ → CheckFault → Type 0
+IsPrintRefusal db limit (CheckFull need most) = IsFirstNeed db limit need × (most ≡ limit) × (limit < length (half_with db))
+IsPrintRefusal db limit CheckDevice = ⊥
+IsPrintRefusal db limit CheckMemory = Unit {0}
+IsPrintRefusal db limit CheckClosed = ⊥
+
+-- a writer's refusal
+abbrev pub check_fault : HalfFault → CheckFault
+check_fault (HalfFull need limit) = CheckFull need limit
+check_fault HalfMemory = CheckMemory
 
 -- `Full` tells that need and the limit; the device is asked only for a half within the limit
 abbrev pub IsCheckRefusal : Database → ℕ → CheckFault → Type 0

@@ -1,7 +1,7 @@
 -- What contracts see of a store, and when it stands for the files.
-use Rattle.std.specs.Prelude.{◌≡◌, ◌+◌, ℕ, Bool, false, List, [], ◌∷◌, ◌++◌, length}
+use Rattle.std.specs.Prelude.{◌≡◌, ◌+◌, ℕ, Bool, false, List, [], ◌∷◌, ◌++◌, length, All}
 use Rattle.hera_meaning.specs.declared.schemas.RelDecl.{RelDecl}
-use Rattle.hera_meaning.specs.Deltas.{Delta, IsDeltaOf, is_fail}
+use Rattle.hera_meaning.specs.Deltas.{Delta, State, IsState, IsDeltaOf, is_fail, apply_of}
 use Rattle.delta_atoms.specs.Atoms.{atoms_in}
 use Rattle.hera_volume.specs.Disk.{Disk, IsSettled}
 use Rattle.hera_volume.specs.declared.file_id.FileId.{FileId}
@@ -21,18 +21,37 @@ pub record Standing : Type 0 where
   pub end : ℕ
   pub closed : Bool
 
+-- the base's catalogue, with its state after commits in order
+abbrev pub database_over : Stored → List Delta → Database
+database_over base commits = record { catalogue = base.catalogue; state = state_with base.state commits }
+
 -- the database for which it stands
 abbrev pub database_of : Standing → Database
-database_of store = record { catalogue = store.base.catalogue; state = state_with store.base.state store.commits }
+database_of store = database_over store.base store.commits
 
 -- the same with one commit more
 abbrev pub database_after : Standing → Delta → Database
-database_after store delta = record { catalogue = store.base.catalogue; state = state_with store.base.state (store.commits ++ delta ∷ []) }
+database_after store delta = database_over store.base (store.commits ++ delta ∷ [])
 
 -- it is not `fail`, and names relations and rows of the catalogue
 pub record IsCommitOf (rels : List RelDecl) (delta : Delta) : Type 0 where
   pub proper : is_fail delta ≡ false
   pub known : IsDeltaOf rels delta
+
+-- the base's state is one of its catalogue, and each commit is one of it
+pub record AreOver (base : Stored) (commits : List Delta) : Type 0 where
+  pub state : IsState base.catalogue base.state
+  pub proper : All (IsCommitOf base.catalogue) commits
+
+-- what a delta does to a state, these deltas do one after another
+pub record IsSmashOf (rels : List RelDecl) (deltas : List Delta) (all : Delta) : Type 0 where
+  pub proper : IsCommitOf rels all
+  pub same : (s : State) → IsState rels s → apply_of s all ≡ state_with s deltas
+
+-- what some commits do to a state, these deltas do
+pub record AreAsGood (rels : List RelDecl) (deltas commits : List Delta) : Type 0 where
+  pub proper : All (IsCommitOf rels) commits
+  pub same : (s : State) → IsState rels s → state_with s commits ≡ state_with s deltas
 
 -- A crash leaves of each file what a read gives; the half that `select` names is the store's, it holds the store's
 -- database, and its journal ends where the store keeps its end.

@@ -4,7 +4,7 @@ use hera_volume::FileId;
 use thiserror::Error;
 
 /// Why no database is made.
-#[derive(Debug, PartialEq, Eq, Drop, Error)]
+#[derive(Debug, Drop, Error)]
 pub enum InitFault {
     /// The file `select` is not empty.
     #[error("there is a database")]
@@ -18,7 +18,7 @@ pub enum InitFault {
 }
 
 /// Why no database is opened.
-#[derive(Debug, PartialEq, Eq, Drop, Error)]
+#[derive(Debug, Drop, Error)]
 pub enum OpenFault {
     /// The file `select` is empty.
     #[error("there is no database")]
@@ -35,7 +35,7 @@ pub enum OpenFault {
 }
 
 /// Why a commit is refused.
-#[derive(Debug, PartialEq, Eq, Drop, Error)]
+#[derive(Debug, Drop, Error)]
 pub enum CommitFault {
     /// The record and the next gate end behind the limit, at `need`.
     #[error("the half is full")]
@@ -52,7 +52,7 @@ pub enum CommitFault {
 }
 
 /// Why a checkpoint is refused.
-#[derive(Debug, PartialEq, Eq, Drop, Error)]
+#[derive(Debug, Drop, Error)]
 pub enum CheckFault {
     /// The half has more bytes than the limit: `need` where pages were added up to the first past it.
     #[error("the half is full")]

@@ -4,9 +4,14 @@
 
 mod faults;
 mod files;
+pub mod laws;
 mod making;
 mod opening;
+mod printing;
 mod store;
+mod switching;
+#[cfg(test)]
+mod tests;
 
 pub use faults::{CheckFault, CommitFault, InitFault, OpenFault};
 pub use making::init_store;

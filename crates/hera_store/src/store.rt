@@ -1,7 +1,7 @@
 //! Stores: databases that are open.
-ghost use Rattle.std.specs.Prelude.{◌≡◌, ◌≢◌, ◌≤◌, ◌++◌, [], ◌∷◌, false, true, Some, Err, OnOk, OnErr, IfErr, take, length, All};
+ghost use Rattle.std.specs.Prelude.{◌≡◌, ◌≢◌, ◌≤◌, ◌++◌, [], ◌∷◌, false, true, Some, Err, OnOk, OnErr, IfOk, IfErr, IfSome, ◌+◌, take, length, All};
 ghost use Rattle.hera_causes.specs.Causes.{Rose};
-ghost use Rattle.hera_meaning.specs.Deltas.{is_fail, IsDeltaOf, IsState};
+ghost use Rattle.hera_meaning.specs.Deltas.{is_fail, IsDelta, IsDeltaOf, IsState};
 ghost use Rattle.delta_atoms.specs.Atoms.{atoms_in};
 ghost use Rattle.hera_volume.specs.Disk.{IsSettled};
 ghost use Rattle.hera_volume.specs.Time.{LeavesOnly};
@@ -9,15 +9,20 @@ ghost use Rattle.hera_volume.specs.declared.file_id.FileId.{FileId};
 ghost use Rattle.hera_volume.specs.declared.file_id.FileId.TheVariants.{Select};
 ghost use Rattle.rel_format.specs.Journal.{record_of};
 ghost use Rattle.commit_journal.specs.Gate.{IsWith};
-ghost use Rattle.hera_store.specs.Standing.{StandsFor, IsCommitOf, database_of, database_after, end_with, other_half, select_byte};
-ghost use Rattle.hera_store.specs.Faults.{IsCommitRefusal, IsCheckRefusal, commit_need, half_with};
+ghost use Rattle.commit_journal.specs.Prepare.{need_of};
+ghost use Rattle.hera_store.specs.Databases.{Holds};
+ghost use Rattle.hera_store.specs.Standing.{StandsFor, IsCommitOf, AreOver, database_of, database_after, end_with, other_half, select_byte};
+ghost use Rattle.hera_store.specs.Faults.{IsRecordRefusal, IsCommitRefusal, IsCheckRefusal, commit_need, half_with};
 ghost use Rattle.hera_store.specs.Moments.{IsEither, IsStill};
 
+use crate::printing::half_bytes;
+use crate::switching::switch_to;
 use crate::{CheckFault, CommitFault};
+use commit_journal::{PrepareFault, Prepared, prepare, seal};
 use delta_atoms::Delta;
 use hera_volume::{FileId, Outside};
 use rel_pages::Base;
-use std::alloc::Global;
+use std::alloc::{AllocError, Global};
 use std::marker::Model;
 
 /// A database that is open: the half as it was read, and the commits since.
@@ -31,18 +36,49 @@ pub struct Store {
     alloc: Global,
 }
 
+impl From<AllocError> for CommitFault {
+    ghost use Rattle.std.specs.Prelude.{◌≡◌};
+    ghost use Rattle.hera_store.specs.declared.faults.CommitFault.TheVariants.{Memory};
+
+    ghost from_gives = { λ _ e. e ≡ Memory };
+
+    fn from(_: AllocError) -> Self {
+        CommitFault::Memory
+    }
+}
+
 impl Model for Store {
-    ghost use Rattle.std.specs.Prelude.{◌≤◌, All};
-    ghost use Rattle.hera_store.specs.Standing.{Standing, IsCommitOf};
+    ghost use Rattle.hera_store.specs.Standing.{Standing, AreOver};
 
     ghost Value = { Standing };
 
     ghost view = { λ s. record { base = s.base; commits = s.commits.items; half = s.half; end = s.end; closed = s.closed } };
 
-    ghost invariant = { λ s. All (IsCommitOf s.base.catalogue) s.commits.items };
+    ghost invariant = { λ s. AreOver s.base s.commits.items };
 }
 
 impl Store {
+    /// The store of this half, whose first gate that is not open is at `end`.
+    pub(crate) fn opened(
+        alloc: Global,
+        base: Base,
+        commits: Vec<Delta>,
+        half: FileId,
+        end: u64,
+    ) -> Store
+        requires { AreOver base commits.items }
+        ensures { result ≡ record { base = base; commits = commits.items; half = half; end = end; closed = false } }
+    {
+        Store {
+            base,
+            commits,
+            half,
+            end,
+            closed: false,
+            alloc,
+        }
+    }
+
     /// The half as it was read.
     pub fn base(&self) -> &Base
         ensures base { result.now ≡ self.now.base }
@@ -107,7 +143,19 @@ impl Store {
         if self.closed {
             return Err(CommitFault::Closed);
         }
-        Err(CommitFault::Memory)
+        self.commits.reserve(1)?;
+        let (prepared, next) = record_behind(self.alloc, &delta, self.end, limit)?;
+        match seal(outside, self.half, prepared) {
+            Ok(()) => {
+                self.end = next;
+                self.commits.push(delta).unwrap();
+                Ok(())
+            }
+            Err(_) => {
+                self.closed = true;
+                Err(CommitFault::Device)
+            }
+        }
     }
 
     /// Writes the other half with all that is stored in its pages, and selects it.
@@ -122,7 +170,8 @@ impl Store {
         ensures settled { W.told → OnOk result ((f : FileId) → IsSettled (W.disk outside.new f)) }
         ensures selects { W.told → OnOk result ((W.disk outside.new Select).bytes ≡ select_byte (other_half self.half) ∷ []) }
         ensures renewed { W.told → OnOk result ((W.disk outside.new (other_half self.half)).bytes ≡ half_with (database_of self)) }
-        ensures former { W.told → self.closed ≡ false → W.disk outside.new self.half ≡ W.disk outside.old self.half }
+        ensures holds { W.told → OnOk result (Holds (λ f. (W.disk outside.new f).bytes) (database_of self)) }
+        ensures former { W.told → W.disk outside.new self.half ≡ W.disk outside.old self.half }
         // Why it is refused.
         ensures closed { result ≡ Err CheckFault.Closed → self.closed ≡ true }
         ensures stays_closed { self.closed ≡ true → result ≡ Err CheckFault.Closed }
@@ -141,6 +190,62 @@ impl Store {
         if self.closed {
             return Err(CheckFault::Closed);
         }
-        Err(CheckFault::Memory)
+        let bytes = half_bytes(self.alloc, &self.base, &self.commits, limit)?;
+        match switch_to(outside, other_half(self.half), &bytes) {
+            Ok(()) => Ok(()),
+            Err(_) => Err(CheckFault::Device),
+        }
+    }
+}
+
+/// The other of two halves.
+fn other_half(half: FileId) -> FileId
+    ensures { result ≡ other_half half }
+{
+    match half {
+        FileId::Left => FileId::Right,
+        FileId::Right => FileId::Left,
+        FileId::Select => FileId::Select,
+    }
+}
+
+/// The delta's record, whose gate is at `end`, and the place of the gate behind it.
+fn record_behind(
+    alloc: Global,
+    delta: &Delta,
+    end: u64,
+    limit: u64,
+) -> Result<(Prepared, u64), CommitFault>
+    requires proper { is_fail delta.now ≡ false }
+    requires limit { limit ≤ 268435456 }
+    ensures body { IfOk result (λ x. x.0.body ≡ record_of (atoms_in delta.now)) }
+    ensures end { IfOk result (λ x. x.0.end ≡ end) }
+    ensures next { IfOk result (λ x. x.1 ≡ end + length (record_of (atoms_in delta.now)) + 1) }
+    ensures fits { OnOk result (need_of (atoms_in delta.now) end ≤ limit) }
+    ensures delta { OnOk result (IsDelta delta.now) }
+    ensures refusal { IfErr result (IsRecordRefusal (atoms_in delta.now) end limit) }
+{
+    let prepared = match prepare(alloc, delta, end, limit) {
+        Ok(prepared) => prepared,
+        Err(PrepareFault::Full { need, limit }) => return Err(CommitFault::Full { need, limit }),
+        Err(PrepareFault::Memory) => return Err(CommitFault::Memory),
+    };
+    match next_gate(alloc, delta, end) {
+        Some(next) => Ok((prepared, next)),
+        None => Err(CommitFault::Memory),
+    }
+}
+
+/// The place of the gate behind the delta's record, whose own gate is at `end`. The refusal of a
+/// record within no bytes tells it.
+fn next_gate(alloc: Global, delta: &Delta, end: u64) -> Option<u64>
+    requires { is_fail delta.now ≡ false }
+    ensures next { IfSome result (λ next. next ≡ end + length (record_of (atoms_in delta.now)) + 1) }
+    ensures delta { IsDelta delta.now }
+{
+    let _fails = delta.is_fail();
+    match prepare(alloc, delta, end, 0) {
+        Err(PrepareFault::Full { need, .. }) => u64::try_from(need - 1).ok(),
+        _ => None,
     }
 }

@@ -22,6 +22,7 @@ mod tests {
     use hera_rows::{RowSet, Sorted};
     use rel_pages::{Base, read_half};
     use std::alloc::Global;
+    use std::process::Abort;
     use std::test::Fail;
 
     /// The row of this int.
@@ -50,7 +51,7 @@ mod tests {
     }
 
     /// Puts a layer upon the newest one.
-    fn put(rt: HostRuntime, layers: &mut Layers, delta: Delta) -> Result<(), Fail> {
+    fn put(rt: &impl Abort, layers: &mut Layers, delta: Delta) -> Result<(), Fail> {
         assert!(rt; !delta.is_fail());
         layers.reserve(1)?;
         let number = layers.len();
@@ -64,7 +65,7 @@ mod tests {
     }
 
     /// The rows of R after the layers up to the newest one.
-    fn seen(rt: HostRuntime, base: &Base, layers: &Layers) -> Result<RowSet, Fail> {
+    fn seen(rt: &impl Abort, alloc: Global, base: &Base, layers: &Layers) -> Result<RowSet, Fail> {
         assert!(rt; base.catalogue().len() == 1 && layers.len() > 0);
         let view = View {
             base,
@@ -72,7 +73,7 @@ mod tests {
             layers,
             tip: Some(layers.len() - 1),
         };
-        Ok(view.rel(RelId(0)).collect(rt.alloc())?)
+        Ok(view.rel(RelId(0)).collect(alloc)?)
     }
 
     #[test]
@@ -80,9 +81,9 @@ mod tests {
         let base = base(rt.alloc())?;
         let mut layers = Layers::new(rt.alloc());
         for n in 1..65 {
-            put(rt, &mut layers, change(rt.alloc(), n, n + 100)?)?;
+            put(&rt, &mut layers, change(rt.alloc(), n, n + 100)?)?;
         }
-        let rows = seen(rt, &base, &layers)?;
+        let rows = seen(&rt, rt.alloc(), &base, &layers)?;
         assert_eq!(rt; rows.len(), 64);
         for n in 1..65 {
             assert!(rt; rows.has(&row(n + 100)) && !rows.has(&row(n)));

@@ -1,0 +1,47 @@
+-- A database moved to its other half.
+use Rattle.std.proofs.Common.{◌≡◌, ◌≢◌, ◌≤◌, List, [], ◌∷◌, ℕ, length, refl, sym, subst}
+use Rattle.hera_meaning.specs.Catalogues.{IsCatalogue}
+use Rattle.hera_volume.specs.declared.file_id.FileId.{FileId}
+use Rattle.hera_volume.specs.declared.file_id.FileId.TheVariants.{Select, Left, Right}
+use Rattle.rel_format.specs.Pages.{format_one}
+use Rattle.rel_format.specs.Journal.{IsHalf, half_limit}
+use Rattle.commit_journal.specs.Halves.{state_with}
+use Rattle.half_laws.proofs.Halves.{half_of_is}
+use Rattle.hera_volume.specs.Disk.{Disk}
+use Rattle.hera_store.specs.Databases.{half_named, Names, Holds}
+use Rattle.hera_store.specs.Standing.{Standing, AreOver, database_of, other_half, select_byte}
+use Rattle.hera_store.proofs.Selections.{not_select}
+use Rattle.hera_store.specs.Faults.{half_with}
+use Rattle.hera_store.proofs.States.{state_after_all}
+
+pub other_twice : (half : FileId) → other_half (other_half half) ≡ half
+other_twice Select = refl
+other_twice Left = refl
+other_twice Right = refl
+
+pub renewed_is : (store : Standing) (bytes : List ℕ) → AreOver store.base store.commits → IsCatalogue store.base.catalogue → length (half_with (database_of store)) ≤ half_limit → bytes ≡ half_with (database_of store)
+    → IsHalf format_one bytes store.base.catalogue (state_with store.base.state store.commits)
+renewed_is store bytes over catalogue short is =
+    let state = state_with store.base.state store.commits in
+    let valid = state_after_all store.base.catalogue store.base.state store.commits over.state over.proper in
+    subst (λ (l : List ℕ). IsHalf format_one l store.base.catalogue state) (sym is) (half_of_is format_one store.base.catalogue state catalogue valid short).half
+
+byte_names : (half : FileId) → Select ≢ half → half_named (select_byte half) ≡ half
+byte_names Select ne = absurd (ne refl)
+byte_names Left ne = refl
+byte_names Right ne = refl
+
+other_named : (half : FileId) → Select ≢ half → Select ≢ other_half half
+other_named Select ne = ne
+other_named Left ne = λ e. cc
+other_named Right ne = λ e. cc
+
+-- what the files hold once the other half is selected
+pub switched_holds : (store : Standing) (select : List ℕ) (now : FileId → Disk) → Names select store.half → (now Select).bytes ≡ select_byte (other_half store.half) ∷ []
+    → IsHalf format_one (now (other_half store.half)).bytes store.base.catalogue (state_with store.base.state store.commits) → Holds (λ f. (now f).bytes) (database_of store)
+switched_holds store select now named selects half = record {
+  byte = select_byte (other_half store.half);
+  selects = selects;
+  half = subst (λ (f : FileId). IsHalf format_one (now f).bytes store.base.catalogue (state_with store.base.state store.commits))
+      (sym (byte_names (other_half store.half) (other_named store.half (not_select store.half select named)))) half;
+}

@@ -1,0 +1,6 @@
+use Rattle.std.proofs.Common.{All, subst}
+use Rattle.hera_store.specs.Standing.{Standing, IsCommitOf}
+use Rattle.hera_store.proofs.store.Store.commits.Goals as goal
+
+pub returns-clause-proper : goal.returns-clause-proper
+returns-clause-proper c = subst (λ (store : Standing). All (IsCommitOf store.base.catalogue) store.commits) c.self.view_is c.self.invariant.proper

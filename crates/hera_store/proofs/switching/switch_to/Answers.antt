@@ -1,0 +1,48 @@
+use Rattle.std.proofs.Common.{◌≡◌, ◌≢◌, ◌∙◌, List, ℕ, refl, sym, ap, subst}
+use Rattle.hera_volume.specs.Disk.{Disk, IsSettled}
+use Rattle.hera_volume.specs.declared.file_id.FileId.{FileId}
+use Rattle.hera_volume.specs.declared.file_id.FileId.TheVariants.{Select}
+use Rattle.rel_format.specs.Pages.{format_one}
+use Rattle.rel_format.specs.Journal.{IsHalf}
+use Rattle.hera_store.specs.Standing.{other_half}
+use Rattle.hera_store.proofs.Untouched.{each}
+use Rattle.hera_store.proofs.Fillings.{other_written, other_selected, other_apart, select_apart}
+use Rattle.hera_store.proofs.switching.switch_to.Goals as goal
+
+pub returns-in_err-select_half-clause-any_moment : goal.returns-in_err-select_half-clause-any_moment
+returns-in_err-select_half-clause-any_moment g c = λ told db former half.
+    let disk = g.W.Outside.disk in
+    let which = c.args.half in
+    let a = c.args.outside.now in
+    let b = c.rewrite_and_sync.new.outside in
+    let others = c.rewrite_and_sync.ensures.others told in
+    let named = c.requires.named told in
+    let written = c.in_ok-rewrite_and_sync.ensures.done told in
+    let select : disk b Select ≡ disk a Select = others Select (select_apart which (disk a Select).bytes named) in
+    let other : disk b (other_half which) ≡ disk a (other_half which) = others (other_half which) (other_apart which (disk a Select).bytes named) in
+    let settled : (f : FileId) → IsSettled (disk b f) = each (λ f. IsSettled (disk b f)) which written.0 (λ f ne. subst IsSettled (sym (others f ne)) (c.requires.settled told f)) in
+    let first = other_written disk g.W.Output.emitted g.W.Outside.moment g.W.Outside.left_since db a b which (c.requires.settled told) named former (c.rewrite_and_sync.ensures.any_moment told) in
+    other_selected disk g.W.Output.emitted g.W.Outside.moment g.W.Outside.left_since db a b c.select_half.new.outside which _ first c.rewrite_and_sync.ensures.emitted settled
+    (named.0, ap (λ (d : Disk). d.bytes) select ∙ named.1, named.2)
+    (subst (λ (d : Disk). IsHalf format_one d.bytes db.catalogue db.state) (sym other) former)
+    (subst (λ (l : List ℕ). IsHalf format_one l db.catalogue db.state) (sym written.1) half)
+    (c.select_half.ensures.any_moment told)
+
+pub returns-clause-any_moment : goal.returns-clause-any_moment
+returns-clause-any_moment g c = λ told db former half.
+    let disk = g.W.Outside.disk in
+    let which = c.args.half in
+    let a = c.args.outside.now in
+    let b = c.rewrite_and_sync.new.outside in
+    let others = c.rewrite_and_sync.ensures.others told in
+    let named = c.requires.named told in
+    let written = c.in_ok-rewrite_and_sync.ensures.done told in
+    let select : disk b Select ≡ disk a Select = others Select (select_apart which (disk a Select).bytes named) in
+    let other : disk b (other_half which) ≡ disk a (other_half which) = others (other_half which) (other_apart which (disk a Select).bytes named) in
+    let settled : (f : FileId) → IsSettled (disk b f) = each (λ f. IsSettled (disk b f)) which written.0 (λ f ne. subst IsSettled (sym (others f ne)) (c.requires.settled told f)) in
+    let first = other_written disk g.W.Output.emitted g.W.Outside.moment g.W.Outside.left_since db a b which (c.requires.settled told) named former (c.rewrite_and_sync.ensures.any_moment told) in
+    other_selected disk g.W.Output.emitted g.W.Outside.moment g.W.Outside.left_since db a b c.select_half.new.outside which _ first c.rewrite_and_sync.ensures.emitted settled
+    (named.0, ap (λ (d : Disk). d.bytes) select ∙ named.1, named.2)
+    (subst (λ (d : Disk). IsHalf format_one d.bytes db.catalogue db.state) (sym other) former)
+    (subst (λ (l : List ℕ). IsHalf format_one l db.catalogue db.state) (sym written.1) half)
+    (c.select_half.ensures.any_moment told)

@@ -1,0 +1,205 @@
+//! What a stop at each call on a file leaves, and what refusals tell.
+ghost use Rattle.std.specs.Prelude.{IfOk, IfSome};
+ghost use Rattle.hera_store.specs.Standing.{IsCommitOf};
+
+use super::*;
+use delta_atoms::Delta;
+use hera_causes::Failed;
+use hera_meaning::{Attr, Kind, RelId, Schema, Sign, Text};
+use hera_row::{Catalogue, check_row, has_names, is_name};
+use hera_rows::Sorted;
+use hera_volume::{FileId, MemOutside, Outside, rewrite_and_sync};
+use std::alloc::{AllocError, Global};
+use std::process::Abort;
+use std::test::Fail;
+use when_overlay::{Layers, View};
+
+/// The most bytes of a half.
+const LIMIT: u64 = 268_435_456;
+
+/// The row of the tuple (1).
+const ROW: [u8; 8] = [128, 0, 0, 0, 0, 0, 0, 1];
+
+/// The catalogue of the relation R(a int).
+fn catalogue(rt: &impl Abort, alloc: Global) -> Result<Catalogue, Fail> {
+    let attrs = vec![in alloc;
+        Attr {
+            name: Text::new(alloc, b"a")?,
+            kind: Kind::Int,
+        },
+    ]?;
+    let schema = Schema::new(attrs)?;
+    let name = Text::new(alloc, b"R")?;
+    assert!(rt; is_name(name.bytes()) && has_names(&schema));
+    let mut catalogue = Catalogue::new(alloc);
+    catalogue.add(name, schema)?;
+    Ok(catalogue)
+}
+
+/// The delta {+R(1)}, where R is the first relation.
+fn plus(alloc: Global, rels: &Catalogue) -> Result<Option<Delta>, AllocError>
+    ensures { IfOk result (λ delta. IfSome delta (IsCommitOf rels.now)) }
+{
+    if rels.len() == 0 {
+        return Ok(None);
+    }
+    if !check_row(&rels.decl(RelId(0)).schema, &ROW) {
+        return Ok(None);
+    }
+    let delta = Delta::atom(alloc, Sign::Plus, RelId(0), &ROW)?;
+    Ok(Some(delta))
+}
+
+/// Whether the store's database has R(1).
+fn has_row(alloc: Global, store: &Store) -> bool {
+    if store.base().catalogue().len() == 0 {
+        return false;
+    }
+    let layers = Layers::new(alloc);
+    let view = View {
+        base: store.base(),
+        commits: store.commits(),
+        layers: &layers,
+        tip: None,
+    };
+    view.rel(RelId(0)).has(&ROW)
+}
+
+/// How far a run comes: 1 made, 2 opened, 3 with R(1) stored, 4 moved to the other half.
+fn run<W: Outside>(
+    rt: &impl Abort,
+    alloc: Global,
+    outside: &mut W,
+    catalogue: &Catalogue,
+) -> Result<usize, Fail> {
+    if init_store(alloc, outside, catalogue).is_err() {
+        return Ok(0);
+    }
+    let Ok(mut store) = open_store(alloc, outside) else {
+        return Ok(1);
+    };
+    let Some(delta) = plus(alloc, store.base().catalogue())? else {
+        return Ok(1);
+    };
+    match store.commit(outside, delta, LIMIT) {
+        Ok(()) => match store.checkpoint(outside, LIMIT) {
+            Ok(()) => Ok(4),
+            Err(_) => Ok(3),
+        },
+        Err(_) => {
+            let again = store.commit(outside, Delta::empty(alloc), LIMIT);
+            assert!(rt; matches!(again, Err(CommitFault::Closed)));
+            Ok(2)
+        }
+    }
+}
+
+#[test]
+fn a_stop_at_each_call_leaves_before_or_after(rt: HostRuntime) -> Result<(), Fail> {
+    let alloc = rt.alloc();
+    let rels = catalogue(&rt, alloc)?;
+    for stop in 0..28 {
+        for fill in [0, 1, 255] {
+            let mut outside = MemOutside::new(alloc, Vec::new(alloc), Some(stop), Vec::new(alloc));
+            let far = run(&rt, alloc, &mut outside, &rels)?;
+            assert_eq!(rt;
+                far,
+                [10, 17, 21, 26].iter().filter(|calls| **calls <= stop).count(),
+                "stop {stop}"
+            );
+            let mut found = outside.crash(fill);
+            let byte = match stop {
+                0..8 => None,
+                8..10 | 24..26 => Some(fill),
+                10..24 => Some(0),
+                _ => Some(1),
+            };
+            assert_eq!(rt; found.file(FileId::Select).first().copied(), byte, "stop {stop}");
+            match open_store(alloc, &mut found) {
+                Ok(store) => assert_eq!(rt;
+                    has_row(alloc, &store),
+                    stop >= 21 || stop >= 19 && fill == 1,
+                    "stop {stop}"
+                ),
+                Err(fault) => assert!(rt; byte.is_none() && matches!(fault, OpenFault::NoDatabase)),
+            }
+        }
+    }
+    Ok(())
+}
+
+/// Puts these bytes into `select` and into the right half.
+fn put<W: Outside>(outside: &mut W, select: &[u8], half: &[u8]) -> Result<(), Failed> {
+    rewrite_and_sync(outside, FileId::Right, half)?;
+    rewrite_and_sync(outside, FileId::Select, select)
+}
+
+#[test]
+fn damaged_files_tell_their_place(rt: HostRuntime) -> Result<(), Fail> {
+    let alloc = rt.alloc();
+    let rels = catalogue(&rt, alloc)?;
+    let table: [(&[u8], &[u8], FileId, u64); 4] = [
+        (b"\x01\x01", b"", FileId::Select, 1),
+        (b"\x01", b"HERA000", FileId::Right, 0),
+        (
+            b"\x01",
+            b"HERA0001\0\x01\x01R\x01\x01a\x04\0\0\0\0\0",
+            FileId::Right,
+            15,
+        ),
+        (
+            b"\x01",
+            b"HERA0001\0\x01\x01R\x01\x01a\x01\0\0\0\0\x01\0\0\0\x01\x03",
+            FileId::Right,
+            25,
+        ),
+    ];
+    for (select, half, damaged, place) in table {
+        let mut outside = MemOutside::new(alloc, Vec::new(alloc), None, Vec::new(alloc));
+        assert!(rt; put(&mut outside, select, half).is_ok());
+        let made = init_store(alloc, &mut outside, &rels);
+        assert!(rt; matches!(made, Err(InitFault::Exists)));
+        match open_store(alloc, &mut outside) {
+            Err(OpenFault::Damaged { file, at }) => {
+                assert!(rt; file == damaged && at == place);
+            }
+            _ => assert!(rt; false, "place {place}"),
+        }
+        assert_eq!(rt; outside.file(FileId::Right), half);
+    }
+    Ok(())
+}
+
+/// The needs that a commit of {+R(1)} and then a checkpoint tell, each within one byte too few.
+fn needs<W: Outside>(
+    alloc: Global,
+    outside: &mut W,
+    catalogue: &Catalogue,
+) -> Result<[u128; 2], Fail> {
+    let mut needs = [0, 0];
+    init_store(alloc, outside, catalogue)?;
+    let mut store = open_store(alloc, outside)?;
+    if let Some(delta) = plus(alloc, store.base().catalogue())? {
+        if let Err(CommitFault::Full { need, .. }) = store.commit(outside, delta, 36) {
+            needs[0] = need;
+        }
+    }
+    if let Some(delta) = plus(alloc, store.base().catalogue())? {
+        store.commit(outside, delta, 37)?;
+    }
+    if let Err(CheckFault::Full { need, .. }) = store.checkpoint(outside, 8212) {
+        needs[1] = need;
+    }
+    Ok(needs)
+}
+
+#[test]
+fn what_is_too_long_is_not_written(rt: HostRuntime) -> Result<(), Fail> {
+    let alloc = rt.alloc();
+    let rels = catalogue(&rt, alloc)?;
+    let mut outside = MemOutside::new(alloc, Vec::new(alloc), None, Vec::new(alloc));
+    assert_eq!(rt; needs(alloc, &mut outside, &rels)?, [37, 8213]);
+    assert_eq!(rt; outside.calls(), 21);
+    assert_eq!(rt; outside.file(FileId::Left).len(), 37);
+    Ok(())
+}
