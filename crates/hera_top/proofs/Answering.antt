@@ -1,16 +1,18 @@
 -- What a command with a folder answers, of what was said on the way.
-use Rattle.std.proofs.Common.{◌≡◌, ◌∙◌, ℕ, ⊎_elim, ◌⊎◌, List, refl, sym, ap, subst}
+use Rattle.std.proofs.Common.{◌≡◌, ◌∙◌, ℕ, ⊎_elim, inl, inr, ◌⊎◌, List, refl, sym, ap, subst, Some}
 use Rattle.hera_meaning.specs.declared.schemas.RelDecl.{RelDecl}
 use Rattle.hera_meaning.specs.Trees.{Program_tree}
 use Rattle.hera_host.specs.Tables.{Host}
+use Rattle.hera_top.specs.declared.words.Command.TheVariants.{Folder}
 use Rattle.hera_top.specs.declared.words.FolderCommand.{FolderCommand}
 use Rattle.hera_top.specs.declared.words.FolderCommand.TheVariants.{Init, Dump, Checkpoint}
+use Rattle.hera_top.specs.declared.refusal.Refusal.TheVariants.{Exists}
 use Rattle.hera_top.specs.declared.status.ExitStatus.{ExitStatus}
 use Rattle.hera_top.specs.declared.status.ExitStatus.TheVariants.{Done, OutputFailed}
 use Rattle.hera_top.specs.Outcome.{IsRead}
-use Rattle.hera_top.specs.Folder.{Gives, refuses, reads_none, makes, is_taken, dump_comes, checkpoint_comes, AnswersIn, tells, fails}
+use Rattle.hera_top.specs.Folder.{made, turned_away, ReadsScript, Gives, refuses, reads_none, does, makes, is_taken, dump_comes, checkpoint_comes, AnswersIn, tells, fails}
 use Rattle.hera_top.specs.Passages.{Passage}
-use Rattle.hera_top.specs.Said.{AnswersThere, SaysMade, SaysCreated}
+use Rattle.hera_top.specs.Said.{AnswersThere, SaysMade, SaysDone, SaysIn}
 use Rattle.hera_top.specs.Sources.{Seen}
 use Rattle.hera_top.specs.Statuses.{number_of}
 
@@ -22,16 +24,25 @@ never_nine status either is =
 pub same_rels : (a b : List RelDecl) (status : ℕ) (v : Passage) → a ≡ b → SaysMade a status v → SaysMade b status v
 same_rels a b status v is said = subst (λ (r : List RelDecl). SaysMade r status v) is said
 
-made_told : (hosts : List Host) (before now : Seen) (p : Program_tree) (status : ℕ) (v : Passage) → Gives hosts before now p → SaysMade p.relations status v → AnswersIn hosts Init before now status v
-made_told hosts before now p status v gives said =
-    ⊎_elim (λ (vacant, one). tells (makes gives vacant) one) (λ more. ⊎_elim (λ (taken, one). tells (is_taken gives taken) one) (λ given. fails gives.still given) more) said
+pub made_told : (hosts : List Host) (p : Program_tree) (status : ℕ) (v : Passage) → SaysMade p.relations status v → SaysDone hosts p Init status v
+made_told hosts p status v said =
+    ⊎_elim (λ (vacant, one). inl (made p.relations, makes vacant, one)) (λ more. ⊎_elim (λ (taken, one). inl (turned_away Exists, is_taken taken, one)) (λ given. inr given) more) said
+
+done_told : (hosts : List Host) (command : FolderCommand) (before now : Seen) (p : Program_tree) (status : ℕ) (v : Passage) → Gives hosts before now p → SaysDone hosts p command status v → AnswersIn hosts command before now status v
+done_told hosts command before now p status v gives said = ⊎_elim (λ (outcome, comes, one). tells (does gives comes) one) (λ given. fails gives.still given) said
+
+pub same_done : (hosts : List Host) (p : Program_tree) (done command : FolderCommand) (status : ℕ) (v : Passage) → done ≡ command → SaysDone hosts p done status v → SaysDone hosts p command status v
+same_done hosts p done command status v is said = subst (λ (c : FolderCommand). SaysDone hosts p c status v) is said
+
+pub numbered_done : (hosts : List Host) (p : Program_tree) (command : FolderCommand) (number status : ℕ) (v : Passage) → number ≡ status → SaysDone hosts p command status v → SaysDone hosts p command number v
+numbered_done hosts p command number status v is said = subst (λ (n : ℕ). SaysDone hosts p command n v) (sym is) said
 
 -- a script that was read whole
-pub created_read : (hosts : List Host) (before now : Seen) (script : List ℕ) (status : ℕ) (v : Passage) → IsRead before.left now.left script → now.faults ≡ before.faults
-    → SaysCreated hosts script status v → AnswersIn hosts Init before now status v
-created_read hosts before now script status v read still said =
-    ⊎_elim (λ (cause, at, refused, one). tells (reads_none (refuses script read still refused)) one)
-    (λ more. ⊎_elim (λ (p, short, accepted, made). made_told hosts before now p status v (record { script = script; read = read; still = still; short = short; accepted = accepted }) made) (λ given. fails still given) more) said
+pub script_told : (hosts : List Host) (command : FolderCommand) (before now : Seen) (script : List ℕ) (status : ℕ) (v : Passage) → ReadsScript command → IsRead before.left now.left script → now.faults ≡ before.faults
+    → SaysIn hosts command script status v → AnswersIn hosts command before now status v
+script_told hosts command before now script status v reads read still said =
+    ⊎_elim (λ (cause, at, refused, one). tells (reads_none reads (refuses script read still refused)) one)
+    (λ more. ⊎_elim (λ (p, short, accepted, done). done_told hosts command before now p status v (record { script = script; read = read; still = still; short = short; accepted = accepted }) done) (λ given. fails still given) more) said
 
 -- no script is read
 pub dump_told : (hosts : List Host) (seen : Seen) (status : ℕ) (v : Passage) → AnswersThere Dump status v → AnswersIn hosts Dump seen seen status v
@@ -47,3 +58,6 @@ same_folder_answers hosts read command b c n m status number v is before now sam
     (subst (λ (x : Seen). AnswersIn hosts read x m number v) before
     (subst (λ (x : Seen). AnswersIn hosts read b x number v) now
     (subst (λ (x : ℕ). AnswersIn hosts read b n x v) (sym same) answers)))
+
+pub one_folder : (read command : FolderCommand) → Some (Folder read) ≡ Some (Folder command) → read ≡ command
+one_folder read command is = cc (is)

@@ -10,3 +10,4 @@ mod Opening
 mod Renewing
 mod Making
 mod Answering
+mod Ran

@@ -17,27 +17,32 @@ use Rattle.hera_store.specs.Moments.{IsStill, IsNoneOr}
 use Rattle.rel_format.specs.Journal.{half_limit}
 use Rattle.hera_host.specs.Tables.{Host}
 use Rattle.hera_rules.specs.Accepted.{Accepted}
+use Rattle.hera_run.specs.Outcome as run
+use Rattle.hera_run.specs.Outcome.{RunOutcome, text_of_outcome, status_of_outcome, EndsAt, RunsTo}
+use Rattle.hera_run.specs.declared.status.RunStatus.{RunStatus}
+use Rattle.hera_run.specs.declared.status.RunStatus.TheVariants.{Done, Trapped, Spent, Refused, Device, Output, Memory, Full}
 use Rattle.hera_script.specs.declared.cause.Cause.{Cause}
 use Rattle.hera_script.specs.Refusing.{IsRefused}
 use Rattle.hera_syntax.specs.Tokens.{script_limit}
 use Rattle.hera_top.specs.declared.refusal.Refusal.{Refusal}
 use Rattle.hera_top.specs.declared.refusal.Refusal.TheVariants.{Unread, Script, Exists, NoDatabase, Damaged}
 use Rattle.hera_top.specs.declared.words.FolderCommand.{FolderCommand}
-use Rattle.hera_top.specs.declared.words.FolderCommand.TheVariants.{Init, Dump, Checkpoint}
+use Rattle.hera_top.specs.declared.words.FolderCommand.TheVariants.{Init, Run, Dump, Checkpoint}
 use Rattle.hera_top.specs.Outcome.{line_of, status_of_refusal, IsRead}
-use Rattle.hera_top.specs.Passages.{Passage}
+use Rattle.hera_top.specs.Passages.{Passage, run_passage}
 use Rattle.hera_top.specs.Sources.{Seen}
 
 -- ---- outcomes
 
 -- a refusal, by the script or by the folder; the database of these relations, made without rows; this database, printed;
--- printed anew into the other half; or too long for that
+-- printed anew into the other half; or too long for that; or what a run on a database comes to
 pub data FolderOutcome : Type 0 where
   turned_away : Refusal → FolderOutcome
   made : List RelDecl → FolderOutcome
   dumped : Database → FolderOutcome
   renewed : Database → FolderOutcome
   too_long : Database → FolderOutcome
+  ran : RunOutcome → FolderOutcome
 
 -- for each relation its declaration and its rows
 abbrev pub tables_text : List RelDecl → State → List ℕ
@@ -52,6 +57,18 @@ text_in_folder (made rels) = codes "created\n"
 text_in_folder (dumped db) = tables_text db.catalogue db.state
 text_in_folder (renewed db) = codes "checkpointed\n"
 text_in_folder (too_long db) = []
+text_in_folder (ran outcome) = text_of_outcome outcome
+
+-- how a run over a folder ends, as a number
+abbrev pub number_of_run : RunStatus → ℕ
+number_of_run Done = 0
+number_of_run Trapped = 1
+number_of_run Spent = 4
+number_of_run Refused = 5
+number_of_run Device = 6
+number_of_run Output = 8
+number_of_run Memory = 9
+number_of_run Full = 10
 
 abbrev pub status_in_folder : FolderOutcome → ℕ
 status_in_folder (turned_away refusal) = status_of_refusal refusal
@@ -59,6 +76,7 @@ status_in_folder (made rels) = 0
 status_in_folder (dumped db) = 0
 status_in_folder (renewed db) = 0
 status_in_folder (too_long db) = 10
+status_in_folder (ran outcome) = number_of_run (status_of_outcome outcome)
 
 -- ---- the files
 
@@ -85,6 +103,7 @@ FilesAfter (made rels) v = Stores (empty_database rels) v
 FilesAfter (dumped db) v = ReadsAsBefore v
 FilesAfter (renewed db) v = Stores db v × IsRenewed db (λ f. (v.disks_before f).bytes) (λ f. (v.disks_now f).bytes)
 FilesAfter (too_long db) v = ReadsAsBefore v
+FilesAfter (ran outcome) v = run.FilesAfter outcome (run_passage v)
 
 -- where the output failed, all is done but the printing; where there was no memory, nothing
 abbrev pub FilesMidway : FolderOutcome → ℕ → Passage → Type 0
@@ -93,6 +112,7 @@ FilesMidway (made rels) status v = (status ≡ 8 → FilesAfter (made rels) v) �
 FilesMidway (dumped db) status v = ReadsAsBefore v
 FilesMidway (renewed db) status v = (status ≡ 8 → FilesAfter (renewed db) v) × (status ≡ 9 → ReadsAsBefore v)
 FilesMidway (too_long db) status v = ReadsAsBefore v
+FilesMidway (ran outcome) status v = run.KeepsFiles outcome (run_passage v)
 
 -- ---- what a stop leaves
 
@@ -112,6 +132,7 @@ MomentsOf (made rels) v = v.once_settled (IsMaking (empty_database rels) v.emitt
 MomentsOf (dumped db) v = v.leaves_only (IsImageAmid v.disks_before v.emitted_before (tables_text db.catalogue db.state))
 MomentsOf (renewed db) v = v.once_opened (IsRenewing db (λ f. (v.disks_before f).bytes) v.emitted_before)
 MomentsOf (too_long db) v = v.once_opened (IsStill db v.emitted_before)
+MomentsOf (ran outcome) v = run.Leaves outcome (run_passage v)
 
 -- ---- what was said
 
@@ -153,6 +174,10 @@ pub record IsGivenUp (status : ℕ) (v : Passage) : Type 0 where
 abbrev pub IsThere : Passage → Found → Type 0
 IsThere v found = v.told → IsFound (λ f. (v.disks_before f).bytes) found
 
+-- the half that was selected had this database, and its journal ended at this gate
+abbrev pub IsEnding : Passage → Database → ℕ → Type 0
+IsEnding v db gate = v.told → EndsAt (λ f. (v.disks_before f).bytes) db gate
+
 -- `select` was empty, or was not
 abbrev pub IsVacant : Passage → Type 0
 IsVacant v = v.told → (v.disks_before Select).bytes ≡ []
@@ -173,6 +198,19 @@ pub data IsTurnedAway (hosts : List Host) (before now : Seen) : Refusal → Type
   unread : (script : List ℕ) → Consumes before.left now.left script → length script ≤ script_limit → Rose before.faults now.faults → IsTurnedAway hosts before now Unread
   refuses : {cause : Cause} {at : ℕ} (script : List ℕ) → IsRead before.left now.left script → now.faults ≡ before.faults → IsRefused hosts script cause at → IsTurnedAway hosts before now (Script cause at)
 
+-- what a command does with an accepted script's program
+pub data DoesIn (hosts : List Host) (p : Program_tree) (v : Passage) : FolderCommand → FolderOutcome → Type 0 where
+  makes : IsVacant v → DoesIn hosts p v Init (made p.relations)
+  is_taken : IsTaken v → DoesIn hosts p v Init (turned_away Exists)
+  runs : {turns : ℕ} {outcome : RunOutcome} → RunsTo hosts turns p (λ found. IsThere v found) (λ db gate. IsEnding v db gate) outcome → DoesIn hosts p v (Run turns) (ran outcome)
+
+-- a command that reads a script
+abbrev pub ReadsScript : FolderCommand → Type 0
+ReadsScript Init = Unit {0}
+ReadsScript (Run turns) = Unit {0}
+ReadsScript Dump = ⊥
+ReadsScript Checkpoint = ⊥
+
 -- what a command comes to that reads no script
 pub data ComesToThere (v : Passage) : FolderCommand → FolderOutcome → Type 0 where
   finds_none : {command : FolderCommand} → IsThere v absent → ComesToThere v command (turned_away NoDatabase)
@@ -183,9 +221,8 @@ pub data ComesToThere (v : Passage) : FolderCommand → FolderOutcome → Type 0
 
 -- what a command comes to, the script before the folder
 pub data ComesToIn (hosts : List Host) (before now : Seen) (v : Passage) : FolderCommand → FolderOutcome → Type 0 where
-  reads_none : {refusal : Refusal} → IsTurnedAway hosts before now refusal → ComesToIn hosts before now v Init (turned_away refusal)
-  makes : {p : Program_tree} → Gives hosts before now p → IsVacant v → ComesToIn hosts before now v Init (made p.relations)
-  is_taken : {p : Program_tree} → Gives hosts before now p → IsTaken v → ComesToIn hosts before now v Init (turned_away Exists)
+  reads_none : {command : FolderCommand} {refusal : Refusal} → ReadsScript command → IsTurnedAway hosts before now refusal → ComesToIn hosts before now v command (turned_away refusal)
+  does : {command : FolderCommand} {p : Program_tree} {outcome : FolderOutcome} → Gives hosts before now p → DoesIn hosts p v command outcome → ComesToIn hosts before now v command outcome
   dump_comes : {outcome : FolderOutcome} → ComesToThere v Dump outcome → ComesToIn hosts before now v Dump outcome
   checkpoint_comes : {outcome : FolderOutcome} → ComesToThere v Checkpoint outcome → ComesToIn hosts before now v Checkpoint outcome
 

@@ -1,19 +1,11 @@
 -- What is seen of an outside over a call.
 use Rattle.std.specs.Prelude.{◌≡◌, ℕ, List, Option}
 use Rattle.std.specs.Io.KnownBytes.{Keeps}
-use Rattle.hera_volume.specs.Disk.{Disk, IsSettled}
+use Rattle.hera_volume.specs.Disk.{Disk}
 use Rattle.hera_volume.specs.Time.{Image, IsImageOf, LeavesOnly}
 use Rattle.hera_volume.specs.declared.file_id.FileId.{FileId}
-use Rattle.hera_store.specs.Moments.{IsUntouched, LeavesOnceSettled}
-
--- Up to a moment between, at which all files are settled, a read gives what it gave, a stop leaves what it might have
--- left at the start, and nothing is emitted. At that moment and from there on a stop leaves only what has P.
-pub record LeavesOnceOpened {D : Type 0} (disk : D → FileId → Disk) (emitted : D → Option (List ℕ)) (moment : D → ℕ) (left_since : D → ℕ → Image → Type 0) (old new : D) (P : Image → Type 0) : Type 0 where
-  pub between : D
-  pub before : IsUntouched disk emitted moment left_since old between
-  pub settled : (f : FileId) → IsSettled (disk between f)
-  pub there : (c : Image) → IsImageOf (disk between) (emitted between) c → P c
-  pub behind : LeavesOnly moment left_since between new P
+use Rattle.hera_store.specs.Moments.{LeavesOnceSettled}
+use Rattle.hera_run.specs.Passages.{LeavesOnceOpened, Passage as RunPassage}
 
 -- Whether the files are told, and what they, the emitted bytes and the two counts of faults were when the call began and
 -- are now. `leaves_only` says of a property that a stop at any moment of the call leaves only images that have it, beside
@@ -61,3 +53,15 @@ pub record IsStill (v : Passage) : Type 0 where
   pub emitted : Keeps v.emitted_before v.emitted_now
   pub output : v.output_now ≡ v.output_before
   pub moments : v.told → v.leaves_only (IsImageOf v.disks_before v.emitted_before)
+
+-- the same as a run over a folder sees it
+abbrev pub run_passage : Passage → RunPassage
+run_passage v = record {
+  told = v.told;
+  disks_before = v.disks_before;
+  disks_now = v.disks_now;
+  emitted_before = v.emitted_before;
+  emitted_now = v.emitted_now;
+  leaves_only = v.leaves_only;
+  leaves_once_opened = v.once_opened;
+}

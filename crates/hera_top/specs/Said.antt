@@ -11,7 +11,7 @@ use Rattle.hera_top.specs.declared.refusal.Refusal.TheVariants.{Script, Exists}
 use Rattle.hera_top.specs.declared.words.ScriptCommand.{ScriptCommand}
 use Rattle.hera_top.specs.declared.words.FolderCommand.{FolderCommand}
 use Rattle.hera_top.specs.Outcome.{Outcome, ComesTo, IsSaid}
-use Rattle.hera_top.specs.Folder.{FolderOutcome, turned_away, made, ComesToThere, IsSaidOf, IsGivenUp, IsVacant, IsTaken}
+use Rattle.hera_top.specs.Folder.{FolderOutcome, turned_away, made, ComesToThere, DoesIn, IsSaidOf, IsGivenUp, IsVacant, IsTaken}
 use Rattle.hera_top.specs.Passages.{Passage, IsStill}
 
 -- its outcome; or nothing, where there was no memory for its program
@@ -26,8 +26,12 @@ AnswersThere command status v = ((outcome : FolderOutcome) × ComesToThere v com
 abbrev pub SaysMade : List RelDecl → ℕ → Passage → Type 0
 SaysMade rels status v = (IsVacant v × IsSaidOf (made rels) status v) ⊎ (IsTaken v × IsSaidOf (turned_away Exists) status v) ⊎ IsGivenUp status v
 
+-- what a command does with a program; or nothing
+abbrev pub SaysDone : List Host → Program_tree → FolderCommand → ℕ → Passage → Type 0
+SaysDone hosts p command status v = ((outcome : FolderOutcome) × DoesIn hosts p v command outcome × IsSaidOf outcome status v) ⊎ IsGivenUp status v
+
 -- the same of a script, which comes first
-abbrev pub SaysCreated : List Host → List ℕ → ℕ → Passage → Type 0
-SaysCreated hosts script status v = ((cause : Cause) × (at : ℕ) × IsRefused hosts script cause at × IsSaidOf (turned_away (Script cause at)) status v)
-    ⊎ ((p : Program_tree) × (length script ≤ script_limit) × Accepted script hosts p × SaysMade p.relations status v)
+abbrev pub SaysIn : List Host → FolderCommand → List ℕ → ℕ → Passage → Type 0
+SaysIn hosts command script status v = ((cause : Cause) × (at : ℕ) × IsRefused hosts script cause at × IsSaidOf (turned_away (Script cause at)) status v)
+    ⊎ ((p : Program_tree) × (length script ≤ script_limit) × Accepted script hosts p × SaysDone hosts p command status v)
     ⊎ IsGivenUp status v

@@ -9,7 +9,7 @@ use Rattle.hera_top.specs.declared.words.Command.TheVariants.{Script, Folder}
 use Rattle.hera_top.specs.declared.words.ScriptCommand.{ScriptCommand}
 use Rattle.hera_top.specs.declared.words.ScriptCommand.TheVariants.{Check, List as list_command, Eval}
 use Rattle.hera_top.specs.declared.words.FolderCommand.{FolderCommand}
-use Rattle.hera_top.specs.declared.words.FolderCommand.TheVariants.{Init, Dump, Checkpoint}
+use Rattle.hera_top.specs.declared.words.FolderCommand.TheVariants.{Init, Run, Dump, Checkpoint}
 
 -- the bytes of each word
 abbrev pub words_of : List (String Global) → List (List ℕ)
@@ -37,6 +37,10 @@ opening_command name = if bytes_eq name (codes "dump") then Some Dump else (if b
 abbrev pub making_command : List ℕ → Option FolderCommand
 making_command name = if bytes_eq name (codes "init") then Some Init else None
 
+-- `run DIR TURNS FILE`
+abbrev pub storing_command : List ℕ → List ℕ → Option FolderCommand
+storing_command name turns = if bytes_eq name (codes "run") then option_map Run (turns_of turns) else None
+
 -- a command with a folder where there is one, else one without
 abbrev pub either_command : Option FolderCommand → Option ScriptCommand → Option Command
 either_command (Some command) other = Some (Folder command)
@@ -46,6 +50,7 @@ either_command None other = option_map Script other
 abbrev pub command_of : List (List ℕ) → Option Command
 command_of (name ∷ word ∷ []) = either_command (opening_command name) (reading_command name)
 command_of (name ∷ word ∷ file ∷ []) = either_command (making_command name) (running_command name word)
+command_of (name ∷ word ∷ turns ∷ file ∷ []) = option_map Folder (storing_command name turns)
 command_of _ = None
 
 -- the places of the FILE words, from the first to behind the last
@@ -55,6 +60,7 @@ files_in (Some (Script (Eval turns))) = (2, 3)
 files_in (Some (Script Check)) = (1, 2)
 files_in (Some (Script list_command)) = (1, 2)
 files_in (Some (Folder Init)) = (2, 3)
+files_in (Some (Folder (Run turns))) = (3, 4)
 files_in (Some (Folder Dump)) = (0, 0)
 files_in (Some (Folder Checkpoint)) = (0, 0)
 

@@ -1,16 +1,18 @@
 //! The commands on the database in a folder.
-ghost use Rattle.std.specs.Prelude.{◌≡◌, ◌≢◌, ◌≤◌, ℕ, false, IfOk, IfErr, OnOk, OnErr, length};
+ghost use Rattle.std.specs.Prelude.{◌≡◌, ◌≢◌, ◌≤◌, ℕ, false, [], IfOk, IfErr, OnOk, OnErr, length};
 ghost use Rattle.hera_causes.specs.Causes.{Rose};
 ghost use Rattle.hera_meaning.specs.Catalogues.{IsCatalogue};
 ghost use Rattle.hera_meaning.specs.Deltas.{IsState};
+ghost use Rattle.hera_meaning.specs.Plain.{program_of};
+ghost use Rattle.hera_meaning.specs.Sound.{Sound};
+ghost use Rattle.hera_host.specs.Tables.{specs_of};
 ghost use Rattle.hera_store.specs.Databases.{Holds};
 ghost use Rattle.hera_store.specs.Standing.{StandsFor, database_of};
 ghost use Rattle.hera_store.specs.Moments.{IsUntouched};
 ghost use Rattle.hera_syntax.specs.Tokens.{script_limit};
-ghost use Rattle.hera_top.specs.declared.words.FolderCommand.{FolderCommand};
-ghost use Rattle.hera_top.specs.Folder.{AnswersIn};
+ghost use Rattle.hera_top.specs.Folder.{AnswersIn, ReadsScript};
 ghost use Rattle.hera_top.specs.Passages.{passage};
-ghost use Rattle.hera_top.specs.Said.{AnswersThere, SaysMade, SaysCreated};
+ghost use Rattle.hera_top.specs.Said.{AnswersThere, SaysMade, SaysDone, SaysIn};
 ghost use Rattle.hera_top.specs.Statuses.{number_of};
 
 use crate::catalogue::catalogue_of;
@@ -19,9 +21,11 @@ use crate::refusal::Refusal;
 use crate::say::{refuse, say_all};
 use crate::status::ExitStatus;
 use crate::top::SCRIPT_LIMIT;
+use crate::words::FolderCommand;
 use hera_causes::{ReadFail, Source, read_all};
 use hera_host::HostTable;
-use hera_meaning::RelDecl;
+use hera_meaning::{Program, RelDecl};
+use hera_run::run_in_folder;
 use hera_script::{Cause, ScriptFault, read_program};
 use hera_store::{CheckFault, InitFault, OpenFault, Store, init_store, open_store};
 use hera_volume::Outside;
@@ -135,15 +139,70 @@ fn make_database<W: Outside>(
     }
 }
 
-/// Makes the database of a script's relations in the folder, and gives the status.
-fn create_from<W: Outside>(
+/// Runs a program on the database in the folder with at most so many turns, and gives the status.
+fn run_program<W: Outside>(
     alloc: Global,
+    program: Program,
+    turns: u64,
+    outside: &mut W,
+    hosts: &HostTable,
+) -> ExitStatus
+    requires sound { Sound (program_of program) (specs_of hosts.now) }
+    requires no_hosts { hosts.now ≡ [] }
+    ensures says { SaysDone hosts.now (program_of program) (FolderCommand.Run turns) (number_of result) (passage W.told W.disk W.emitted W.output_faults W.device_faults W.moment W.left_since outside.old outside.new) }
+    ensures later { W.output_faults outside.old ≤ W.output_faults outside.new }
+    ensures device_later { W.device_faults outside.old ≤ W.device_faults outside.new }
+    ensures output { result ≡ ExitStatus.OutputFailed → Rose (W.output_faults outside.old) (W.output_faults outside.new) }
+    ensures device { result ≡ ExitStatus.DeviceFailed → Rose (W.device_faults outside.old) (W.device_faults outside.new) }
+    ensures read { result ≢ ExitStatus.Unread }
+    ensures formed { result ≢ ExitStatus.Usage }
+{
+    let status = run_in_folder(alloc, program, turns, outside, hosts);
+    ExitStatus::of_run(status)
+}
+
+/// Carries out a command on an accepted script's program and a folder, and gives the status.
+fn perform_in_folder<W: Outside>(
+    alloc: Global,
+    command: FolderCommand,
+    program: Program,
+    outside: &mut W,
+    hosts: &HostTable,
+) -> ExitStatus
+    requires reads { ReadsScript command }
+    requires sound { Sound (program_of program) (specs_of hosts.now) }
+    requires no_hosts { (turns : ℕ) → command ≡ FolderCommand.Run turns → hosts.now ≡ [] }
+    ensures says { SaysDone hosts.now (program_of program) command (number_of result) (passage W.told W.disk W.emitted W.output_faults W.device_faults W.moment W.left_since outside.old outside.new) }
+    ensures later { W.output_faults outside.old ≤ W.output_faults outside.new }
+    ensures device_later { W.device_faults outside.old ≤ W.device_faults outside.new }
+    ensures output { result ≡ ExitStatus.OutputFailed → Rose (W.output_faults outside.old) (W.output_faults outside.new) }
+    ensures device { result ≡ ExitStatus.DeviceFailed → Rose (W.device_faults outside.old) (W.device_faults outside.new) }
+    ensures read { result ≢ ExitStatus.Unread }
+    ensures formed { result ≢ ExitStatus.Usage }
+{
+    match command {
+        FolderCommand::Init => {
+            let status = make_database(alloc, &program.relations, outside);
+            drop(program);
+            status
+        }
+        FolderCommand::Run(turns) => run_program(alloc, program, turns, outside, hosts),
+        FolderCommand::Dump | FolderCommand::Checkpoint => unreachable!(),
+    }
+}
+
+/// Carries out a command on a script and a folder, and gives the status.
+fn answer_script_in_folder<W: Outside>(
+    alloc: Global,
+    command: FolderCommand,
     script: &[u8],
     outside: &mut W,
     hosts: &HostTable,
 ) -> ExitStatus
-    requires { length script.now ≤ script_limit }
-    ensures says { SaysCreated hosts.now script.now (number_of result) (passage W.told W.disk W.emitted W.output_faults W.device_faults W.moment W.left_since outside.old outside.new) }
+    requires reads { ReadsScript command }
+    requires short { length script.now ≤ script_limit }
+    requires no_hosts { (turns : ℕ) → command ≡ FolderCommand.Run turns → hosts.now ≡ [] }
+    ensures says { SaysIn hosts.now command script.now (number_of result) (passage W.told W.disk W.emitted W.output_faults W.device_faults W.moment W.left_since outside.old outside.new) }
     ensures later { W.output_faults outside.old ≤ W.output_faults outside.new }
     ensures device_later { W.device_faults outside.old ≤ W.device_faults outside.new }
     ensures output { result ≡ ExitStatus.OutputFailed → Rose (W.output_faults outside.old) (W.output_faults outside.new) }
@@ -152,11 +211,7 @@ fn create_from<W: Outside>(
     ensures formed { result ≢ ExitStatus.Usage }
 {
     match read_program(alloc, script, hosts) {
-        Ok(program) => {
-            let status = make_database(alloc, &program.relations, outside);
-            drop(program);
-            status
-        }
+        Ok(program) => perform_in_folder(alloc, command, program, outside, hosts),
         Err(ScriptFault::Refused { cause, at }) => {
             refuse(alloc, outside, Refusal::Script { cause, at })
         }
@@ -164,14 +219,17 @@ fn create_from<W: Outside>(
     }
 }
 
-/// Reads a script and makes the database of its relations in the folder, and gives the status.
-pub(crate) fn create<S: Source, W: Outside>(
+/// Reads a script and carries out a command on it and a folder, and gives the status.
+pub(crate) fn answer_with_script<S: Source, W: Outside>(
     alloc: Global,
+    command: FolderCommand,
     source: &mut S,
     outside: &mut W,
     hosts: &HostTable,
 ) -> ExitStatus
-    ensures answers { AnswersIn hosts.now FolderCommand.Init (record { left = S.left source.old; faults = S.faults source.old }) (record { left = S.left source.new; faults = S.faults source.new }) (number_of result) (passage W.told W.disk W.emitted W.output_faults W.device_faults W.moment W.left_since outside.old outside.new) }
+    requires reads { ReadsScript command }
+    requires no_hosts { (turns : ℕ) → command ≡ FolderCommand.Run turns → hosts.now ≡ [] }
+    ensures answers { AnswersIn hosts.now command (record { left = S.left source.old; faults = S.faults source.old }) (record { left = S.left source.new; faults = S.faults source.new }) (number_of result) (passage W.told W.disk W.emitted W.output_faults W.device_faults W.moment W.left_since outside.old outside.new) }
     ensures sources { S.faults source.old ≤ S.faults source.new }
     ensures unread { result ≡ ExitStatus.Unread → Rose (S.faults source.old) (S.faults source.new) }
     ensures later { W.output_faults outside.old ≤ W.output_faults outside.new }
@@ -181,7 +239,7 @@ pub(crate) fn create<S: Source, W: Outside>(
     ensures formed { result ≢ ExitStatus.Usage }
 {
     match read_all(alloc, source, SCRIPT_LIMIT) {
-        Ok(script) => create_from(alloc, &script, outside, hosts),
+        Ok(script) => answer_script_in_folder(alloc, command, &script, outside, hosts),
         Err(ReadFail::Fault) => refuse(alloc, outside, Refusal::Unread),
         Err(ReadFail::TooLong) => refuse(
             alloc,

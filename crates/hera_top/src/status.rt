@@ -1,5 +1,8 @@
-ghost use Rattle.std.specs.Prelude.{◌≡◌};
+ghost use Rattle.std.specs.Prelude.{◌≡◌, ◌≢◌};
+ghost use Rattle.hera_top.specs.Folder.{number_of_run};
 ghost use Rattle.hera_top.specs.Statuses.{number_of};
+
+use hera_run::RunStatus;
 
 /// How a call ends.
 #[derive(Clone, Copy, PartialEq, Eq, Debug)]
@@ -29,6 +32,26 @@ pub enum ExitStatus {
 }
 
 impl ExitStatus {
+    /// How a call ends whose run over a folder ends so.
+    pub(crate) fn of_run(status: RunStatus) -> ExitStatus
+        ensures number { number_of result ≡ number_of_run status }
+        ensures device { result ≡ ExitStatus.DeviceFailed → status ≡ RunStatus.Device }
+        ensures output { result ≡ ExitStatus.OutputFailed → status ≡ RunStatus.Output }
+        ensures read { result ≢ ExitStatus.Unread }
+        ensures formed { result ≢ ExitStatus.Usage }
+    {
+        match status {
+            RunStatus::Done => ExitStatus::Done,
+            RunStatus::Trapped => ExitStatus::Trapped,
+            RunStatus::Spent => ExitStatus::Spent,
+            RunStatus::Refused => ExitStatus::FolderRefused,
+            RunStatus::Device => ExitStatus::DeviceFailed,
+            RunStatus::Output => ExitStatus::OutputFailed,
+            RunStatus::Memory => ExitStatus::NoMemory,
+            RunStatus::Full => ExitStatus::Full,
+        }
+    }
+
     /// The exit status as the program gives it: 0 to 10.
     pub(crate) fn number(self) -> u8
         ensures { result ≡ number_of self }

@@ -11,7 +11,7 @@ use crate::commands::answer_script;
 use crate::refusal::Refusal;
 use crate::say::refuse;
 use crate::status::ExitStatus;
-use crate::in_folder::{checkpoint, create, dump};
+use crate::in_folder::{answer_with_script, checkpoint, dump};
 use crate::words::{Command, FolderCommand, ScriptCommand, read_words};
 use hera_causes::{ReadFail, Source, read_all};
 use hera_host::HostTable;
@@ -63,7 +63,8 @@ fn answer_in_folder<S: Source, W: Outside>(
     outside: &mut W,
     hosts: &HostTable,
 ) -> ExitStatus
-    requires { length sources.old.items + (files_in (Some (Command.Folder command))).0 ≡ (files_in (Some (Command.Folder command))).1 }
+    requires no_hosts { (turns : ℕ) → command ≡ FolderCommand.Run turns → hosts.now ≡ [] }
+    requires sources { length sources.old.items + (files_in (Some (Command.Folder command))).0 ≡ (files_in (Some (Command.Folder command))).1 }
     ensures answers { AnswersIn hosts.now command (first_seen S.left S.faults sources.old.items) (first_seen S.left S.faults sources.new.items) (number_of result) (passage W.told W.disk W.emitted W.output_faults W.device_faults W.moment W.left_since outside.old outside.new) }
     ensures sources { (first_seen S.left S.faults sources.old.items).faults ≤ (first_seen S.left S.faults sources.new.items).faults }
     ensures unread { result ≡ ExitStatus.Unread → Rose (first_seen S.left S.faults sources.old.items).faults (first_seen S.left S.faults sources.new.items).faults }
@@ -74,7 +75,12 @@ fn answer_in_folder<S: Source, W: Outside>(
     ensures formed { result ≢ ExitStatus.Usage }
 {
     match command {
-        FolderCommand::Init => create(alloc, &mut sources[0], outside, hosts),
+        FolderCommand::Init => {
+            answer_with_script(alloc, command, &mut sources[0], outside, hosts)
+        }
+        FolderCommand::Run(_) => {
+            answer_with_script(alloc, command, &mut sources[0], outside, hosts)
+        }
         FolderCommand::Dump => dump(alloc, outside),
         FolderCommand::Checkpoint => checkpoint(alloc, outside),
     }
@@ -86,15 +92,16 @@ fn answer_in_folder<S: Source, W: Outside>(
 /// - `list FILE` prints the listing of its code.
 /// - `eval TURNS FILE` runs it on an empty database with at most TURNS turns.
 /// - `init DIR FILE` makes the database of its relations, without rows, in the folder, and prints `created`.
+/// - `run DIR TURNS FILE` runs it on the database in the folder with at most TURNS turns, and stores what it commits.
 /// - `dump DIR` prints every relation of the database in the folder.
 /// - `checkpoint DIR` writes the other half of the folder anew, selects it, and prints `checkpointed`.
 ///
-/// A script may call the hosts of the table. For `eval` the table has to be empty, since the machine asks no host yet.
+/// A script may call the hosts of the table. For `eval` and `run` the table has to be empty, since the machine asks no host yet.
 ///
 /// The statuses: 0 the command or the run is done, 1 the run ended in a trap, 2 the words are no listed form, 3 the
-/// script is refused, 4 the turns were spent, 5 there is a database and there should be none, or none, or it is damaged,
+/// script is refused, 4 the turns were spent, 5 there is a database and there should be none, or none, or it is damaged or lacks a relation,
 /// 6 a call on a file of the folder failed, 7 the script's source failed, 8 the output failed, 9 there was no memory, 10
-/// the half of a checkpoint would be longer than 268,435,456 bytes. With 6, 8 and 9 a prefix of what would have been
+/// the half of a commit or a checkpoint would be longer than 268,435,456 bytes. With 6, 8 and 9 a prefix of what would have been
 /// emitted was emitted, else all of it.
 pub fn hera<S: Source, W: Outside>(
     alloc: Global,
@@ -106,6 +113,8 @@ pub fn hera<S: Source, W: Outside>(
     requires sources { length sources.old.items + (files_in (command_of (words_of words.now.items))).0 ≡ (files_in (command_of (words_of words.now.items))).1 }
     requires no_hosts { (turns : ℕ) → command_of (words_of words.now.items) ≡ Some (Command.Script (ScriptCommand.Eval turns)) → hosts.now ≡ [] }
 
+    requires no_hosts_in { (turns : ℕ) → command_of (words_of words.now.items) ≡ Some (Command.Folder (FolderCommand.Run turns)) → hosts.now ≡ [] }
+
     // Words that are no listed form.
     ensures usage { command_of (words_of words.now.items) ≡ None → IsSaid (refused Refusal.Usage) result (passage W.told W.disk W.emitted W.output_faults W.device_faults W.moment W.left_since outside.old outside.new) }
     ensures usage_unread { command_of (words_of words.now.items) ≡ None → sources.new ≡ sources.old }
@@ -115,7 +124,7 @@ pub fn hera<S: Source, W: Outside>(
     ensures command { (command : ScriptCommand) → command_of (words_of words.now.items) ≡ Some (Command.Script command)
         → Answers hosts.now command (first_seen S.left S.faults sources.old.items) (first_seen S.left S.faults sources.new.items) result (passage W.told W.disk W.emitted W.output_faults W.device_faults W.moment W.left_since outside.old outside.new) }
 
-    // `init`, `dump` and `checkpoint`.
+    // `init`, `run`, `dump` and `checkpoint`.
     ensures folder { (command : FolderCommand) → command_of (words_of words.now.items) ≡ Some (Command.Folder command)
         → AnswersIn hosts.now command (first_seen S.left S.faults sources.old.items) (first_seen S.left S.faults sources.new.items) result (passage W.told W.disk W.emitted W.output_faults W.device_faults W.moment W.left_since outside.old outside.new) }
 

@@ -1,7 +1,8 @@
 ghost use Rattle.std.specs.Prelude.{◌≡◌, ◌≤◌, ◌<◌, length, IfSome};
 ghost use Rattle.std.specs.List.{list_all};
+ghost use Rattle.std.specs.Option.{option_map};
 ghost use Rattle.std.specs.Char.{is_ascii_digit};
-ghost use Rattle.hera_top.specs.Words.{words_of, turns_of, reading_command, running_command, opening_command, making_command, either_command, command_of, files_in, folder_in};
+ghost use Rattle.hera_top.specs.Words.{words_of, turns_of, reading_command, running_command, opening_command, making_command, storing_command, either_command, command_of, files_in, folder_in};
 
 /// What the words of the command line ask for.
 #[derive(Clone, Copy)]
@@ -28,6 +29,8 @@ pub enum ScriptCommand {
 pub enum FolderCommand {
     /// Makes the database of a script's relations, without rows.
     Init,
+    /// Runs a script on the database with at most so many turns.
+    Run(u64),
     /// Prints every relation.
     Dump,
     /// Writes the other half anew and selects it.
@@ -81,11 +84,22 @@ fn long_command(name: &str, word: &str) -> Option<Command>
     }
 }
 
+/// The command of a name and three words behind it, the second of which is a number of turns.
+fn longest_command(name: &str, word: &str) -> Option<Command>
+    ensures { result ≡ option_map Command.Folder (storing_command name.now word.now) }
+{
+    match name {
+        "run" => Some(Command::Folder(FolderCommand::Run(turns(word)?))),
+        _ => None,
+    }
+}
+
 /// The command of the words, where they are a listed form.
 pub(crate) fn read_words(words: &Vec<String>) -> Option<Command>
     ensures { result ≡ command_of (words_of words.now.items) }
 {
     match words.as_slice() {
+        [name, _, word, _] => longest_command(name.as_str(), word.as_str()),
         [name, word, _] => long_command(name.as_str(), word.as_str()),
         [name, _] => short_command(name.as_str()),
         _ => None,
@@ -103,6 +117,7 @@ pub fn files_of(words: &Vec<String>) -> (usize, usize)
         Some(Command::Script(ScriptCommand::Eval(_)) | Command::Folder(FolderCommand::Init)) => {
             (2, 3)
         }
+        Some(Command::Folder(FolderCommand::Run(_))) => (3, 4),
         Some(Command::Script(ScriptCommand::Check | ScriptCommand::List)) => (1, 2),
         Some(Command::Folder(FolderCommand::Dump | FolderCommand::Checkpoint)) | None => (0, 0),
     }

@@ -1,16 +1,14 @@
-use Rattle.std.proofs.Common.{◌∙◌, ap, sym, subst, Err, inl, inr}
-use Rattle.hera_meaning.specs.Catalogues.{IsCatalogue}
+use Rattle.std.proofs.Common.{◌∙◌, ap, Err, inl, inr}
 use Rattle.hera_meaning.specs.Plain.{program_of}
 use Rattle.hera_top.specs.declared.refusal.Refusal.TheVariants.{Script}
-use Rattle.hera_top.proofs.Answering.{same_rels}
 use Rattle.hera_top.proofs.Opening.{turned_at_once, given_up_at_once}
-use Rattle.hera_top.proofs.in_folder.create_from.Goals as goal
+use Rattle.hera_top.proofs.in_folder.answer_script_in_folder.Goals as goal
 
-pub make_database-status-requires : goal.make_database-status-requires
-make_database-status-requires g c = subst IsCatalogue (sym c.deref.ensures.value) c.in-Ok.ensures.sound.shaped.relations
+pub perform_in_folder-requires-clause-no_hosts : goal.perform_in_folder-requires-clause-no_hosts
+perform_in_folder-requires-clause-no_hosts g c = c.requires.no_hosts
 
 pub returns-in-Ok-clause-says : goal.returns-in-Ok-clause-says
-returns-in-Ok-clause-says g c = inr (inl (program_of c.in-Ok.program, c.requires, c.in-Ok.ensures.accepted, same_rels _ _ _ _ c.deref.ensures.value c.make_database-status.ensures.says))
+returns-in-Ok-clause-says g c = inr (inl (program_of c.in-Ok.program, c.requires.short, c.in-Ok.ensures.accepted, c.perform_in_folder.ensures.says))
 
 pub returns-in-Err-Refused-clause-says : goal.returns-in-Err-Refused-clause-says
 returns-in-Err-Refused-clause-says g c =
