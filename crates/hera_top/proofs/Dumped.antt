@@ -61,6 +61,13 @@ relation_is (e ∷ rels) (xs ∷ s) zero d rows decl has =
     ap (λ (x : RelDecl). decl_text x ++ table_text x.schema xs) same ∙ ap (λ (l : List Row). decl_text d ++ table_text d.schema l) also
 relation_is (e ∷ rels) (xs ∷ s) (suc r) d rows decl has = relation_is rels s r d rows decl has
 
+-- two lines were put
+pub put_is : (rels : List RelDecl) (s : State) (r : ℕ) (d : RelDecl) (rows : List Row) (old mid new : List ℕ) → slice_get rels r ≡ Some d → slice_get s r ≡ Some rows
+    → mid ≡ old ++ decl_text d → new ≡ mid ++ table_text d.schema rows → new ≡ old ++ relation_text rels s r
+put_is rels s r d rows old mid new decl has first second =
+    second ∙ ap (λ (l : List ℕ). l ++ table_text d.schema rows) first ∙ append_assoc old (decl_text d) (table_text d.schema rows)
+    ∙ ap (λ (l : List ℕ). old ++ l) (sym (relation_is rels s r d rows decl has))
+
 all_true : (schema : List Attr) (rows : List Row) → All (IsRow schema) rows → list_all (is_row schema) rows ≡ true
 all_true schema [] all = refl
 all_true schema (x ∷ rows) all = and_from (is_row schema x) (list_all (is_row schema) rows) (is_row-from_IsRow schema x (All-head (IsRow schema) x rows all)) (all_true schema rows (All-tail (IsRow schema) x rows all))

@@ -9,6 +9,7 @@ ghost use Rattle.hera_top.specs.Dumping.{relation_text};
 ghost use Rattle.hera_top.specs.Folder.{tables_text};
 
 use delta_atoms::Value;
+use hera_meaning::writing::put;
 use hera_meaning::{Line, RelId, Schema, Shape};
 use hera_print::{decl_line, value_line};
 use hera_rows::RowSet;
@@ -32,6 +33,7 @@ fn rows_of(alloc: Global, store: &Store, rel: RelId) -> Result<RowSet, AllocErro
 }
 
 /// The lines of these rows as a relation of this schema.
+#[tactic(auto, unfolding(hera_meaning::specs::Printed::text_of))]
 fn table_line(alloc: Global, schema: &Schema, rows: RowSet) -> Result<Line, AllocError>
     requires { list_all (is_row schema.now) rows ≡ true }
     ensures { IfOk result (λ line. line ≡ table_text schema.now rows) }
@@ -57,10 +59,10 @@ fn put_relation(
 {
     let decl = store.base().catalogue().decl(rel);
     let line = decl_line(alloc, decl)?;
-    text.extend_from_slice(line.bytes())?;
     let rows = rows_of(alloc, store, rel)?;
     let table = table_line(alloc, &decl.schema, rows)?;
-    text.extend_from_slice(table.bytes())?;
+    put(text, line.bytes())?;
+    put(text, table.bytes())?;
     Ok(())
 }
 
