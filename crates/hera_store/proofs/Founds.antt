@@ -29,9 +29,6 @@ holds_same files a b h g =
     let state = same.1 in
     λ i. record { catalogue = catalogue i; state = state i }
 
-
-
-
 -- ---- nothing else is found
 
 absent_named : (bytes : List ℕ) (half : FileId) → bytes ≡ [] → Names bytes half → ⊥

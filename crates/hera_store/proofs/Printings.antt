@@ -135,14 +135,17 @@ module _ (rels : List RelDecl) (s : State) (limit : ℕ) (decls : All IsDecl rel
   full_adding i rows w (Full need most) is e room full =
       let from : need_of w ≡ head + 5 + 8192 * page_count 8192 (take i s) = ap need_of is ∙ need_is i in
       let count = count_take s i rows e in
-      let pages = size_of_pages full.0.added in
-      (record {
-        pages = page_count 8192 (take i s) + full.0.added;
-        few = omega (arith, full.0.few, count);
-        sum = omega (arith, full.0.sum, from, pages);
-        past = full.0.past;
-        first = by room full.0.first;
-      }, full.1, omega (arith, half_length, full.0.past, full.0.sum, from, pages, full.0.few, count))
+      let pages = size_of_pages full.0.added in (
+        record {
+          pages = page_count 8192 (take i s) + full.0.added;
+          few = omega (arith, full.0.few, count);
+          sum = omega (arith, full.0.sum, from, pages);
+          past = full.0.past;
+          first = by room full.0.first;
+        },
+        full.1,
+        omega (arith, half_length, full.0.past, full.0.sum, from, pages, full.0.few, count),
+      )
     where
       by : (i ≡ 0) ⊎ (need_of w ≤ limit) → (full.0.added ≡ 0) ⊎ (need ≤ limit + 8192) → (page_count 8192 (take i s) + full.0.added ≡ 0) ⊎ (need ≤ limit + 8192)
       by r (inr near) = inr near
@@ -158,14 +161,17 @@ module _ (rels : List RelDecl) (s : State) (limit : ℕ) (decls : All IsDecl rel
   full_finished i w (Full need most) all is (inl first) full =
       let none : page_count 8192 s ≡ 0 = ap (page_count 8192) (sym (take_all i s all)) ∙ ap (λ (k : ℕ). page_count 8192 (take k s)) first in
       let from : need_of w ≡ head + 5 + 8192 * page_count 8192 (take i s) = ap need_of is ∙ need_is i in
-      let same : page_count 8192 (take i s) ≡ 0 = ap (λ (k : ℕ). page_count 8192 (take k s)) first in
-      (record {
-        pages = 0;
-        few = omega arith;
-        sum = omega (arith, full.0, from, same);
-        past = omega (arith, full.0, full.2);
-        first = inl refl;
-      }, full.1, omega (arith, half_length, none, full.0, full.2, from, same))
+      let same : page_count 8192 (take i s) ≡ 0 = ap (λ (k : ℕ). page_count 8192 (take k s)) first in (
+        record {
+          pages = 0;
+          few = omega arith;
+          sum = omega (arith, full.0, from, same);
+          past = omega (arith, full.0, full.2);
+          first = inl refl;
+        },
+        full.1,
+        omega (arith, half_length, none, full.0, full.2, from, same),
+      )
 
   -- what is finished is within the limit
   pub finished_fits : (i : ℕ) (w : Written) → length s ≤ i → w ≡ written_of format_one rels limit (take i s) → need_of w ≤ limit → length (half_with db) ≤ limit

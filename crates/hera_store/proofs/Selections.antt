@@ -37,7 +37,6 @@ short_list (byte ∷ more ∷ rest) le = absurd (omega (arith, le))
 pub left_as : (disks : FileId → Disk) (c : Image) (f : FileId) (bytes : List ℕ) → IsSettled (disks f) → (disks f).bytes ≡ bytes → IsImage (disks f) (c.files f) → c.files f ≡ bytes
 left_as disks c f bytes settled is image = image-settled (disks f) (c.files f) settled image ∙ is
 
-
 module _ (disks : FileId → Disk) (so_far since : Option (List ℕ)) (db : Database) (since_is : since ≡ so_far) (settled : IsSettled (disks Select)) where
   told_emitted : (c : Image) → Keeps since (Some c.emitted) → Keeps so_far (Some c.emitted)
   told_emitted c kept = subst (λ (e : Option (List ℕ)). Keeps e (Some c.emitted)) since_is kept
@@ -61,10 +60,13 @@ module _ (disks : FileId → Disk) (so_far since : Option (List ℕ)) (db : Data
     where
       left_is : c.files Left ≡ bytes
       left_is = left_as disks c Left bytes settled_left left (image.others Left (λ e. cc))
+
       right_is : c.files Right ≡ bytes
       right_is = left_as disks c Right bytes settled_right right (image.others Right (λ e. cc))
+
       halves : (b : ℕ) → IsHalf format_one (c.files (half_named b)) db.catalogue db.state
       halves b = named_by (λ f. IsHalf format_one (c.files f) db.catalogue db.state) b (subst (λ (l : List ℕ). IsHalf format_one l db.catalogue db.state) (sym left_is) half) (subst (λ (l : List ℕ). IsHalf format_one l db.catalogue db.state) (sym right_is) half)
+
       by : (c.files Select ≡ []) ⊎ ((b : ℕ) × (c.files Select ≡ b ∷ [])) → (c.files Select ≡ []) ⊎ Holds c.files db
       by (inl e) = inl e
       by (inr x) = inr (record { byte = x.0; selects = x.1; half = halves x.0 })
@@ -95,12 +97,16 @@ module _ (disks : FileId → Disk) (so_far since : Option (List ℕ)) (db : Data
     where
       size : length (disks Select).bytes ≡ 1
       size = ap length is
+
       here : c.files Left ≡ left
       here = left_as disks c Left left settled_left left_is (image.others Left (λ e. cc))
+
       there : c.files Right ≡ right
       there = left_as disks c Right right settled_right right_is (image.others Right (λ e. cc))
+
       halves : (b : ℕ) → IsHalf format_one (c.files (half_named b)) db.catalogue db.state
       halves b = named_by (λ f. IsHalf format_one (c.files f) db.catalogue db.state) b (subst (λ (l : List ℕ). IsHalf format_one l db.catalogue db.state) (sym here) half_left) (subst (λ (l : List ℕ). IsHalf format_one l db.catalogue db.state) (sym there) half_right)
+
       by : (c.files Select ≡ []) ⊎ ((b : ℕ) × (c.files Select ≡ b ∷ [])) → Holds c.files db
       by (inl e) = absurd (omega (arith, ap length e, size, image.file.no_shorter, settled.floor))
       by (inr x) = record { byte = x.0; selects = x.1; half = halves x.0 }

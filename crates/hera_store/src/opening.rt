@@ -117,11 +117,7 @@ fn half_named(byte: u8) -> FileId
 }
 
 /// The bytes of a half.
-fn read_file<W: Outside>(
-    alloc: Global,
-    outside: &mut W,
-    half: FileId,
-) -> Result<Vec<u8>, OpenFault>
+fn read_file<W: Outside>(alloc: Global, outside: &mut W, half: FileId) -> Result<Vec<u8>, OpenFault>
     ensures bytes { W.told → IfOk result (λ bytes. bytes.items ≡ (W.disk outside.old half).bytes) }
     ensures present { result ≢ Err OpenFault.NoDatabase }
     ensures damaged { W.told → (file : FileId) (at : ℕ) → result ≡ Err (OpenFault.Damaged file at) → (half_limit < length (W.disk outside.old half).bytes) × (file ≡ half) × (at ≡ half_limit) }

@@ -94,35 +94,70 @@ fn run<W: Outside>(
     }
 }
 
+/// What a stop of a run leaves, where this byte stands wherever it may be any.
+#[derive(Clone, Copy, PartialEq, Eq)]
+struct Left {
+    /// How far the run came.
+    far: usize,
+    /// The byte of `select`, if there is one.
+    select: Option<u8>,
+    /// Whether R(1) is stored, in the database that is found.
+    row: Option<bool>,
+}
+
+/// The calls of a run are 10 of the making, 7 of the opening, 4 of the commit and 5 of the
+/// checkpoint. The one at which all stops takes effect without a sync.
+fn expected(stop: u64, fill: u8) -> Left {
+    Left {
+        far: match stop {
+            0..10 => 0,
+            10..17 => 1,
+            17..21 => 2,
+            21..26 => 3,
+            _ => 4,
+        },
+        select: match stop {
+            0..8 => None,
+            8 | 9 | 24 | 25 => Some(fill),
+            10..24 => Some(0),
+            _ => Some(1),
+        },
+        row: match stop {
+            0..8 => None,
+            8..19 => Some(false),
+            19 | 20 => Some(fill == 1),
+            _ => Some(true),
+        },
+    }
+}
+
+/// The run over an outside that stops at a call, and a crash.
+fn stopped(
+    rt: &impl Abort,
+    alloc: Global,
+    catalogue: &Catalogue,
+    stop: u64,
+    fill: u8,
+) -> Result<Left, Fail> {
+    let mut outside = MemOutside::new(alloc, Vec::new(alloc), Some(stop), Vec::new(alloc));
+    let far = run(rt, alloc, &mut outside, catalogue)?;
+    let mut found = outside.crash(fill);
+    let select = found.file(FileId::Select).first().copied();
+    let row = match open_store(alloc, &mut found) {
+        Ok(store) => Some(has_row(alloc, &store)),
+        Err(_) => None,
+    };
+    Ok(Left { far, select, row })
+}
+
 #[test]
 fn a_stop_at_each_call_leaves_before_or_after(rt: HostRuntime) -> Result<(), Fail> {
     let alloc = rt.alloc();
     let rels = catalogue(&rt, alloc)?;
     for stop in 0..28 {
         for fill in [0, 1, 255] {
-            let mut outside = MemOutside::new(alloc, Vec::new(alloc), Some(stop), Vec::new(alloc));
-            let far = run(&rt, alloc, &mut outside, &rels)?;
-            assert_eq!(rt;
-                far,
-                [10, 17, 21, 26].iter().filter(|calls| **calls <= stop).count(),
-                "stop {stop}"
-            );
-            let mut found = outside.crash(fill);
-            let byte = match stop {
-                0..8 => None,
-                8..10 | 24..26 => Some(fill),
-                10..24 => Some(0),
-                _ => Some(1),
-            };
-            assert_eq!(rt; found.file(FileId::Select).first().copied(), byte, "stop {stop}");
-            match open_store(alloc, &mut found) {
-                Ok(store) => assert_eq!(rt;
-                    has_row(alloc, &store),
-                    stop >= 21 || stop >= 19 && fill == 1,
-                    "stop {stop}"
-                ),
-                Err(fault) => assert!(rt; byte.is_none() && matches!(fault, OpenFault::NoDatabase)),
-            }
+            let left = stopped(&rt, alloc, &rels, stop, fill)?;
+            assert!(rt; left == expected(stop, fill), "stop {stop}, fill {fill}");
         }
     }
     Ok(())

@@ -14,7 +14,7 @@ loop-delta-preserved c = λ rels all.
     let i = c.loop-delta.delta-index in
     let item : IsCommitOf rels c.delta-item.result = subst (IsCommitOf rels) (sym c.delta-item.is) (All-get_or (IsCommitOf rels) c.args.deltas.now i c.delta-item.result c.loop-delta-test.true all) in
     let more : take (i + 1) c.args.deltas.now ≡ take i c.args.deltas.now ++ c.delta-item.result ∷ [] =
-        take_more c.args.deltas.now i c.delta-item.result c.loop-delta-test.true ∙ ap (λ (d : Delta). take i c.args.deltas.now ++ d ∷ []) (sym c.delta-item.is) in
+    take_more c.args.deltas.now i c.delta-item.result c.loop-delta-test.true ∙ ap (λ (d : Delta). take i c.args.deltas.now ++ d ∷ []) (sym c.delta-item.is) in
     subst (IsSmashOf rels (take (i + 1) c.args.deltas.now)) (sym c.in_ok-smash_into.ensures.ok) (smash_on rels (take i c.args.deltas.now) (take (i + 1) c.args.deltas.now) c.loop-delta.all c.delta-item.result (c.loop-delta.invariant rels all) item more)
 
 pub returns : goal.returns
