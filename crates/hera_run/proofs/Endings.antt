@@ -1,5 +1,5 @@
 -- The last lines of runs.
-use Rattle.std.proofs.Common.{◌≡◌, ℕ, zero, suc, List, [], ◌++◌, take, codes, Option, sym, ap, ◌∙◌, subst, append-nil}
+use Rattle.std.proofs.Common.{◌≡◌, ℕ, zero, suc, List, [], ◌++◌, take, codes, Option, sym, ap, ◌∙◌, append-nil}
 use Rattle.std.specs.Io.KnownBytes.{Appends}
 use Rattle.hera_meaning.specs.declared.trees.TrapName.{TrapName}
 use Rattle.hera_meaning.specs.Printed.{trap_name, trap_line, end_text, spent_line}

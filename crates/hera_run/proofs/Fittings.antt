@@ -1,6 +1,5 @@
 -- Stores that fit, and those that follow them.
-use Rattle.std.proofs.Common.{◌≡◌, ◌⊎◌, ℕ, Bool, true, false, ◌&&◌, not, cond, inl, inr, List, [], ◌∷◌, ◌++◌, refl, sym, ap, ◌∙◌, append-nil}
-use Rattle.hera_meaning.specs.Deltas.{Delta}
+use Rattle.std.proofs.Common.{◌≡◌, ◌⊎◌, ℕ, Bool, true, false, ◌&&◌, not, cond, inl, inr, List, [], ◌∷◌, ◌++◌, refl, sym, ap, ◌∙◌}
 use Rattle.hera_meaning.specs.Worlds.{Event, out, store}
 use Rattle.hera_codegen.specs.Correct.{IsPrefix}
 use Rattle.hera_run.specs.Fitting.{fits, gate_behind, gate_after, all_fit, fitting, overfills}
@@ -16,30 +15,32 @@ gate_after-append gate (store s d ∷ es) more = gate_after-append (gate_behind 
 pub all_fit-append : (gate : ℕ) (es more : List Event) → all_fit gate es ≡ true → all_fit gate (es ++ more) ≡ all_fit (gate_after gate es) more
 all_fit-append gate [] more fit = refl
 all_fit-append gate (out bytes ∷ es) more fit = all_fit-append gate es more fit
-all_fit-append gate (store s d ∷ es) more fit = by (fits gate d) fit
+all_fit-append gate (store s d ∷ es) more fit = by (fits gate d) (all_fit-append (gate_behind gate d) es more) fit
   where
-    by : (b : Bool) → (b && all_fit (gate_behind gate d) es) ≡ true → (b && all_fit (gate_behind gate d) (es ++ more)) ≡ all_fit (gate_after (gate_behind gate d) es) more
-    by true rest = all_fit-append (gate_behind gate d) es more rest
-    by false none = absurd (no_truth none)
+    by : (b : Bool) → (all_fit (gate_behind gate d) es ≡ true → all_fit (gate_behind gate d) (es ++ more) ≡ all_fit (gate_after (gate_behind gate d) es) more)
+        → (b && all_fit (gate_behind gate d) es) ≡ true → (b && all_fit (gate_behind gate d) (es ++ more)) ≡ all_fit (gate_after (gate_behind gate d) es) more
+    by true go rest = go rest
+    by false go none = absurd (no_truth none)
 
 -- the events up to a store that does not fit begin with all those that fit before it
 pub fitting-append : (gate : ℕ) (es more : List Event) → all_fit gate es ≡ true → fitting gate (es ++ more) ≡ es ++ fitting (gate_after gate es) more
 fitting-append gate [] more fit = refl
 fitting-append gate (out bytes ∷ es) more fit = ap (λ (l : List Event). out bytes ∷ l) (fitting-append gate es more fit)
-fitting-append gate (store s d ∷ es) more fit = by (fits gate d) fit
+fitting-append gate (store s d ∷ es) more fit = by (fits gate d) (fitting-append (gate_behind gate d) es more) fit
   where
-    by : (b : Bool) → (b && all_fit (gate_behind gate d) es) ≡ true → cond b (store s d ∷ fitting (gate_behind gate d) (es ++ more)) [] ≡ store s d ∷ (es ++ fitting (gate_after (gate_behind gate d) es) more)
-    by true rest = ap (λ (l : List Event). store s d ∷ l) (fitting-append (gate_behind gate d) es more rest)
-    by false none = absurd (no_truth none)
+    by : (b : Bool) → (all_fit (gate_behind gate d) es ≡ true → fitting (gate_behind gate d) (es ++ more) ≡ es ++ fitting (gate_after (gate_behind gate d) es) more)
+        → (b && all_fit (gate_behind gate d) es) ≡ true → cond b (store s d ∷ fitting (gate_behind gate d) (es ++ more)) [] ≡ store s d ∷ (es ++ fitting (gate_after (gate_behind gate d) es) more)
+    by true go rest = ap (λ (l : List Event). store s d ∷ l) (go rest)
+    by false go none = absurd (no_truth none)
 
 pub fitting-all : (gate : ℕ) (es : List Event) → all_fit gate es ≡ true → fitting gate es ≡ es
 fitting-all gate [] fit = refl
 fitting-all gate (out bytes ∷ es) fit = ap (λ (l : List Event). out bytes ∷ l) (fitting-all gate es fit)
-fitting-all gate (store s d ∷ es) fit = by (fits gate d) fit
+fitting-all gate (store s d ∷ es) fit = by (fits gate d) (fitting-all (gate_behind gate d) es) fit
   where
-    by : (b : Bool) → (b && all_fit (gate_behind gate d) es) ≡ true → cond b (store s d ∷ fitting (gate_behind gate d) es) [] ≡ store s d ∷ es
-    by true rest = ap (λ (l : List Event). store s d ∷ l) (fitting-all (gate_behind gate d) es rest)
-    by false none = absurd (no_truth none)
+    by : (b : Bool) → (all_fit (gate_behind gate d) es ≡ true → fitting (gate_behind gate d) es ≡ es) → (b && all_fit (gate_behind gate d) es) ≡ true → cond b (store s d ∷ fitting (gate_behind gate d) es) [] ≡ store s d ∷ es
+    by true go rest = ap (λ (l : List Event). store s d ∷ l) (go rest)
+    by false go none = absurd (no_truth none)
 
 -- behind a store that does not fit nothing is carried out
 pub fitting-none : (gate : ℕ) (es more : List Event) → overfills gate es ≡ true → fitting gate (es ++ more) ≡ []

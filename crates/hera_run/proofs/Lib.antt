@@ -5,3 +5,4 @@ pub mod Steps
 pub mod Endings
 pub mod Meaning
 pub mod Opening
+pub mod Results

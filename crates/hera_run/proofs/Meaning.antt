@@ -2,7 +2,7 @@
 use Rattle.std.proofs.lemmas.Bool.{cases_lt}
 use Rattle.std.proofs.lemmas.List.{take_all, take-append-le}
 use Rattle.std.proofs.Math.Seq.{take-append_seam}
-use Rattle.std.proofs.Common.{◌<◌, ◌≤◌, length, arith, ◌≡◌, ◌⊎◌, ℕ, Bool, true, false, cond, inl, inr, ⊎_elim, List, [], ◌∷◌, ◌++◌, take, Option, Some, refl, sym, ap, ◌∙◌, subst, append-nil, append_assoc}
+use Rattle.std.proofs.Common.{◌<◌, ◌≤◌, length, arith, ◌≡◌, ◌⊎◌, ℕ, Bool, true, false, cond, inl, inr, ⊎_elim, List, [], ◌∷◌, ◌++◌, take, Option, refl, sym, ap, ◌∙◌, subst, append-nil, append_assoc}
 use Rattle.std.specs.Io.KnownBytes.{Appends}
 use Rattle.hera_meaning.specs.declared.schemas.RelDecl.{RelDecl}
 use Rattle.hera_meaning.specs.Deltas.{State}
@@ -19,17 +19,18 @@ use Rattle.hera_machine.specs.declared.events.End.{End}
 use Rattle.hera_machine.specs.Standing.{stop_of}
 use Rattle.hera_machine.proofs.Along.{printed-append}
 use Rattle.hera_volume.specs.Time.{Image}
-use Rattle.hera_volume.specs.declared.file_id.FileId.{FileId}
 use Rattle.hera_store.specs.Databases.{Database, Holds}
 use Rattle.hera_store.specs.Standing as seen
 use Rattle.hera_run.specs.declared.status.RunStatus.{RunStatus}
-use Rattle.hera_run.specs.declared.status.RunStatus.TheVariants.{Full}
+use Rattle.hera_run.specs.declared.status.RunStatus.TheVariants.{Device, Output, Memory, Full}
+use Rattle.hera_run.specs.declared.fault.RunFault.{RunFault}
+use Rattle.hera_run.specs.declared.fault.RunFault.TheVariants.{Device as DeviceFault, Output as OutputFault, Memory as MemoryFault, Full as FullFault}
 use Rattle.hera_run.specs.Cut.{IsCut, with_state}
-use Rattle.hera_run.specs.Fitting.{all_fit, fitting, gate_after, overfills}
+use Rattle.hera_run.specs.Fitting.{all_fit, fitting, gate_after}
 use Rattle.hera_run.specs.Running.{IsAllDone, IsDoneUpToFull, IsPartDone, IsCodeCut}
 use Rattle.hera_run.specs.Bound.{events_of}
 use Rattle.hera_run.specs.Passages.{Passage}
-use Rattle.hera_run.specs.Outcome.{RunOutcome, barred, ran_in, filled, outcome_from, text_of_outcome, status_of_finish, KeepsFiles, IsWhole}
+use Rattle.hera_run.specs.Outcome.{RunOutcome, ran_in, filled, outcome_from, text_of_outcome, status_of_finish, KeepsFiles, IsWhole, IsSaid}
 use Rattle.hera_run.proofs.Cuts.{cut-longer}
 use Rattle.hera_run.proofs.Fittings.{all_fit-append, fitting-append, fitting-all, fitting-none, all_fit-none, prefix_fitting}
 use Rattle.hera_store.proofs.Commits.{stands_holds}
@@ -170,3 +171,12 @@ module _ (p : Program_tree) (hosts : Hosts) (db : Database) (gate turns : ℕ) (
   never_stuck code rels before now left end is its ends said =
       let mine : IsAllDone (code_of p) p.relations hosts db gate turns before now left end = own (λ (x : Code) (rs : List RelDecl). IsAllDone x rs hosts db gate turns before now left end) code (code_of p) rels p.relations is its said in
       stuck_is_no_end report.finish (sym ends ∙ (compiles.only mine.steps mine.events (stop_of end) mine.ends).1)
+
+  -- a run that is cut short
+  pub run_fault : (status : RunStatus) (fault : RunFault) (v : Passage)
+      → ((status ≡ Device) × (fault ≡ DeviceFault)) ⊎ ((status ≡ Output) × (fault ≡ OutputFault)) ⊎ ((status ≡ Memory) × (fault ≡ MemoryFault)) ⊎ ((status ≡ Full) × (fault ≡ FullFault))
+      → ((n : ℕ) × Appends v.emitted_before v.emitted_now (take n (text_of_outcome outcome))) → (fault ≡ FullFault → IsWhole outcome Full v) → IsSaid outcome status v
+  run_fault status fault v (inl device) front full = inr (record { cause = inl device.0; front = front; files = λ told. kept_run db gate report v })
+  run_fault status fault v (inr (inl output)) front full = inr (record { cause = inr (inl output.0); front = front; files = λ told. kept_run db gate report v })
+  run_fault status fault v (inr (inr (inl memory))) front full = inr (record { cause = inr (inr memory.0); front = front; files = λ told. kept_run db gate report v })
+  run_fault status fault v (inr (inr (inr is))) front full = inl (subst (λ (s : RunStatus). IsWhole outcome s v) (sym is.0) (full is.1))

@@ -1,18 +1,19 @@
 -- The opening, and then the run: every moment since the call's start.
 use Rattle.std.proofs.Common.{◌≡◌, ◌⊎◌, ⊎_elim, ℕ, Bool, true, false, cond, inl, inr, List, [], take, Option, Some, refl, ◌∙◌, subst, arith}
 use Rattle.std.specs.Io.KnownBytes.{Appends, Keeps}
-use Rattle.hera_meaning.specs.Run.{Report}
+use Rattle.hera_meaning.specs.Run.{Report, run_of}
 use Rattle.hera_meaning.specs.Trees.{Program_tree}
 use Rattle.hera_meaning.specs.Worlds.{Event}
-use Rattle.hera_host.specs.Tables.{Host}
-use Rattle.hera_volume.specs.Disk.{Disk, IsSettled}
+use Rattle.hera_host.specs.Tables.{Host, specs_of}
+use Rattle.hera_rules.specs.Bound.{bound}
+use Rattle.hera_volume.specs.Disk.{Disk}
 use Rattle.hera_volume.specs.Time.{Image, IsImageOf, IsImageAmid, LeavesOnly}
 use Rattle.hera_volume.specs.declared.file_id.FileId.{FileId}
 use Rattle.hera_volume.specs.declared.file_id.FileId.TheVariants.{Select}
 use Rattle.hera_volume.proofs.Moments.{leaves-weaker, leaves-on}
 use Rattle.rel_format.specs.Pages.{format_one}
 use Rattle.commit_journal.specs.Halves.{IsHalfTo}
-use Rattle.hera_store.specs.Databases.{Database, Names, Found, IsFound, held}
+use Rattle.hera_store.specs.Databases.{Names, IsFound, held}
 use Rattle.hera_store.specs.Moments.{IsUntouched}
 use Rattle.hera_store.specs.Standing.{Standing, StandsFor, database_of}
 use Rattle.hera_run.specs.declared.refusal.FolderRefusal.{FolderRefusal}
@@ -112,7 +113,7 @@ module _ {D : Type 0} (told : Type 0) (disk : D → FileId → Disk) (emitted : 
   run_answers hosts turns p s status found stands (turns_away {name} lacks said leaves) =
       answers (barred (Differing name)) (differs found lacks) (said_before (barred (Differing name)) status said) (λ t. leaves_barred (Differing name) t (leaves t))
   run_answers hosts turns p s status found stands (goes_on has said leaves) =
-      answers _ (runs found (λ t. ends_there s t (stands t)) has) (said_before _ status said) (λ t. leaves_run s _ t (stands t) (leaves t))
+      answers _ (runs found (λ t. ends_there s t (stands t)) has) (said_before _ status said) (λ t. leaves_run s (run_of (bound p (database_of s).catalogue) (database_of s).state (specs_of hosts) turns) t (stands t) (leaves t))
   run_answers hosts turns p s status found stands (stops memory kept files leaves) =
       fails (inr memory) (subst (λ (e : Option (List ℕ)). Keeps e (emitted new)) same kept) (λ t f. files t f ∙ (untouched t).reads f)
       (λ t. leaves-on moment left_since (untouched t).any_moment (leaves t) (λ c none. absurd none))

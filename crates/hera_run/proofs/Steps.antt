@@ -2,7 +2,7 @@
 use Rattle.std.proofs.Common.{◌≡◌, ℕ, suc, ◌+◌, true, false, List, [], ◌∷◌, ◌++◌, take, length, Option, None, refl, sym, ap, ◌∙◌, subst, arith, append-nil, zero-add, length-append}
 use Rattle.std.proofs.Math.Seq.{take-append-add}
 use Rattle.std.specs.Io.KnownBytes.{Appends}
-use Rattle.std.proofs.KnownBytes.{Appends-trans, Appends-nil}
+use Rattle.std.proofs.KnownBytes.{Appends-trans}
 use Rattle.hera_meaning.specs.declared.schemas.RelDecl.{RelDecl}
 use Rattle.hera_meaning.specs.Deltas.{Delta, State, apply_of, is_fail, IsDeltaOf}
 use Rattle.hera_meaning.specs.Hosts.{Hosts}
@@ -11,7 +11,7 @@ use Rattle.hera_meaning.specs.Worlds.{Event, out, store}
 use Rattle.hera_meaning.specs.Run.{printed, state_after, finished, stopped, out_of_turns}
 use Rattle.hera_code.specs.declared.instrs.Code.{Code}
 use Rattle.hera_code.specs.Machine.{Machine, Step, quiet, says, commits, ends, Stop, ended, stuck, code_step}
-use Rattle.hera_code.specs.Reached.{still, over, after_step, stores, with_line, exec_code, code_at, start_of}
+use Rattle.hera_code.specs.Reached.{still, after_step, stores, with_line, exec_code, code_at, start_of}
 use Rattle.hera_code.specs.Forward.{Forward}
 use Rattle.hera_codegen.specs.Correct.{events_in, AreStoresOf}
 use Rattle.hera_machine.specs.Over.{state_over}
@@ -53,10 +53,10 @@ pub record IsCarried (db : Database) (gate opened : ℕ) (events : List Event) (
 
 pub carried_out : (db : Database) (gate opened : ℕ) (events : List Event) (old now : seen.Standing) (line : List ℕ) → IsCarried db gate opened events old
     → now.base ≡ old.base → now.commits ≡ old.commits → now.end ≡ old.end → IsCarried db gate opened (events ++ out line ∷ []) now
-carried_out db gate opened events old now line carried base commits end = record {
-  stored = database_kept old now _ base commits carried.stored ∙ ap (λ (s : State). with_state db s) (sym (state_after-append db.state events (out line ∷ [])));
+carried_out db gate opened events old now line carried base longer end = record {
+  stored = database_kept old now _ base longer carried.stored ∙ ap (λ (s : State). with_state db s) (sym (state_after-append db.state events (out line ∷ [])));
   count = let more : stores (events ++ out line ∷ []) ≡ stores events + 0 = stores-append events (out line ∷ []) in
-      let long : length now.commits ≡ length old.commits = ap (λ (l : List Delta). length l) commits in
+      let long : length now.commits ≡ length old.commits = ap (λ (l : List Delta). length l) longer in
       omega (arith, more, long, carried.count);
   fit = all_fit-append gate events (out line ∷ []) carried.fit;
   ends = end ∙ carried.ends ∙ sym (gate_after-append gate events (out line ∷ []));
@@ -65,12 +65,12 @@ carried_out db gate opened events old now line carried base commits end = record
 pub carried_commit : (db : Database) (gate opened : ℕ) (events : List Event) (old now : seen.Standing) (d : Delta) (line : List ℕ) → IsCarried db gate opened events old
     → now.base ≡ old.base → now.commits ≡ old.commits ++ d ∷ [] → now.end ≡ gate_behind old.end d → fits old.end d ≡ true
     → IsCarried db gate opened (events ++ store (apply_of (state_after db.state events) d) d ∷ out line ∷ []) now
-carried_commit db gate opened events old now d line carried base commits end fit =
+carried_commit db gate opened events old now d line carried base longer end fit =
     let more = store (apply_of (state_after db.state events) d) d ∷ out line ∷ [] in
     record {
-      stored = database_more old now d _ base commits carried.stored ∙ ap (λ (s : State). with_state db s) (sym (state_after-append db.state events more));
+      stored = database_more old now d _ base longer carried.stored ∙ ap (λ (s : State). with_state db s) (sym (state_after-append db.state events more));
       count = let added : stores (events ++ more) ≡ stores events + 1 = stores-append events more in
-          let long : length now.commits ≡ length old.commits + 1 = ap (λ (l : List Delta). length l) commits ∙ length-append old.commits (d ∷ []) in
+          let long : length now.commits ≡ length old.commits + 1 = ap (λ (l : List Delta). length l) longer ∙ length-append old.commits (d ∷ []) in
           omega (arith, added, long, carried.count);
       fit = all_fit-append gate events more carried.fit ∙ fit-store (fits (gate_after gate events) d) (ap (λ (n : ℕ). fits n d) (sym carried.ends) ∙ fit);
       ends = end ∙ ap (λ (n : ℕ). gate_behind n d) carried.ends ∙ sym (gate_after-append gate events more);
@@ -88,7 +88,7 @@ line_behind es (ended (stopped name at)) = refl
 line_behind es (ended out_of_turns) = refl
 line_behind es stuck = sym (append-nil es)
 
-ending_fits : (gate : ℕ) (end : End) → all_fit gate (ending_of end) ≡ true
+pub ending_fits : (gate : ℕ) (end : End) → all_fit gate (ending_of end) ≡ true
 ending_fits gate Done = refl
 ending_fits gate (Trap name at) = refl
 ending_fits gate Spent = refl

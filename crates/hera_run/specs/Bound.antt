@@ -3,11 +3,11 @@ use Rattle.std.specs.Prelude.{◌≡◌, ℕ, List, []}
 use Rattle.std.specs.Io.KnownBytes.{Keeps}
 use Rattle.hera_meaning.specs.Trees.{Program_tree}
 use Rattle.hera_meaning.specs.Worlds.{Event}
-use Rattle.hera_meaning.specs.Run.{Report, run_of}
+use Rattle.hera_meaning.specs.Run.{run_of}
 use Rattle.hera_host.specs.Tables.{Host, specs_of}
 use Rattle.hera_rules.specs.Bound.{bound, Differs}
 use Rattle.hera_bind.specs.Having.{AllHas}
-use Rattle.hera_volume.specs.Time.{IsImageOf, IsImageAmid}
+use Rattle.hera_volume.specs.Time.{IsImageAmid}
 use Rattle.hera_store.specs.Databases.{Database}
 use Rattle.hera_run.specs.Cut.{IsCut}
 use Rattle.hera_run.specs.Passages.{Passage, ReadsAsBefore}

@@ -1,5 +1,5 @@
 -- What a run over a folder comes to, and what is seen of it.
-use Rattle.std.specs.Prelude.{◌≡◌, ◌⊎◌, ℕ, Bool, true, cond, List, ◌++◌, take, codes, Option}
+use Rattle.std.specs.Prelude.{◌≡◌, ◌⊎◌, ℕ, cond, List, ◌++◌, take, codes}
 use Rattle.std.specs.Io.KnownBytes.{Appends, Keeps}
 use Rattle.hera_meaning.specs.Printed.{end_text}
 use Rattle.hera_meaning.specs.Trees.{Program_tree}

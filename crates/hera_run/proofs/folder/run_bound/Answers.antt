@@ -1,16 +1,13 @@
-use Rattle.std.proofs.Common.{◌≡◌, List, Err, inl, inr, ⊎_elim, refl, sym, ap, ◌∙◌, subst}
+use Rattle.std.proofs.Common.{List, Err, inl, refl, sym, ap, ◌∙◌, subst}
 use Rattle.hera_meaning.specs.declared.schemas.RelDecl.{RelDecl}
 use Rattle.hera_meaning.specs.Deltas.{IsState}
 use Rattle.hera_meaning.specs.Plain.{program_of}
-use Rattle.hera_meaning.specs.Run.{finished, stopped, out_of_turns, run_of}
+use Rattle.hera_meaning.specs.Run.{finished, stopped, out_of_turns}
 use Rattle.hera_host.specs.Tables.{specs_of}
 use Rattle.hera_machine.specs.Standing.{stop_of}
 use Rattle.hera_volume.proofs.Moments.{leaves-weaker}
 use Rattle.hera_store.specs.Standing.{database_of}
-use Rattle.hera_run.specs.Outcome.{outcome_from, IsWhole}
-use Rattle.hera_run.specs.Passages.{passage}
-use Rattle.hera_run.specs.declared.status.RunStatus.{RunStatus}
-use Rattle.hera_run.proofs.Meaning.{Compiles, proper_at, cut_of_outcome, whole_run, full_run, never_stuck, run_part, kept_run}
+use Rattle.hera_run.proofs.Meaning.{Compiles, proper_at, cut_of_outcome, whole_run, full_run, never_stuck, run_part, run_fault}
 use Rattle.hera_run.proofs.folder.run_bound.Goals as goal
 
 pub run_code-requires-clause-proper : goal.run_code-requires-clause-proper
@@ -110,13 +107,8 @@ returns-clause-said g c =
     let means = c.code_does_what_the_program_means.ensures in
     let state = subst (λ (rs : List RelDecl). IsState rs db.state) (sym c.requires.relations) c.requires.state in
     let compiles : Compiles p hosts db.state c.args.turns = record { only = means.only p hosts db.state c.args.turns c.requires.sound state; stores = means.stores p hosts db.state c.args.turns c.requires.sound state; prefixes = means.prefixes p hosts db.state c.args.turns c.requires.sound state } in
-    let short = λ cause. inr (record { cause = cause; front = run_part p hosts db gate c.args.turns compiles c.in-Ok.code c.deref.result.now _ _ c.in-Ok.ensures.code c.deref.ensures.value c.in-Err.ensures.cut; files = λ told. kept_run db gate (run_of p db.state hosts c.args.turns) _ }) in
-    ⊎_elim (λ device. short (inl device.0)) (λ others.
-    ⊎_elim (λ output. short (inr (inl output.0))) (λ others.
-    ⊎_elim (λ memory. short (inr (inr memory.0))) (λ full.
-    inl (subst (λ (s : RunStatus). IsWhole (outcome_from db gate (run_of p db.state hosts c.args.turns)) s _) (sym full.0)
-    (full_run p hosts db gate c.args.turns compiles c.in-Ok.code c.deref.result.now _ c.run_code.new.store c.in-Ok.ensures.code c.deref.ensures.value (c.run_code.ensures.full (c.in-Err.is ∙ ap Err full.1)) (λ told. c.run_code.ensures.full_stands told (c.in-Err.is ∙ ap Err full.1)))))
-    others) others) c.status.ensures.each
+    run_fault p hosts db gate c.args.turns compiles _ _ _ c.status.ensures.each (run_part p hosts db gate c.args.turns compiles c.in-Ok.code c.deref.result.now _ _ c.in-Ok.ensures.code c.deref.ensures.value c.in-Err.ensures.cut)
+    (λ full. full_run p hosts db gate c.args.turns compiles c.in-Ok.code c.deref.result.now _ c.run_code.new.store c.in-Ok.ensures.code c.deref.ensures.value (c.run_code.ensures.full (c.in-Err.is ∙ ap Err full)) (λ told. c.run_code.ensures.full_stands told (c.in-Err.is ∙ ap Err full)))
 
 pub returns-clause-any_moment : goal.returns-clause-any_moment
 returns-clause-any_moment g c =
@@ -128,4 +120,3 @@ returns-clause-any_moment g c =
     let state = subst (λ (rs : List RelDecl). IsState rs db.state) (sym c.requires.relations) c.requires.state in
     let compiles : Compiles p hosts db.state c.args.turns = record { only = means.only p hosts db.state c.args.turns c.requires.sound state; stores = means.stores p hosts db.state c.args.turns c.requires.sound state; prefixes = means.prefixes p hosts db.state c.args.turns c.requires.sound state } in
     λ told. leaves-weaker _ _ (c.run_code.ensures.any_moment told) (λ image cut. cut_of_outcome p hosts db gate c.args.turns compiles c.in-Ok.code c.deref.result.now (g.W.Output.emitted c.args.outside.now) image c.in-Ok.ensures.code c.deref.ensures.value cut)
-

@@ -1,24 +1,25 @@
-use Rattle.std.proofs.Common.{◌≡◌, ◌+◌, ◌-◌, ◌++◌, ◌∷◌, [], suc, length, List, true, false, inl, inr, ⊎_elim, refl, sym, ap, ◌∙◌, subst, arith}
-use Rattle.std.proofs.lemmas.Result.{MatchResult-from_err}
+use Rattle.std.proofs.Common.{◌≡◌, ◌+◌, ◌-◌, ◌++◌, ◌∷◌, [], suc, length, List, true, false, not, Err, ⊎_elim, refl, sym, ap, ◌∙◌, subst, arith}
+use Rattle.std.proofs.lemmas.Result.{MatchResult-from_err, err_from_is_err_and}
 use Rattle.std.proofs.KnownBytes.{Appends-nil}
 use Rattle.std.specs.Io.KnownBytes.{Appends}
-use Rattle.hera_meaning.specs.Deltas.{Delta, State}
-use Rattle.hera_meaning.specs.Printed.{commit_text}
-use Rattle.hera_meaning.specs.Worlds.{Event, out}
+use Rattle.hera_meaning.specs.Deltas.{Delta}
+use Rattle.hera_meaning.specs.Worlds.{out}
 use Rattle.hera_meaning.specs.Run.{printed, state_after}
 use Rattle.hera_host.specs.Tables.{specs_of}
 use Rattle.hera_code.specs.Machine.{commits}
 use Rattle.hera_code.specs.Reached.{stores}
 use Rattle.hera_machine.specs.declared.events.Event.TheVariants as events
 use Rattle.hera_machine.specs.Over.{state_over}
-use Rattle.hera_machine.specs.Standing.{Standing, status_by, commit_over, WaitsBy}
+use Rattle.hera_machine.specs.Standing.{Standing, commit_over, WaitsBy}
 use Rattle.rel_pages.specs.Stored.{Stored}
 use Rattle.hera_volume.specs.Time.{LeavesOnly}
 use Rattle.hera_volume.proofs.Moments.{leaves-none, leaves-on}
 use Rattle.hera_store.specs.Standing.{database_of}
 use Rattle.hera_run.specs.Fitting.{fits}
-use Rattle.hera_run.specs.Running.{ending_of, IsPartDone, IsCodeCut}
+use Rattle.hera_run.specs.declared.fault.RunFault.TheVariants as RunFault
+use Rattle.hera_run.specs.Running.{ending_of, IsCodeCut}
 use Rattle.hera_run.proofs.Fittings.{true_or_false}
+use Rattle.hera_run.proofs.Results.{ok_is_no_err, same_error}
 use Rattle.hera_run.proofs.Steps.{at_start, stepped, state_read, at_quiet, at_out, at_commit, committing, carried_out, carried_commit, adds_out, adds_commit, adds_end, cut_next, cut_commit, part_next, part_here, part_out, part_commit, said_out, said_commit, all_done, done_up_to, proper_commit, ending_fits}
 use Rattle.hera_run.proofs.run.run_code.Goals as goal
 
@@ -102,8 +103,8 @@ steps-preserved-in-Continue-branch-4 g c =
       said = said_out c.args.code.now c.args.relations.now (specs_of c.args.hosts.now) db c.args.turns gate i.events c.in-Out.line start mid _ i.said done.whole;
       stands = λ told. done.stands told;
       any_moment = λ told. leaves-on _ _ (i.any_moment told) (c.carry_out.ensures.any_moment told) (λ image cut. cut_next c.args.code.now c.args.relations.now (specs_of c.args.hosts.now) db c.args.turns gate i.events (out c.in-Out.line ∷ []) m (database_of old) start mid image (adds_out c.args.code.now c.args.relations.now (specs_of c.args.hosts.now) db c.args.turns i.events m n c.in-Out.line to) i.carried.fit refl i.carried.stored i.said cut);
-      device = c.carry_out.ensures.device_still (λ h. cc (h, c.in_ok-carry_out-in-Out.is)) ∙ i.device;
-      output = c.carry_out.ensures.output_still (λ h. cc (h, c.in_ok-carry_out-in-Out.is)) ∙ i.output;
+      device = done.device_still (λ h. ok_is_no_err _ _ h) ∙ i.device;
+      output = done.output_still (λ h. ok_is_no_err _ _ h) ∙ i.output;
     }
 
 pub returns-in_err-carry_out-in-Out-clause-cut : goal.returns-in_err-carry_out-in-Out-clause-cut
@@ -190,8 +191,8 @@ steps-preserved g c =
       said = said_commit c.args.code.now c.args.relations.now (specs_of c.args.hosts.now) db c.args.turns gate i.events d number start mid _ count i.said done.whole;
       stands = λ told. done.stands told;
       any_moment = λ told. leaves-on _ _ (i.any_moment told) (c.commit.ensures.any_moment told) (λ image cut. cut_commit c.args.code.now c.args.relations.now (specs_of c.args.hosts.now) db c.args.turns gate i.events m d number (database_of old) start mid image adds i.carried.fit (ap (λ (k : _). fits k d) (sym i.carried.ends) ∙ yes) i.carried.stored count i.said cut);
-      device = c.commit.ensures.device_still (λ h. cc (h, c.in_ok-commit-in-Commit.is)) ∙ i.device;
-      output = c.commit.ensures.output_still (λ h. cc (h, c.in_ok-commit-in-Commit.is)) ∙ i.output;
+      device = done.device_still (λ h. ok_is_no_err _ _ h) ∙ i.device;
+      output = done.output_still (λ h. ok_is_no_err _ _ h) ∙ i.output;
     }
 
 pub returns-in_err-commit-in-Commit-clause-cut : goal.returns-in_err-commit-in-Commit-clause-cut
@@ -244,6 +245,32 @@ returns-in_err-commit-in-Commit-clause-any_moment g c =
     (λ (yes : fits old.end d ≡ true). leaves-on _ _ (i.any_moment told) (c.commit.ensures.any_moment told) (λ image cut. cut_commit c.args.code.now c.args.relations.now (specs_of c.args.hosts.now) db c.args.turns gate i.events m d number (database_of old) start mid image adds i.carried.fit (ap (λ (k : _). fits k d) (sym i.carried.ends) ∙ yes) i.carried.stored count i.said cut))
     (λ (no : fits old.end d ≡ false). subst (λ x. LeavesOnly g.W.Outside.moment g.W.Outside.left_since c.args.outside.now x (IsCodeCut c.args.code.now c.args.relations.now (specs_of c.args.hosts.now) db gate c.args.turns start)) (sym (c.commit.ensures.nothing_done no)) (i.any_moment told))
     (true_or_false (fits old.end d))
+
+pub returns-in_err-commit-in-Commit-clause-full : goal.returns-in_err-commit-in-Commit-clause-full
+returns-in_err-commit-in-Commit-clause-full g c =
+    let i = c.steps.invariant in
+    let m = c.steps.machine in
+    let n = c.step.new.self in
+    let ens = c.in_ok-step.ensures in
+    let init = c.args.store.now in
+    let db = database_of init in
+    let old = c.steps.store in
+    let gate = init.end in
+    let start = g.W.Output.emitted c.args.outside.now in
+    let mid = g.W.Output.emitted c.steps.outside in
+    let same = state_read old db (state_after db.state i.events) c.base.result.now c.commits.result.now c.base.ensures.base c.commits.ensures.commits i.carried.stored in
+    let to = stepped c.args.code.now c.args.relations.now (specs_of c.args.hosts.now) db c.args.turns i.events m n (state_over c.base.result.now.state c.commits.result.now) c.in_ok-step.field-0 (events.Commit) i.at same c.in-Commit.is (ens.steps i.at.works) ens.status ens.code ens.relations in
+    let d = c.take_pending-delta.result in
+    let waits : commit_over (state_after db.state i.events) n.waits n ≡ commits d n.state = ap (λ o. commit_over (state_after db.state i.events) o n) c.take_pending-delta.ensures.delta in
+    let adds = adds_commit c.args.code.now c.args.relations.now (specs_of c.args.hosts.now) db c.args.turns i.events m n d to waits in
+    let q = err_from_is_err_and c.from_residual-in_err-commit-in-Commit.result c.from_residual-in_err-commit-in-Commit.ensures.1 in
+    rw (q.1, q.2)
+    (λ h.
+    let no : fits old.end d ≡ false = c.commit.ensures.full (c.in_err-commit-in-Commit.was ∙ ap Err (same_error c.in_err-commit-in-Commit.field-0.0 RunFault.Full h)) in
+    done_up_to c.args.code.now c.args.relations.now (specs_of c.args.hosts.now) db c.args.turns gate i.events (committing c.args.code.now c.args.relations.now (specs_of c.args.hosts.now) db c.args.turns i.events d) m (database_of c.commit.new.store) start (g.W.Output.emitted c.commit.new.outside) adds i.carried.fit
+    (ap not (ap (λ (k : _). fits k d) (sym i.carried.ends) ∙ no))
+    (ap database_of (c.commit.ensures.nothing_full (c.in_err-commit-in-Commit.was ∙ ap Err (same_error c.in_err-commit-in-Commit.field-0.0 RunFault.Full h))) ∙ i.carried.stored)
+    (subst (λ x. Appends start (g.W.Output.emitted x) (printed i.events)) (sym (c.commit.ensures.nothing_done no)) i.said))
 
 pub returns-in_err-say_end-in-Ended-clause-cut : goal.returns-in_err-say_end-in-Ended-clause-cut
 returns-in_err-say_end-in-Ended-clause-cut g c =
@@ -309,4 +336,3 @@ returns-in-Ended-clause-whole g c =
     let same = state_read old db (state_after db.state i.events) c.base.result.now c.commits.result.now c.base.ensures.base c.commits.ensures.commits i.carried.stored in
     let to = stepped c.args.code.now c.args.relations.now (specs_of c.args.hosts.now) db c.args.turns i.events m n (state_over c.base.result.now.state c.commits.result.now) c.in_ok-step.field-0 (events.Ended c.in-Ended.end) i.at same c.in-Ended.is (ens.steps i.at.works) ens.status ens.code ens.relations in
     all_done c.args.code.now c.args.relations.now (specs_of c.args.hosts.now) db c.args.turns gate i.events m n c.in-Ended.end (database_of old) start mid _ to i.carried.fit i.carried.stored i.said c.in_ok-say_end-in-Ended.ensures.whole
-
