@@ -10,7 +10,7 @@ use Rattle.hera_top.specs.declared.words.Command.{Command}
 use Rattle.hera_top.specs.declared.words.Command.TheVariants.{Script}
 use Rattle.hera_top.specs.declared.words.ScriptCommand.{ScriptCommand}
 use Rattle.hera_top.specs.declared.words.ScriptCommand.TheVariants.{Check, List as list_command, Eval}
-use Rattle.hera_top.specs.Outcome.{Outcome, text_of_outcome, status_of_outcome, IsSaid, IsRead, Answers, says, no_memory}
+use Rattle.hera_top.specs.Outcome.{Outcome, text_of_outcome, status_of_outcome, IsSaid, IsRead, Answers, says, unread, no_memory}
 use Rattle.hera_top.specs.Passages.{Passage, passage, KeepsFiles, IsStill}
 use Rattle.hera_top.specs.Said.{SaysOutcome}
 use Rattle.hera_top.specs.Sources.{Seen, first_seen}
@@ -63,6 +63,12 @@ pub read_said : (hosts : List Host) (command : ScriptCommand) (before now : Seen
     → SaysOutcome hosts command script status v → Answers hosts command before now status v
 read_said hosts command before now script status v read fine said =
     ⊎_elim (λ (outcome, comes, done). says script outcome read fine comes done) (λ (nine, still). no_memory nine fine still) said
+
+-- a command on a script makes no call on a file
+pub keeps_device : (hosts : List Host) (command : ScriptCommand) (before now : Seen) (status : ℕ) (v : Passage) → Answers hosts command before now status v → v.device_now ≡ v.device_before
+keeps_device hosts command before now status v (says script outcome read fine comes said) = said.keeps.device
+keeps_device hosts command before now status v (unread script came short rose said) = said.keeps.device
+keeps_device hosts command before now status v (no_memory nine fine still) = still.keeps.device
 
 -- ---- the first source
 

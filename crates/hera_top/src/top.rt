@@ -38,7 +38,6 @@ fn answer<S: Source, W: Outside>(
     ensures unread { result ≡ ExitStatus.Unread → Rose (S.faults source.old) (S.faults source.new) }
     ensures formed { result ≢ ExitStatus.Usage }
     ensures no_device { result ≢ ExitStatus.DeviceFailed }
-    ensures files { W.device_faults outside.old ≤ W.device_faults outside.new }
 {
     match read_all(alloc, source, SCRIPT_LIMIT) {
         Ok(script) => answer_script(alloc, command, &script, outside, hosts),
