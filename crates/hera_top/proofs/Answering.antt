@@ -1,11 +1,11 @@
 -- What a command with a folder answers, of what was said on the way.
-use Rattle.std.proofs.Common.{◌≡◌, ◌∙◌, ℕ, ⊎_elim, inl, inr, ◌⊎◌, List, refl, sym, ap, subst, Some}
+use Rattle.std.proofs.Common.{◌≡◌, ◌<◌, ◌+◌, arith, ◌∙◌, ℕ, ⊎_elim, inl, inr, ◌⊎◌, List, refl, sym, ap, subst, Some}
 use Rattle.hera_meaning.specs.declared.schemas.RelDecl.{RelDecl}
 use Rattle.hera_meaning.specs.Trees.{Program_tree}
 use Rattle.hera_host.specs.Tables.{Host}
 use Rattle.hera_top.specs.declared.words.Command.TheVariants.{Folder}
 use Rattle.hera_top.specs.declared.words.FolderCommand.{FolderCommand}
-use Rattle.hera_top.specs.declared.words.FolderCommand.TheVariants.{Init, Dump, Checkpoint}
+use Rattle.hera_top.specs.declared.words.FolderCommand.TheVariants.{Init, Run, Dump, Checkpoint}
 use Rattle.hera_top.specs.declared.refusal.Refusal.TheVariants.{Exists}
 use Rattle.hera_top.specs.declared.status.ExitStatus.{ExitStatus}
 use Rattle.hera_top.specs.declared.status.ExitStatus.TheVariants.{Done, OutputFailed}
@@ -15,6 +15,7 @@ use Rattle.hera_top.specs.Passages.{Passage}
 use Rattle.hera_top.specs.Said.{AnswersThere, SaysMade, SaysDone, SaysIn}
 use Rattle.hera_top.specs.Sources.{Seen}
 use Rattle.hera_top.specs.Statuses.{number_of}
+use Rattle.hera_top.specs.Words.{files_in}
 
 -- a text without numbers is said, or its output fails
 pub never_nine : (status : ExitStatus) → (status ≡ Done) ⊎ (status ≡ OutputFailed) → number_of status ≡ 9 → ⊥
@@ -61,3 +62,16 @@ same_folder_answers hosts read command b c n m status number v is before now sam
 
 pub one_folder : (read command : FolderCommand) → Some (Folder read) ≡ Some (Folder command) → read ≡ command
 one_folder read command is = cc (is)
+
+-- a command that reads a script has one source
+pub one_source_in : (command : FolderCommand) (n : ℕ) → ReadsScript command → n + (files_in (Some (Folder command))).0 ≡ (files_in (Some (Folder command))).1 → 0 < n
+one_source_in Init n reads is = omega (arith, is)
+one_source_in (Run turns) n reads is = omega (arith, is)
+one_source_in Dump n reads is = absurd reads
+one_source_in Checkpoint n reads is = absurd reads
+
+pub init_reads : (command : FolderCommand) → command ≡ Init → ReadsScript command
+init_reads command is = subst ReadsScript (sym is) tt
+
+pub run_reads : (command : FolderCommand) (turns : ℕ) → command ≡ Run turns → ReadsScript command
+run_reads command turns is = subst ReadsScript (sym is) tt

@@ -3,7 +3,7 @@ use Rattle.hera_top.specs.Outcome.{prints}
 use Rattle.std.specs.Prelude.{codes}
 use Rattle.hera_top.proofs.Answering.{same_rels, never_nine}
 use Rattle.hera_top.proofs.Making.{line_said, occupied, failed}
-use Rattle.hera_top.proofs.Opening.{given_up}
+use Rattle.hera_top.proofs.Opening.{given_up, given_up_at_once}
 use Rattle.hera_top.proofs.in_folder.make_database.Goals as goal
 
 pub returns-in-Ok-made-clause-says : goal.returns-in-Ok-made-clause-says
@@ -29,3 +29,6 @@ pub returns-in-Err-Memory-clause-says : goal.returns-in-Err-Memory-clause-says
 returns-in-Err-Memory-clause-says g c =
     let is = c.in-Err-Memory.is ∙ ap Err c.in-Err-Memory.field-0-is in
     inr (inr (given_up g.W.Outside.told g.W.Outside.disk g.W.Output.emitted g.W.Output.output_faults g.W.Outside.device_faults g.W.Outside.moment g.W.Outside.left_since c.args.outside.now c.init_store-made.new.outside 9 (inr (refl, c.init_store-made.ensures.device_still (λ h. cc (sym is ∙ h)))) c.init_store-made.ensures.emitted c.init_store-made.ensures.output (λ told. c.init_store-made.ensures.memory told is)))
+
+pub returns-in-Err-clause-says : goal.returns-in-Err-clause-says
+returns-in-Err-clause-says g c = inr (inr (given_up_at_once g.W.Outside.told g.W.Outside.disk g.W.Output.emitted g.W.Output.output_faults g.W.Outside.device_faults g.W.Outside.moment g.W.Outside.left_since c.args.outside.now))
