@@ -14,11 +14,11 @@ use Rattle.hera_volume.proofs.Moments.{leaves-on, leaves-weaker}
 use Rattle.hera_store.specs.Databases.{Database, empty_database, Holds, half_named}
 use Rattle.hera_store.specs.Moments.{IsUntouched, IsNoneOr, LeavesOnceSettled}
 use Rattle.hera_top.specs.declared.refusal.Refusal.TheVariants.{Exists}
-use Rattle.hera_top.specs.Outcome.{refused, prints, line_of, IsSaid}
+use Rattle.hera_top.specs.Outcome.{refused, prints, IsSaid}
 use Rattle.hera_top.specs.Folder.{FolderOutcome, turned_away, made, IsMaking, FilesAfter, IsSaidOf, IsVacant, IsTaken}
 use Rattle.hera_top.specs.Said.{SaysMade}
 use Rattle.hera_top.specs.Passages.{Passage, passage, KeepsFiles}
-use Rattle.hera_top.proofs.Opening.{over, kept_none, appends_same, whole_behind, cut_behind, turned_behind, given_up, moments_amid}
+use Rattle.hera_top.proofs.Opening.{over, appends_same, whole_behind, cut_behind, turned_behind, turned_short}
 
 -- the same files hold the same
 pub holds_same : (files others : FileId → List ℕ) (db : Database) → ((f : FileId) → others f ≡ files f) → Holds files db → Holds others db
@@ -41,19 +41,21 @@ module _ {D : Type 0} (told : Type 0) (disk : D → FileId → Disk) (emitted : 
     behind = leaves-weaker moment left_since only.behind (λ c none. inl none);
   }
 
+  made_short : (told → LeavesOnceSettled disk emitted moment left_since a far (IsNoneOr db (emitted a))) → IsSaidOf (made rels) 6 (over told disk emitted output device moment left_since a far)
+  made_short only = record {
+    ending = inr (record { cause = inl (refl, fine); front = (0, appends_same (emitted a) (emitted far) same); files = λ t. ((λ eight. cc (eight)), (λ nine. cc (nine))) });
+    moments = λ t. making t (only t);
+  }
+
+  some_byte : (bytes rest : List ℕ) (x : ℕ) → bytes ≡ x ∷ rest → bytes ≢ []
+  some_byte bytes rest x is none = (let bad : x ∷ rest ≡ [] = sym is ∙ none in cc (bad))
+
   -- a call on a file failed, where `select` was empty or not
   failed_at : (bytes : List ℕ) → (disk a Select).bytes ≡ bytes → (told → (disk a Select).bytes ≡ [] → LeavesOnceSettled disk emitted moment left_since a far (IsNoneOr db (emitted a)))
       → (told → (disk a Select).bytes ≢ [] → IsUntouched disk emitted moment left_since a far) → SaysMade rels 6 (over told disk emitted output device moment left_since a far)
-  failed_at [] is only occupied = inl ((λ t. is), record {
-    ending = inr (record { cause = inl (refl, fine); front = (0, appends_same (emitted a) (emitted far) same); files = λ t. ((λ eight. cc (eight)), (λ nine. cc (nine))) });
-    moments = λ t. making t (only t is);
-  })
+  failed_at [] is only occupied = inl ((λ t. is), made_short (λ t. only t is))
   failed_at (x ∷ rest) is only occupied =
-      let some : (disk a Select).bytes ≢ [] = λ none. (let bad : x ∷ rest ≡ [] = sym is ∙ none in cc (bad)) in
-      inr (inl ((λ t. some), record {
-        ending = inr (record { cause = inl (refl, fine); front = (0, appends_same (emitted a) (emitted far) same); files = λ t. (occupied t some).reads });
-        moments = λ t. leaves-weaker moment left_since (occupied t some).any_moment (λ c image. record { files = image.files; emitted = kept_none (emitted a) c.emitted (line_of Exists) image.emitted });
-      }))
+      inr (inl ((λ t. some_byte (disk a Select).bytes rest x is), turned_short told disk emitted output device moment left_since a far Exists same fine (λ t. occupied t (some_byte (disk a Select).bytes rest x is))))
 
   pub failed : (told → (disk a Select).bytes ≡ [] → LeavesOnceSettled disk emitted moment left_since a far (IsNoneOr db (emitted a)))
       → (told → (disk a Select).bytes ≢ [] → IsUntouched disk emitted moment left_since a far) → SaysMade rels 6 (over told disk emitted output device moment left_since a far)

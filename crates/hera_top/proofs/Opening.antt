@@ -108,6 +108,13 @@ module _ {D : Type 0} (told : Type 0) (disk : D → FileId → Disk) (emitted : 
   pub turned_at_once : (a b : D) (refusal : Refusal) (status : ℕ) → IsSaid (refused refusal) status (over a b) → IsSaidOf (turned_away refusal) status (over a b)
   turned_at_once a b refusal status said = turned_behind a a b refl refl refl (λ t. untouched_none a) refusal status said
 
+  -- a call on a file failed before a refusal was said
+  pub turned_short : (a b : D) (refusal : Refusal) → emitted b ≡ emitted a → output b ≡ output a → (told → IsUntouched disk emitted moment left_since a b) → IsSaidOf (turned_away refusal) 6 (over a b)
+  turned_short a b refusal same fine u = record {
+    ending = inr (record { cause = inl (refl, fine); front = (0, appends_same (emitted a) (emitted b) same); files = λ t. (u t).reads });
+    moments = λ t. leaves-weaker moment left_since (u t).any_moment (λ c image. rest_amid a (line_of refusal) c image);
+  }
+
   -- nothing was done
   pub given_up_at_once : (a : D) → IsGivenUp 9 (over a a)
   given_up_at_once a = given_up a a 9 (inr (refl, refl)) refl refl (λ t. untouched_none a)

@@ -26,6 +26,7 @@ use hera_causes::{ReadFail, Source, read_all};
 use hera_host::HostTable;
 use hera_meaning::{Program, RelDecl};
 use hera_run::run_in_folder;
+use hera_row::Catalogue;
 use hera_script::{Cause, ScriptFault, read_program};
 use hera_store::{CheckFault, InitFault, OpenFault, Store, init_store, open_store};
 use hera_volume::Outside;
@@ -97,17 +98,32 @@ pub(crate) fn checkpoint<W: Outside>(alloc: Global, outside: &mut W) -> ExitStat
     ensures formed { result ≢ ExitStatus.Usage }
 {
     match open_database(alloc, outside) {
-        Ok(store) => {
-            let renewed = store.checkpoint(outside, HALF_LIMIT);
-            match renewed {
-                Ok(()) => say_all(outside, b"checkpointed\n", ExitStatus::Done),
-                Err(CheckFault::Full { .. }) => ExitStatus::Full,
-                Err(CheckFault::Device) => ExitStatus::DeviceFailed,
-                Err(CheckFault::Memory) => ExitStatus::NoMemory,
-                Err(CheckFault::Closed) => unreachable!(),
-            }
-        }
+        Ok(store) => match store.checkpoint(outside, HALF_LIMIT) {
+            Ok(()) => say_all(outside, b"checkpointed\n", ExitStatus::Done),
+            Err(CheckFault::Full { .. }) => ExitStatus::Full,
+            Err(CheckFault::Device) => ExitStatus::DeviceFailed,
+            Err(CheckFault::Memory) => ExitStatus::NoMemory,
+            Err(CheckFault::Closed) => unreachable!(),
+        },
         Err(status) => status,
+    }
+}
+
+/// Makes the database of a catalogue in the folder, without rows, and gives the status.
+fn make_from<W: Outside>(alloc: Global, catalogue: &Catalogue, outside: &mut W) -> ExitStatus
+    ensures says { SaysMade catalogue.now (number_of result) (passage W.told W.disk W.emitted W.output_faults W.device_faults W.moment W.left_since outside.old outside.new) }
+    ensures later { W.output_faults outside.old ≤ W.output_faults outside.new }
+    ensures device_later { W.device_faults outside.old ≤ W.device_faults outside.new }
+    ensures output { result ≡ ExitStatus.OutputFailed → Rose (W.output_faults outside.old) (W.output_faults outside.new) }
+    ensures device { result ≡ ExitStatus.DeviceFailed → Rose (W.device_faults outside.old) (W.device_faults outside.new) }
+    ensures read { result ≢ ExitStatus.Unread }
+    ensures formed { result ≢ ExitStatus.Usage }
+{
+    match init_store(alloc, outside, catalogue) {
+        Ok(()) => say_all(outside, b"created\n", ExitStatus::Done),
+        Err(InitFault::Exists) => refuse(alloc, outside, Refusal::Exists),
+        Err(InitFault::Device) => ExitStatus::DeviceFailed,
+        Err(InitFault::Memory) => ExitStatus::NoMemory,
     }
 }
 
@@ -126,16 +142,13 @@ fn make_database<W: Outside>(
     ensures read { result ≢ ExitStatus.Unread }
     ensures formed { result ≢ ExitStatus.Usage }
 {
-    let Ok(catalogue) = catalogue_of(alloc, relations) else {
-        return ExitStatus::NoMemory;
-    };
-    let made = init_store(alloc, outside, &catalogue);
-    drop(catalogue);
-    match made {
-        Ok(()) => say_all(outside, b"created\n", ExitStatus::Done),
-        Err(InitFault::Exists) => refuse(alloc, outside, Refusal::Exists),
-        Err(InitFault::Device) => ExitStatus::DeviceFailed,
-        Err(InitFault::Memory) => ExitStatus::NoMemory,
+    match catalogue_of(alloc, relations) {
+        Ok(catalogue) => {
+            let status = make_from(alloc, &catalogue, outside);
+            drop(catalogue);
+            status
+        }
+        Err(_) => ExitStatus::NoMemory,
     }
 }
 

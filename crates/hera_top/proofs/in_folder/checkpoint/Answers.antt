@@ -15,33 +15,33 @@ use Rattle.hera_top.proofs.in_folder.checkpoint.Goals as goal
 pub returns-in-Err-clause-answers : goal.returns-in-Err-clause-answers
 returns-in-Err-clause-answers g c = c.in-Err.ensures.answers Checkpoint
 
-pub returns-in-Ok-renewed-clause-answers : goal.returns-in-Ok-renewed-clause-answers
-returns-in-Ok-renewed-clause-answers g c =
-    inl (renewed (database_of c.in-Ok.store), renews c.in-Ok.ensures.held c.in-Ok-renewed.ensures.fits,
-    line_said g.W.Outside.told g.W.Outside.disk g.W.Output.emitted g.W.Output.output_faults g.W.Outside.device_faults g.W.Outside.moment g.W.Outside.left_since c.args.outside.now c.open_database.new.outside c.in-Ok.store c.in-Ok.ensures.emitted c.in-Ok.ensures.output_still c.in-Ok.ensures.device_still c.in-Ok.ensures.untouched c.in-Ok.ensures.stands c.checkpoint-renewed.new.outside c.checkpoint-renewed.ensures.emitted (λ told. c.checkpoint-renewed.ensures.any_moment told c.in-Ok.ensures.open)
-    c.checkpoint-renewed.ensures.output (c.in-Ok-renewed.ensures.device_still (λ h. cc (h))) c.in-Ok-renewed.ensures.settled c.in-Ok-renewed.ensures.selects c.in-Ok-renewed.ensures.renewed
-    (λ told. (c.in-Ok.ensures.stands told).half.half.catalogue) c.in-Ok.ensures.state c.in-Ok-renewed.ensures.fits
+pub returns-in-Ok-checkpoint-clause-answers : goal.returns-in-Ok-checkpoint-clause-answers
+returns-in-Ok-checkpoint-clause-answers g c =
+    inl (renewed (database_of c.in-Ok.store), renews c.in-Ok.ensures.held c.in-Ok-checkpoint.ensures.fits,
+    line_said g.W.Outside.told g.W.Outside.disk g.W.Output.emitted g.W.Output.output_faults g.W.Outside.device_faults g.W.Outside.moment g.W.Outside.left_since c.args.outside.now c.open_database.new.outside c.in-Ok.store c.in-Ok.ensures.emitted c.in-Ok.ensures.output_still c.in-Ok.ensures.device_still c.in-Ok.ensures.untouched c.in-Ok.ensures.stands c.checkpoint.new.outside c.checkpoint.ensures.emitted (λ told. c.checkpoint.ensures.any_moment told c.in-Ok.ensures.open)
+    c.checkpoint.ensures.output (c.in-Ok-checkpoint.ensures.device_still (λ h. cc (h))) c.in-Ok-checkpoint.ensures.settled c.in-Ok-checkpoint.ensures.selects c.in-Ok-checkpoint.ensures.renewed
+    (λ told. (c.in-Ok.ensures.stands told).half.half.catalogue) c.in-Ok.ensures.state c.in-Ok-checkpoint.ensures.fits
     c.say_all.new.outside _ (never_nine _ c.say_all.ensures.status) (c.say_all.ensures.said (prints (codes "checkpointed\n")) refl refl))
 
 pub returns-in-Err-Full-clause-answers : goal.returns-in-Err-Full-clause-answers
 returns-in-Err-Full-clause-answers g c =
     let db = database_of c.in-Ok.store in
-    let whole = c.in-Err-Full.is ∙ ap Err c.in-Err-Full.field-0-is in
-    let refusal = subst (λ (r : Result (Unit {0}) CheckFault). IfErr r (IsCheckRefusal db 268435456)) whole c.checkpoint-renewed.ensures.refusal in
-    let same = subst (λ (r : Result (Unit {0}) CheckFault). OnErr r (r ≢ Err Device → c.checkpoint-renewed.new.outside ≡ c.open_database.new.outside)) whole c.checkpoint-renewed.ensures.untouched (λ h. cc (h)) in
+    let is = ap Err c.in-Err-Full.field-0-is in
+    let refusal = subst (λ (f : CheckFault). IsCheckRefusal db 268435456 f) c.in-Err-Full.field-0-is c.in-Err-Full.ensures.refusal in
+    let same = c.in-Err-Full.ensures.untouched (λ h. cc (sym is ∙ h)) in
     inl (too_long db, overflows c.in-Ok.ensures.held refusal.2,
     subst (λ x. IsSaidOf (too_long db) 10 (over g.W.Outside.told g.W.Outside.disk g.W.Output.emitted g.W.Output.output_faults g.W.Outside.device_faults g.W.Outside.moment g.W.Outside.left_since c.args.outside.now x)) (sym same) (overflowed g.W.Outside.told g.W.Outside.disk g.W.Output.emitted g.W.Output.output_faults g.W.Outside.device_faults g.W.Outside.moment g.W.Outside.left_since c.args.outside.now c.open_database.new.outside c.in-Ok.store c.in-Ok.ensures.emitted c.in-Ok.ensures.output_still c.in-Ok.ensures.device_still c.in-Ok.ensures.untouched c.in-Ok.ensures.stands))
 
 pub returns-in-Err-Device-clause-answers : goal.returns-in-Err-Device-clause-answers
 returns-in-Err-Device-clause-answers g c =
     let db = database_of c.in-Ok.store in
-    let short = subst (λ (r : Result (Unit {0}) CheckFault). IfErr r (IsCheckRefusal db 268435456)) (c.in-Err-Device.is ∙ ap Err c.in-Err-Device.field-0-is) c.checkpoint-renewed.ensures.refusal in
+    let short = subst (λ (f : CheckFault). IsCheckRefusal db 268435456 f) c.in-Err-Device.field-0-is c.in-Err-Device.ensures.refusal in
     inl (renewed db, renews c.in-Ok.ensures.held short,
-    stopped_short g.W.Outside.told g.W.Outside.disk g.W.Output.emitted g.W.Output.output_faults g.W.Outside.device_faults g.W.Outside.moment g.W.Outside.left_since c.args.outside.now c.open_database.new.outside c.in-Ok.store c.in-Ok.ensures.emitted c.in-Ok.ensures.output_still c.in-Ok.ensures.device_still c.in-Ok.ensures.untouched c.in-Ok.ensures.stands c.checkpoint-renewed.new.outside c.checkpoint-renewed.ensures.emitted (λ told. c.checkpoint-renewed.ensures.any_moment told c.in-Ok.ensures.open) c.checkpoint-renewed.ensures.output)
+    stopped_short g.W.Outside.told g.W.Outside.disk g.W.Output.emitted g.W.Output.output_faults g.W.Outside.device_faults g.W.Outside.moment g.W.Outside.left_since c.args.outside.now c.open_database.new.outside c.in-Ok.store c.in-Ok.ensures.emitted c.in-Ok.ensures.output_still c.in-Ok.ensures.device_still c.in-Ok.ensures.untouched c.in-Ok.ensures.stands c.checkpoint.new.outside c.checkpoint.ensures.emitted (λ told. c.checkpoint.ensures.any_moment told c.in-Ok.ensures.open) c.checkpoint.ensures.output)
 
 pub returns-in-Err-Memory-clause-answers : goal.returns-in-Err-Memory-clause-answers
 returns-in-Err-Memory-clause-answers g c =
-    let whole = c.in-Err-Memory.is ∙ ap Err c.in-Err-Memory.field-0-is in
-    let same = subst (λ (r : Result (Unit {0}) CheckFault). OnErr r (r ≢ Err Device → c.checkpoint-renewed.new.outside ≡ c.open_database.new.outside)) whole c.checkpoint-renewed.ensures.untouched (λ h. cc (h)) in
+    let is = ap Err c.in-Err-Memory.field-0-is in
+    let same = c.in-Err-Memory.ensures.untouched (λ h. cc (sym is ∙ h)) in
     inr (subst (λ x. IsGivenUp 9 (over g.W.Outside.told g.W.Outside.disk g.W.Output.emitted g.W.Output.output_faults g.W.Outside.device_faults g.W.Outside.moment g.W.Outside.left_since c.args.outside.now x)) (sym same)
     (given_up g.W.Outside.told g.W.Outside.disk g.W.Output.emitted g.W.Output.output_faults g.W.Outside.device_faults g.W.Outside.moment g.W.Outside.left_since c.args.outside.now c.open_database.new.outside 9 (inr (refl, c.in-Ok.ensures.device_still)) c.in-Ok.ensures.emitted c.in-Ok.ensures.output_still c.in-Ok.ensures.untouched))

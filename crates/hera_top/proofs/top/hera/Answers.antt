@@ -1,7 +1,7 @@
-use Rattle.std.proofs.Common.{◌≡◌, ◌<◌, length, ◌∙◌, ap, sym, refl, Some}
+use Rattle.std.proofs.Common.{◌≡◌, ◌<◌, arith, length, ◌∙◌, ap, sym, refl, Some}
 use Rattle.hera_top.specs.declared.words.Command.TheVariants.{Script, Folder}
 use Rattle.hera_top.proofs.Answering.{same_folder_answers, one_folder}
-use Rattle.hera_top.proofs.Saying.{seen_first, seen_set, one_source, same_answers, numbered}
+use Rattle.hera_top.proofs.Saying.{seen_first, seen_set, one_source, same_answers, numbered, keeps_device}
 use Rattle.hera_top.proofs.top.hera.Goals as goal
 
 -- The command of the clause is the one that was read; the rest is as the first source is.
@@ -18,3 +18,6 @@ pub returns-in-Some-Folder-clause-folder : goal.returns-in-Some-Folder-clause-fo
 returns-in-Some-Folder-clause-folder g c = λ command is.
     same_folder_answers c.args.hosts.now _ command _ _ _ _ _ _ _ (one_folder _ command (sym (c.in-Some-Folder.is ∙ ap Some c.in-Some-Folder.field-0-is) ∙ c.read_words.ensures ∙ is)) refl refl c.number-in-Some-Folder.ensures
     c.answer_in_folder.ensures.answers
+
+pub returns-in-Some-Script-clause-device_later : goal.returns-in-Some-Script-clause-device_later
+returns-in-Some-Script-clause-device_later g c = omega (arith, keeps_device _ _ _ _ _ _ c.answer.ensures.answers)
