@@ -93,12 +93,15 @@ module _ {D : Type 0} (told : Type 0) (disk : D → FileId → Disk) (emitted : 
 
       -- it was made, and then the line was said
       pub line_said : (c : D) (status : ℕ) → (status ≡ 9 → ⊥) → IsSaid (prints (codes "created\n")) status (over told disk emitted output device moment left_since far c) → SaysMade rels status (over told disk emitted output device moment left_since a c)
-      line_said c status not_nine said = inl (vacant, record {
-        ending =
-            ⊎_elim
-            (λ whole. inl (whole_behind told disk emitted output device moment left_since a far c same fine sound (prints (codes "created\n")) (made rels) status refl refl (after c said.keeps) said.keeps whole))
-            (λ cut. inr (cut_behind told disk emitted output device moment left_since a far c same fine sound (prints (codes "created\n")) (made rels) status refl
-                (λ t. ((λ is. after c said.keeps t), (λ is. absurd (not_nine is)))) said.keeps cut))
-            said.ending;
-        moments = λ t. moments_said c t (only t (vacant t)) (said.moments t);
-      })
+      line_said c status not_nine said = inl (
+        vacant,
+        record {
+          ending =
+              ⊎_elim
+              (λ whole. inl (whole_behind told disk emitted output device moment left_since a far c same fine sound (prints (codes "created\n")) (made rels) status refl refl (after c said.keeps) said.keeps whole))
+              (λ cut. inr (cut_behind told disk emitted output device moment left_since a far c same fine sound (prints (codes "created\n")) (made rels) status refl
+              (λ t. ((λ is. after c said.keeps t), (λ is. absurd (not_nine is)))) said.keeps cut))
+              said.ending;
+          moments = λ t. moments_said c t (only t (vacant t)) (said.moments t);
+        },
+      )

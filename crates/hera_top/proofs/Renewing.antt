@@ -147,7 +147,7 @@ module _ {D : Type 0} (told : Type 0) (disk : D → FileId → Disk) (emitted : 
             ⊎_elim
             (λ whole. inl (whole_behind told disk emitted output device moment left_since a far c (silent ∙ same) (quiet ∙ fine) (whole_device ∙ sound) (prints (codes "checkpointed\n")) (renewed db) status refl refl (after c said.keeps) said.keeps whole))
             (λ cut. inr (cut_behind told disk emitted output device moment left_since a far c (silent ∙ same) (quiet ∙ fine) (whole_device ∙ sound) (prints (codes "checkpointed\n")) (renewed db) status refl
-                (λ t. ((λ is. after c said.keeps t), (λ is. absurd (not_nine is)))) said.keeps cut))
+            (λ t. ((λ is. after c said.keeps t), (λ is. absurd (not_nine is)))) said.keeps cut))
             said.ending;
         moments = λ t. opened_at c t (leaves-on moment left_since (first_moments t) (said.moments t) (line_amid t));
       }

@@ -25,8 +25,8 @@ use crate::words::FolderCommand;
 use hera_causes::{ReadFail, Source, read_all};
 use hera_host::HostTable;
 use hera_meaning::{Program, RelDecl};
-use hera_run::run_in_folder;
 use hera_row::Catalogue;
+use hera_run::run_in_folder;
 use hera_script::{Cause, ScriptFault, read_program};
 use hera_store::{CheckFault, InitFault, OpenFault, Store, init_store, open_store};
 use hera_volume::Outside;
@@ -128,11 +128,7 @@ fn make_from<W: Outside>(alloc: Global, catalogue: &Catalogue, outside: &mut W) 
 }
 
 /// Makes the database of these relations in the folder, without rows, and gives the status.
-fn make_database<W: Outside>(
-    alloc: Global,
-    relations: &[RelDecl],
-    outside: &mut W,
-) -> ExitStatus
+fn make_database<W: Outside>(alloc: Global, relations: &[RelDecl], outside: &mut W) -> ExitStatus
     requires { IsCatalogue relations.now }
     ensures says { SaysMade relations.now (number_of result) (passage W.told W.disk W.emitted W.output_faults W.device_faults W.moment W.left_since outside.old outside.new) }
     ensures later { W.output_faults outside.old ≤ W.output_faults outside.new }

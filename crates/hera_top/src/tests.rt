@@ -230,7 +230,8 @@ fn a_stopped_checkpoint_leaves_the_database(rt: HostRuntime) -> Result<(), Fail>
 }
 
 /// Two commits.
-const COMMITS: &[u8] = b"relation R(a int); relation S(a int); main { apply {+R(1)}; commit; apply {+R(2)}; commit; }";
+const COMMITS: &[u8] =
+    b"relation R(a int); relation S(a int); main { apply {+R(1)}; commit; apply {+R(2)}; commit; }";
 
 /// What `dump` prints after so many of the commits.
 fn rows_after(commits: usize) -> &'static [u8] {

@@ -8,10 +8,10 @@ ghost use Rattle.hera_top.specs.Statuses.{number_of};
 ghost use Rattle.hera_top.specs.Words.{words_of, command_of, files_in, folder_in};
 
 use crate::commands::answer_script;
+use crate::in_folder::{answer_with_script, checkpoint, dump};
 use crate::refusal::Refusal;
 use crate::say::refuse;
 use crate::status::ExitStatus;
-use crate::in_folder::{answer_with_script, checkpoint, dump};
 use crate::words::{Command, FolderCommand, ScriptCommand, read_words};
 use hera_causes::{ReadFail, Source, read_all};
 use hera_host::HostTable;

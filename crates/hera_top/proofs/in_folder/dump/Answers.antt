@@ -12,9 +12,12 @@ returns-in-Err-clause-answers g c = c.in-Err.ensures.answers Dump
 pub returns-in-Ok-text-clause-answers : goal.returns-in-Ok-text-clause-answers
 returns-in-Ok-text-clause-answers g c =
     let db = database_of c.in-Ok.store in
-    inl (dumped db, dumps c.in-Ok.ensures.held,
-    dumped_behind g.W.Outside.told g.W.Outside.disk g.W.Output.emitted g.W.Output.output_faults g.W.Outside.device_faults g.W.Outside.moment g.W.Outside.left_since c.args.outside.now c.open_database.new.outside c.say_all.new.outside c.in-Ok.ensures.emitted c.in-Ok.ensures.output_still c.in-Ok.ensures.device_still c.in-Ok.ensures.untouched
-    db _ (c.say_all.ensures.said (prints (tables_text db.catalogue db.state)) (sym (c.deref.ensures.value ∙ c.in-Ok-text.ensures)) refl))
+    inl (
+      dumped db,
+      dumps c.in-Ok.ensures.held,
+      dumped_behind g.W.Outside.told g.W.Outside.disk g.W.Output.emitted g.W.Output.output_faults g.W.Outside.device_faults g.W.Outside.moment g.W.Outside.left_since c.args.outside.now c.open_database.new.outside c.say_all.new.outside c.in-Ok.ensures.emitted c.in-Ok.ensures.output_still c.in-Ok.ensures.device_still c.in-Ok.ensures.untouched
+          db _ (c.say_all.ensures.said (prints (tables_text db.catalogue db.state)) (sym (c.deref.ensures.value ∙ c.in-Ok-text.ensures)) refl),
+    )
 
 pub returns-in-Err-text-clause-answers : goal.returns-in-Err-text-clause-answers
 returns-in-Err-text-clause-answers g c =
