@@ -3,14 +3,15 @@
 //!
 //! A case begins with a line `== NAME: WORDS`, its name and the words of its command line. Where the words name a file,
 //! its script is that file, and for the word `-` the lines up to the next case, joined by line feeds. For each case the
-//! program prints that line, what the call emitted, and a line `-- STATUS`.
+//! program prints that line, what the call emitted, and a line `-- STATUS`. Cases one behind another whose words name the
+//! same folder have the same files, which are empty at the first of them.
 #![tactic(auto)]
 
 ghost use Rattle.std.specs.Prelude.{◌≡◌, IfOk, length};
 
 use hera_causes::MemSource;
 use hera_host::HostTable;
-use hera_top::{files_of, hera};
+use hera_top::{files_of, folder_of, hera};
 use hera_volume::MemOutside;
 use std::alloc::{AllocError, Global};
 use std::fs::{self, Files};
@@ -62,6 +63,31 @@ impl Case {
     }
 }
 
+/// A folder, and an outside whose files it has.
+#[derive(Drop)]
+struct Session {
+    folder: String,
+    outside: MemOutside,
+}
+
+impl Session {
+    /// A folder of empty files.
+    fn new(alloc: Global, folder: &str) -> Result<Session, AllocError> {
+        Ok(Session {
+            folder: String::from_str(alloc, folder)?,
+            outside: MemOutside::new(alloc, Vec::new(alloc), None, Vec::new(alloc)),
+        })
+    }
+}
+
+/// The folder that the words name, or an empty text.
+fn folder_name(words: &Vec<String>) -> &str {
+    match folder_of(words) {
+        Some(place) => words[place].as_str(),
+        None => "",
+    }
+}
+
 /// As many sources of the script.
 fn sources_of(alloc: Global, script: &[u8], count: usize) -> Result<Vec<MemSource>, AllocError>
     ensures { IfOk result (λ sources. length sources.items ≡ count) }
@@ -74,36 +100,45 @@ fn sources_of(alloc: Global, script: &[u8], count: usize) -> Result<Vec<MemSourc
 }
 
 /// Runs the case, and prints its heading, what was emitted, and the status.
-fn run<R: Files + Print + AllocGlobal>(rt: &R, mut case: Case) -> io::Result<()> {
+fn run<R: Files + Print + AllocGlobal>(
+    rt: &R,
+    mut case: Case,
+    session: &mut Session,
+) -> io::Result<()> {
     let alloc = rt.alloc();
     let words = case.words(alloc)?;
+    let folder = folder_name(&words);
+    if folder.is_empty() || folder != session.folder.as_str() {
+        *session = Session::new(alloc, folder)?;
+    }
     let (first, last) = files_of(&words);
     for file in &words[first..last] {
         case.load(rt, file.as_str())?;
     }
     let mut sources = sources_of(alloc, &case.script, last - first)?;
-    let mut outside = MemOutside::new(alloc, Vec::new(alloc), None, Vec::new(alloc));
+    let before = session.outside.bytes().len();
     let status = hera(
         alloc,
         &words,
         &mut sources,
-        &mut outside,
+        &mut session.outside,
         &HostTable::new(alloc),
     );
     println!(rt; "== {}", case.heading)?;
-    rt.write_all(outside.bytes())?;
+    rt.write_all(session.outside.bytes().get(before..).unwrap_or(b""))?;
     println!(rt; "-- {status}")
 }
 
 fn main(rt: HostRuntime) -> io::Result<()> {
     let alloc = rt.alloc();
+    let mut session = Session::new(alloc, "")?;
     let mut current = None;
     for line in BufReader::new(alloc, rt.reader())?.lines(alloc) {
         let line = line?;
         match line.strip_prefix("== ") {
             Some(heading) => {
                 if let Some(case) = current.replace(Case::new(alloc, heading)?) {
-                    run(&rt, case)?;
+                    run(&rt, case, &mut session)?;
                 }
             }
             None => {
@@ -114,7 +149,7 @@ fn main(rt: HostRuntime) -> io::Result<()> {
         }
     }
     if let Some(case) = current {
-        run(&rt, case)?;
+        run(&rt, case, &mut session)?;
     }
     Ok(())
 }

@@ -1,7 +1,8 @@
 //! The program `hera`: its words, real files and standard output.
 //!
 //! `hera check FILE` says whether the script in the file is accepted, `hera list FILE` lists its code, and
-//! `hera eval TURNS FILE` runs it.
+//! `hera eval TURNS FILE` runs it. `hera init DIR FILE` makes a database of its relations in a folder, `hera dump DIR`
+//! prints it, and `hera checkpoint DIR` writes it anew.
 #![tactic(auto)]
 
 ghost use Rattle.std.specs.Prelude.{◌≡◌, IfOk, length};
@@ -13,8 +14,9 @@ mod standard_output;
 
 use file_outside::FileOutside;
 use file_source::FileSource;
+use folder::Paths;
 use hera_host::HostTable;
-use hera_top::{files_of, hera};
+use hera_top::{files_of, folder_of, hera};
 use std::alloc::{AllocError, Global};
 use std::fs::Files;
 use std::io;
@@ -54,16 +56,25 @@ fn sources_of<'a, R: Files + Drop>(
     Ok(sources)
 }
 
+/// The paths of the folder of the DIR word, where there is one.
+fn paths_of(alloc: Global, words: &Vec<String>) -> Result<Option<Paths>, AllocError> {
+    match folder_of(words) {
+        Some(place) => Ok(Some(Paths::new(alloc, words[place].as_str())?)),
+        None => Ok(None),
+    }
+}
+
 /// Carries out the command line, and gives the exit status.
 fn status<R: Env + Files + Print + AllocGlobal + Drop>(rt: &R) -> Result<u8, AllocError> {
     let words = words_of(rt)?;
     let (first, last) = files_of(&words);
     let mut sources = sources_of(rt.alloc(), rt, &words[first..last])?;
+    let paths = paths_of(rt.alloc(), &words)?;
     Ok(hera(
         rt.alloc(),
         &words,
         &mut sources,
-        &mut FileOutside::new(rt, None),
+        &mut FileOutside::new(rt, paths),
         &HostTable::new(rt.alloc()),
     ))
 }

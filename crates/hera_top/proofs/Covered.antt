@@ -17,7 +17,7 @@ use Rattle.hera_rules.specs.Programs.{ElabScript, FirstFault}
 use Rattle.hera_rules.specs.ReadActs.{script_of}
 use Rattle.hera_script.specs.declared.cause.Cause.{Cause}
 use Rattle.hera_script.specs.Refusing.{HasTokens, IsRefused, too_long, bad_utf8, bad_token, too_deep, syntax, types, unknown, repeated, mismatch, impure, no_return, too_many}
-use Rattle.hera_top.specs.declared.words.Command.{Command}
+use Rattle.hera_top.specs.declared.words.ScriptCommand.{ScriptCommand}
 use Rattle.hera_top.specs.Outcome.{Outcome, ComesTo, refuses, performs}
 
 abbrev SomeTokens : Type 0
@@ -35,7 +35,7 @@ FaultsHavePlaces = (hosts : List Host) (script : Script) → ¬ FirstFault hosts
 abbrev SomeTyping : Type 0
 SomeTyping = (hosts : List Host) (script : Script) → ((p : Program_tree) × ElabScript hosts script p) ⊎ ((fault : TypeFault) × FirstFault hosts script fault)
 
-module _ (some_tokens : SomeTokens) (few : FewTokens) (some_tree : SomeTree) (places : FaultsHavePlaces) (some_typing : SomeTyping) (hosts : List Host) (command : Command) (script : List ℕ) where
+module _ (some_tokens : SomeTokens) (few : FewTokens) (some_tree : SomeTree) (places : FaultsHavePlaces) (some_typing : SomeTyping) (hosts : List Host) (command : ScriptCommand) (script : List ℕ) where
   abbrev Comes : Type 0
   Comes = (outcome : Outcome) × ComesTo hosts command script outcome
 
@@ -75,5 +75,5 @@ module _ (some_tokens : SomeTokens) (few : FewTokens) (some_tree : SomeTree) (pl
   comes : Comes
   comes = ⊎_elim (λ long. is_refused (too_long long)) (λ short. by_utf8 short (cases_Bool (is_utf8 script))) (cases_lt script_limit (length script))
 
-pub some_outcome : SomeTokens → FewTokens → SomeTree → FaultsHavePlaces → SomeTyping → (hosts : List Host) (command : Command) (script : List ℕ) → (outcome : Outcome) × ComesTo hosts command script outcome
+pub some_outcome : SomeTokens → FewTokens → SomeTree → FaultsHavePlaces → SomeTyping → (hosts : List Host) (command : ScriptCommand) (script : List ℕ) → (outcome : Outcome) × ComesTo hosts command script outcome
 some_outcome some_tokens few some_tree places some_typing hosts command script = comes some_tokens few some_tree places some_typing hosts command script

@@ -14,7 +14,7 @@ use Rattle.hera_syntax.specs.Tokens.{script_limit}
 use Rattle.hera_script.specs.declared.cause.Cause.{Cause}
 use Rattle.hera_script.specs.Refusing.{IsRefused}
 use Rattle.hera_top.specs.declared.refusal.Refusal.TheVariants.{Script}
-use Rattle.hera_top.specs.declared.words.Command.TheVariants.{Eval}
+use Rattle.hera_top.specs.declared.words.ScriptCommand.TheVariants.{Eval}
 use Rattle.hera_top.specs.Outcome.{Outcome, refused, ran, ComesTo, refuses, performs}
 
 abbrev AreSound : Type 0

@@ -6,3 +6,9 @@ mod Lines
 mod One
 mod Evaluated
 mod Covered
+mod Dumped
+mod Opening
+mod Renewing
+mod Making
+mod Answering
+mod Ran

@@ -7,8 +7,8 @@ use Rattle.hera_script.specs.declared.cause.Cause.{Cause}
 use Rattle.hera_script.specs.Refusing.{IsRefused}
 use Rattle.hera_syntax.specs.Tokens.{script_limit}
 use Rattle.hera_top.specs.declared.refusal.Refusal.TheVariants.{Script}
-use Rattle.hera_top.specs.declared.words.Command.{Command}
-use Rattle.hera_top.specs.declared.words.Command.TheVariants.{Check}
+use Rattle.hera_top.specs.declared.words.ScriptCommand.{ScriptCommand}
+use Rattle.hera_top.specs.declared.words.ScriptCommand.TheVariants.{Check}
 use Rattle.hera_top.specs.Outcome.{Outcome, refused, prints, outcome_of, ComesTo, refuses, performs}
 
 abbrev OneRefusal : Type 0
@@ -23,7 +23,7 @@ OneProgram = (hosts : List Host) (script : List ℕ) (p q : Program_tree) → Ac
 same_refusal : (c d : Cause) (a b : ℕ) → (c ≡ d) × (a ≡ b) → refused (Script c a) ≡ refused (Script d b)
 same_refusal c d a b (cause, at) = ap (λ (x : Cause). refused (Script x a)) cause ∙ ap (λ (n : ℕ). refused (Script d n)) at
 
-pub one_outcome : OneRefusal → NeverBoth → OneProgram → (hosts : List Host) (command : Command) (script : List ℕ) (a b : Outcome) → ComesTo hosts command script a → ComesTo hosts command script b → a ≡ b
+pub one_outcome : OneRefusal → NeverBoth → OneProgram → (hosts : List Host) (command : ScriptCommand) (script : List ℕ) (a b : Outcome) → ComesTo hosts command script a → ComesTo hosts command script b → a ≡ b
 one_outcome one never program hosts command script _ _ (refuses {cause = c} {at = a} x) (refuses {cause = d} {at = b} y) = same_refusal c d a b (one hosts script c d a b x y)
 one_outcome one never program hosts command script _ _ (refuses {cause = c} {at = a} x) (performs {p} short acc) = absurd (never hosts script p c a short acc x)
 one_outcome one never program hosts command script _ _ (performs {p} short acc) (refuses {cause = c} {at = a} x) = absurd (never hosts script p c a short acc x)

@@ -1,7 +1,7 @@
 -- A source that tells what it has left tells the script.
 use Rattle.std.proofs.Common.{◌≡◌, ℕ, ◌<◌, ⊎_elim, List, [], ◌++◌, length, Option, Some, None, sym, ap, ◌∙◌, subst, arith, length-append, append-nil}
 use Rattle.hera_host.specs.Tables.{Host}
-use Rattle.hera_top.specs.declared.words.Command.{Command}
+use Rattle.hera_top.specs.declared.words.ScriptCommand.{ScriptCommand}
 use Rattle.hera_script.specs.Refusing.{IsRefused, too_long, bad_utf8, bad_token, too_deep, syntax, types}
 use Rattle.hera_syntax.specs.Tokens.{script_limit}
 use Rattle.hera_top.specs.Outcome.{Outcome, ComesTo, refuses, performs, IsRead}
@@ -16,11 +16,11 @@ beyond_refused hosts script bytes left _ _ is long (too_deep short lexed deep) =
 beyond_refused hosts script bytes left _ _ is long (syntax has fault) = absurd (let short = has.short in omega arith)
 beyond_refused hosts script bytes left _ _ is long (types has text first is_fault) = absurd (let short = has.short in omega arith)
 
-too_long_whole : (hosts : List Host) (command : Command) (script bytes left : List ℕ) (outcome : Outcome) → script ≡ bytes ++ left → script_limit < length bytes → ComesTo hosts command bytes outcome → ComesTo hosts command script outcome
+too_long_whole : (hosts : List Host) (command : ScriptCommand) (script bytes left : List ℕ) (outcome : Outcome) → script ≡ bytes ++ left → script_limit < length bytes → ComesTo hosts command bytes outcome → ComesTo hosts command script outcome
 too_long_whole hosts command script bytes left _ is long (refuses refused) = refuses (beyond_refused hosts script bytes left _ _ is long refused)
 too_long_whole hosts command script bytes left _ is long (performs short accepted) = absurd (omega arith)
 
-pub told_outcome : (hosts : List Host) (command : Command) (script bytes : List ℕ) (left : Option (List ℕ)) (outcome : Outcome) → IsRead (Some script) left bytes → ComesTo hosts command bytes outcome → ComesTo hosts command script outcome
+pub told_outcome : (hosts : List Host) (command : ScriptCommand) (script bytes : List ℕ) (left : Option (List ℕ)) (outcome : Outcome) → IsRead (Some script) left bytes → ComesTo hosts command bytes outcome → ComesTo hosts command script outcome
 told_outcome hosts command script bytes None outcome read comes = absurd read.consumed
 told_outcome hosts command script bytes (Some left) outcome read comes =
     ⊎_elim

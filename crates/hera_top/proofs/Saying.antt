@@ -7,8 +7,10 @@ use Rattle.hera_volume.specs.declared.file_id.FileId.{FileId}
 use Rattle.hera_volume.proofs.Moments.{leaves-none}
 use Rattle.hera_host.specs.Tables.{Host}
 use Rattle.hera_top.specs.declared.words.Command.{Command}
-use Rattle.hera_top.specs.declared.words.Command.TheVariants.{Check, List as list_command, Eval}
-use Rattle.hera_top.specs.Outcome.{Outcome, text_of_outcome, status_of_outcome, IsSaid, IsRead, Answers, says, no_memory}
+use Rattle.hera_top.specs.declared.words.Command.TheVariants.{Script}
+use Rattle.hera_top.specs.declared.words.ScriptCommand.{ScriptCommand}
+use Rattle.hera_top.specs.declared.words.ScriptCommand.TheVariants.{Check, List as list_command, Eval}
+use Rattle.hera_top.specs.Outcome.{Outcome, text_of_outcome, status_of_outcome, IsSaid, IsRead, Answers, says, unread, no_memory}
 use Rattle.hera_top.specs.Passages.{Passage, passage, KeepsFiles, IsStill}
 use Rattle.hera_top.specs.Said.{SaysOutcome}
 use Rattle.hera_top.specs.Sources.{Seen, first_seen}
@@ -57,10 +59,16 @@ module _ {D : Type 0} (told : Type 0) (disk : D → FileId → Disk) (emitted : 
   }
 
 -- a script that was read whole, and what was said of it
-pub read_said : (hosts : List Host) (command : Command) (before now : Seen) (script : List ℕ) (status : ℕ) (v : Passage) → IsRead before.left now.left script → now.faults ≡ before.faults
+pub read_said : (hosts : List Host) (command : ScriptCommand) (before now : Seen) (script : List ℕ) (status : ℕ) (v : Passage) → IsRead before.left now.left script → now.faults ≡ before.faults
     → SaysOutcome hosts command script status v → Answers hosts command before now status v
 read_said hosts command before now script status v read fine said =
     ⊎_elim (λ (outcome, comes, done). says script outcome read fine comes done) (λ (nine, still). no_memory nine fine still) said
+
+-- a command on a script makes no call on a file
+pub keeps_device : (hosts : List Host) (command : ScriptCommand) (before now : Seen) (status : ℕ) (v : Passage) → Answers hosts command before now status v → v.device_now ≡ v.device_before
+keeps_device hosts command before now status v (says script outcome read fine comes said) = said.keeps.device
+keeps_device hosts command before now status v (unread script came short rose said) = said.keeps.device
+keeps_device hosts command before now status v (no_memory nine fine still) = still.keeps.device
 
 -- ---- the first source
 
@@ -75,22 +83,22 @@ seen_set left faults [] source some = absurd (omega arith)
 seen_set left faults (old ∷ more) source some = refl
 
 -- each command reads one source
-one_file : (command : Command) (n : ℕ) → n + (files_in (Some command)).0 ≡ (files_in (Some command)).1 → 0 < n
+one_file : (command : ScriptCommand) (n : ℕ) → n + (files_in (Some (Script command))).0 ≡ (files_in (Some (Script command))).1 → 0 < n
 one_file Check n is = omega arith
 one_file list_command n is = omega arith
 one_file (Eval turns) n is = omega arith
 
-pub one_source : (command : Command) (words : Option Command) (n : ℕ) → words ≡ Some command → n + (files_in words).0 ≡ (files_in words).1 → 0 < n
+pub one_source : (command : ScriptCommand) (words : Option Command) (n : ℕ) → words ≡ Some (Script command) → n + (files_in words).0 ≡ (files_in words).1 → 0 < n
 one_source command words n is count = one_file command n (subst (λ (o : Option Command). n + (files_in o).0 ≡ (files_in o).1) is count)
 
-pub same_answers : (hosts : List Host) (read command : Command) (b c n m : Seen) (status : ℕ) (v : Passage) → Some read ≡ Some command → b ≡ c → n ≡ m
+pub same_answers : (hosts : List Host) (read command : ScriptCommand) (b c n m : Seen) (status : ℕ) (v : Passage) → Some (Script read) ≡ Some (Script command) → b ≡ c → n ≡ m
     → Answers hosts read b n status v → Answers hosts command c m status v
 same_answers hosts read command b c n m status v is before now answers =
     let same : read ≡ command = cc (is) in
-    subst (λ (x : Command). Answers hosts x c m status v) same
+    subst (λ (x : ScriptCommand). Answers hosts x c m status v) same
     (subst (λ (x : Seen). Answers hosts read x m status v) before
     (subst (λ (x : Seen). Answers hosts read b x status v) now answers))
 
 -- the status, as a number that is handed on
-pub numbered : (hosts : List Host) (command : Command) (before now : Seen) (status number : ℕ) (v : Passage) → number ≡ status → Answers hosts command before now status v → Answers hosts command before now number v
+pub numbered : (hosts : List Host) (command : ScriptCommand) (before now : Seen) (status number : ℕ) (v : Passage) → number ≡ status → Answers hosts command before now status v → Answers hosts command before now number v
 numbered hosts command before now status number v is answers = subst (λ (n : ℕ). Answers hosts command before now n v) (sym is) answers

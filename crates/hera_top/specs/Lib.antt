@@ -5,3 +5,5 @@ pub mod Passages
 pub mod Outcome
 pub mod Said
 pub mod Running
+pub mod Folder
+pub mod Dumping

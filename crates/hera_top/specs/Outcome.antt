@@ -1,8 +1,10 @@
 -- What a call of the program comes to, and what it says of that.
-use Rattle.std.specs.Prelude.{◌≡◌, ℕ, ◌<◌, ◌≤◌, ◌⊎◌, List, take, length, codes, Option}
+use Rattle.std.specs.Prelude.{◌≡◌, ℕ, ◌<◌, ◌≤◌, ◌⊎◌, List, ◌++◌, take, length, codes, Option}
 use Rattle.std.specs.Io.KnownBytes.{Appends, Consumes, IsAtEnd}
 use Rattle.hera_causes.specs.Causes.{Rose}
 use Rattle.hera_volume.specs.Time.{IsImageAmid}
+use Rattle.hera_volume.specs.declared.file_id.FileId.{FileId}
+use Rattle.hera_volume.specs.declared.file_id.FileId.TheVariants.{Select, Left, Right}
 use Rattle.hera_meaning.specs.Printed.{end_text}
 use Rattle.hera_meaning.specs.Trees.{Program_tree}
 use Rattle.hera_meaning.specs.Run.{Report, Finish, finished, stopped, out_of_turns, output_of, run_of}
@@ -16,9 +18,9 @@ use Rattle.hera_script.specs.Labels.{label_of}
 use Rattle.hera_script.specs.Refusing.{IsRefused}
 use Rattle.hera_syntax.specs.Tokens.{script_limit}
 use Rattle.hera_top.specs.declared.refusal.Refusal.{Refusal}
-use Rattle.hera_top.specs.declared.refusal.Refusal.TheVariants.{Usage, Unread, Script}
-use Rattle.hera_top.specs.declared.words.Command.{Command}
-use Rattle.hera_top.specs.declared.words.Command.TheVariants.{Check, List as list_command, Eval}
+use Rattle.hera_top.specs.declared.refusal.Refusal.TheVariants.{Usage, Unread, Script, Exists, NoDatabase, Damaged}
+use Rattle.hera_top.specs.declared.words.ScriptCommand.{ScriptCommand}
+use Rattle.hera_top.specs.declared.words.ScriptCommand.TheVariants.{Check, List as list_command, Eval}
 use Rattle.hera_top.specs.Sources.{Seen}
 use Rattle.hera_top.specs.Passages.{Passage, KeepsFiles, IsStill}
 
@@ -30,14 +32,25 @@ pub data Outcome : Type 0 where
   prints : List ℕ → Outcome
   ran : Report → Outcome
 
+abbrev pub file_name : FileId → List ℕ
+file_name Select = codes "select"
+file_name Left = codes "left"
+file_name Right = codes "right"
+
 abbrev pub line_of : Refusal → List ℕ
 line_of Usage = codes "usage\n"
 line_of Unread = codes "script unread\n"
 line_of (Script cause at) = end_text (label_of cause) at
+line_of Exists = codes "database exists\n"
+line_of NoDatabase = codes "no database\n"
+line_of (Damaged file at) = end_text (codes "damaged " ++ file_name file) at
 
 abbrev pub status_of_refusal : Refusal → ℕ
 status_of_refusal Usage = 2
 status_of_refusal (Script cause at) = 3
+status_of_refusal Exists = 5
+status_of_refusal NoDatabase = 5
+status_of_refusal (Damaged file at) = 5
 status_of_refusal Unread = 7
 
 abbrev pub status_of_finish : Finish → ℕ
@@ -84,13 +97,13 @@ pub record IsSaid (outcome : Outcome) (status : ℕ) (v : Passage) : Type 0 wher
 
 -- what a command does with an accepted script's program: `check` says that it is accepted, `list` lists
 -- its code, and `eval` runs it with these hosts, on empty relations
-abbrev pub outcome_of : List Host → Command → Program_tree → Outcome
+abbrev pub outcome_of : List Host → ScriptCommand → Program_tree → Outcome
 outcome_of hosts Check p = prints (codes "accepted\n")
 outcome_of hosts list_command p = prints (listing_of (code_of p))
 outcome_of hosts (Eval turns) p = ran (run_of p (empty_state p.relations) (specs_of hosts) turns)
 
 -- the outcome of a command for a script that may call these hosts
-pub data ComesTo (hosts : List Host) (command : Command) (script : List ℕ) : Outcome → Type 0 where
+pub data ComesTo (hosts : List Host) (command : ScriptCommand) (script : List ℕ) : Outcome → Type 0 where
   refuses : {cause : Cause} {at : ℕ} → IsRefused hosts script cause at → ComesTo hosts command script (refused (Script cause at))
   performs : {p : Program_tree} → length script ≤ script_limit → Accepted script hosts p → ComesTo hosts command script (outcome_of hosts command p)
 
@@ -100,7 +113,7 @@ pub record IsRead (left_before left_now : Option (List ℕ)) (script : List ℕ)
   pub ended : IsAtEnd left_now ⊎ (script_limit < length script)
 
 -- How a command that reads one script answers. No fault was counted but for the one that the status tells.
-pub data Answers (hosts : List Host) (command : Command) (before now : Seen) (status : ℕ) (v : Passage) : Type 0 where
+pub data Answers (hosts : List Host) (command : ScriptCommand) (before now : Seen) (status : ℕ) (v : Passage) : Type 0 where
   -- the script was read, and its outcome said
   says : (script : List ℕ) (outcome : Outcome) → IsRead before.left now.left script → now.faults ≡ before.faults → ComesTo hosts command script outcome → IsSaid outcome status v
       → Answers hosts command before now status v

@@ -13,7 +13,7 @@ use crate::refusal::Refusal;
 use crate::run::run;
 use crate::say::{refuse, say_all};
 use crate::status::ExitStatus;
-use crate::words::Command;
+use crate::words::ScriptCommand;
 use hera_code::listing;
 use hera_codegen::generate;
 use hera_host::HostTable;
@@ -30,7 +30,7 @@ fn list<W: Outside>(
     hosts: &HostTable,
 ) -> ExitStatus
     requires { Sound (program_of program.now) (specs_of hosts.now) }
-    ensures said { IsSaid (outcome_of hosts.now Command.List (program_of program.now)) (number_of result) (passage W.told W.disk W.emitted W.output_faults W.device_faults W.moment W.left_since outside.old outside.new) }
+    ensures said { IsSaid (outcome_of hosts.now ScriptCommand.List (program_of program.now)) (number_of result) (passage W.told W.disk W.emitted W.output_faults W.device_faults W.moment W.left_since outside.old outside.new) }
     ensures later { W.output_faults outside.old ≤ W.output_faults outside.new }
     ensures output { result ≡ ExitStatus.OutputFailed → Rose (W.output_faults outside.old) (W.output_faults outside.new) }
     ensures status { (result ≡ ExitStatus.Done) ⊎ (result ≡ ExitStatus.OutputFailed) ⊎ (result ≡ ExitStatus.NoMemory) }
@@ -49,41 +49,43 @@ fn list<W: Outside>(
 /// Carries out a command on an accepted script's program, and gives the status.
 fn perform<W: Outside>(
     alloc: Global,
-    command: Command,
+    command: ScriptCommand,
     program: &Program,
     outside: &mut W,
     hosts: &HostTable,
 ) -> ExitStatus
     requires sound { Sound (program_of program.now) (specs_of hosts.now) }
-    requires no_hosts { (turns : ℕ) → command ≡ Command.Eval turns → hosts.now ≡ [] }
+    requires no_hosts { (turns : ℕ) → command ≡ ScriptCommand.Eval turns → hosts.now ≡ [] }
     ensures said { IsSaid (outcome_of hosts.now command (program_of program.now)) (number_of result) (passage W.told W.disk W.emitted W.output_faults W.device_faults W.moment W.left_since outside.old outside.new) }
     ensures later { W.output_faults outside.old ≤ W.output_faults outside.new }
     ensures output { result ≡ ExitStatus.OutputFailed → Rose (W.output_faults outside.old) (W.output_faults outside.new) }
     ensures read { result ≢ ExitStatus.Unread }
     ensures formed { result ≢ ExitStatus.Usage }
+    ensures no_device { result ≢ ExitStatus.DeviceFailed }
 {
     match command {
-        Command::Check => say_all(outside, b"accepted\n", ExitStatus::Done),
-        Command::List => list(alloc, program, outside, hosts),
-        Command::Eval(turns) => eval(alloc, program, turns, outside, hosts),
+        ScriptCommand::Check => say_all(outside, b"accepted\n", ExitStatus::Done),
+        ScriptCommand::List => list(alloc, program, outside, hosts),
+        ScriptCommand::Eval(turns) => eval(alloc, program, turns, outside, hosts),
     }
 }
 
 /// Carries out a command on a script, and gives the status.
 pub(crate) fn answer_script<W: Outside>(
     alloc: Global,
-    command: Command,
+    command: ScriptCommand,
     script: &[u8],
     outside: &mut W,
     hosts: &HostTable,
 ) -> ExitStatus
     requires short { length script.now ≤ script_limit }
-    requires no_hosts { (turns : ℕ) → command ≡ Command.Eval turns → hosts.now ≡ [] }
+    requires no_hosts { (turns : ℕ) → command ≡ ScriptCommand.Eval turns → hosts.now ≡ [] }
     ensures said { SaysOutcome hosts.now command script.now (number_of result) (passage W.told W.disk W.emitted W.output_faults W.device_faults W.moment W.left_since outside.old outside.new) }
     ensures later { W.output_faults outside.old ≤ W.output_faults outside.new }
     ensures output { result ≡ ExitStatus.OutputFailed → Rose (W.output_faults outside.old) (W.output_faults outside.new) }
     ensures read { result ≢ ExitStatus.Unread }
     ensures formed { result ≢ ExitStatus.Usage }
+    ensures no_device { result ≢ ExitStatus.DeviceFailed }
 {
     match read_program(alloc, script, hosts) {
         Ok(program) => {
@@ -108,11 +110,12 @@ fn eval<W: Outside>(
 ) -> ExitStatus
     requires sound { Sound (program_of program.now) (specs_of hosts.now) }
     requires no_hosts { hosts.now ≡ [] }
-    ensures said { IsSaid (outcome_of hosts.now (Command.Eval turns) (program_of program.now)) (number_of result) (passage W.told W.disk W.emitted W.output_faults W.device_faults W.moment W.left_since outside.old outside.new) }
+    ensures said { IsSaid (outcome_of hosts.now (ScriptCommand.Eval turns) (program_of program.now)) (number_of result) (passage W.told W.disk W.emitted W.output_faults W.device_faults W.moment W.left_since outside.old outside.new) }
     ensures later { W.output_faults outside.old ≤ W.output_faults outside.new }
     ensures output { result ≡ ExitStatus.OutputFailed → Rose (W.output_faults outside.old) (W.output_faults outside.new) }
     ensures read { result ≢ ExitStatus.Unread }
     ensures formed { result ≢ ExitStatus.Usage }
+    ensures no_device { result ≢ ExitStatus.DeviceFailed }
 {
     let Ok(code) = generate(alloc, program) else {
         return ExitStatus::NoMemory;

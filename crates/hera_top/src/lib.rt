@@ -3,6 +3,8 @@
 
 mod catalogue;
 mod commands;
+mod dumping;
+mod in_folder;
 pub mod laws;
 mod refusal;
 mod run;
@@ -15,4 +17,4 @@ mod words;
 
 pub use refusal::Refusal;
 pub use top::hera;
-pub use words::{Command, files_of};
+pub use words::{Command, FolderCommand, ScriptCommand, files_of, folder_of};

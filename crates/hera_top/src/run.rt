@@ -16,7 +16,7 @@ ghost use Rattle.hera_top.specs.Outcome.{outcome_of, text_of_outcome, IsWhole, S
 ghost use Rattle.hera_top.specs.Passages.{passage, KeepsFiles};
 ghost use Rattle.hera_top.specs.Running.{last_text, EndsSaid, PartSaid, IsRunImage};
 ghost use Rattle.hera_top.specs.Statuses.{number_of};
-ghost use Rattle.hera_top.specs.declared.words.Command.{Command};
+ghost use Rattle.hera_top.specs.declared.words.ScriptCommand.{ScriptCommand};
 
 use crate::catalogue::catalogue_of;
 use crate::say::say;
@@ -218,10 +218,10 @@ pub(crate) fn run<W: Outside>(
     requires no_hosts { hosts.now ≡ [] }
     requires code { code.now ≡ code_of (program_of program.now) }
     requires forward { Forward code.now }
-    ensures whole { IfOk result (λ status. IsWhole (outcome_of hosts.now (Command.Eval turns) (program_of program.now)) (number_of status) (passage W.told W.disk W.emitted W.output_faults W.device_faults W.moment W.left_since outside.old outside.new)) }
-    ensures cut { OnErr result (SaysPart (outcome_of hosts.now (Command.Eval turns) (program_of program.now)) (W.emitted outside.old) (W.emitted outside.new)) }
+    ensures whole { IfOk result (λ status. IsWhole (outcome_of hosts.now (ScriptCommand.Eval turns) (program_of program.now)) (number_of status) (passage W.told W.disk W.emitted W.output_faults W.device_faults W.moment W.left_since outside.old outside.new)) }
+    ensures cut { OnErr result (SaysPart (outcome_of hosts.now (ScriptCommand.Eval turns) (program_of program.now)) (W.emitted outside.old) (W.emitted outside.new)) }
     ensures keeps { KeepsFiles (passage W.told W.disk W.emitted W.output_faults W.device_faults W.moment W.left_since outside.old outside.new) }
-    ensures any_moment { W.told → LeavesOnly W.moment W.left_since outside.old outside.new (IsImageAmid (W.disk outside.old) (W.emitted outside.old) (text_of_outcome (outcome_of hosts.now (Command.Eval turns) (program_of program.now)))) }
+    ensures any_moment { W.told → LeavesOnly W.moment W.left_since outside.old outside.new (IsImageAmid (W.disk outside.old) (W.emitted outside.old) (text_of_outcome (outcome_of hosts.now (ScriptCommand.Eval turns) (program_of program.now)))) }
     ensures later { W.output_faults outside.old ≤ W.output_faults outside.new }
     ensures still { result ≢ Err RunFault.Output → W.output_faults outside.new ≡ W.output_faults outside.old }
     ensures output { result ≡ Err RunFault.Output → Rose (W.output_faults outside.old) (W.output_faults outside.new) }

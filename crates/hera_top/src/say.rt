@@ -1,9 +1,9 @@
-ghost use Rattle.std.specs.Prelude.{◌≡◌, ◌≢◌, ℕ, ◌≤◌, ◌⊎◌, take, OnOk, OnErr};
+ghost use Rattle.std.specs.Prelude.{◌≡◌, ◌≢◌, ℕ, ◌≤◌, ◌⊎◌, ◌++◌, codes, take, OnOk, OnErr};
 ghost use Rattle.std.specs.Io.KnownBytes.{Appends};
 ghost use Rattle.hera_causes.specs.Causes.{HasCause, Rose};
 ghost use Rattle.hera_volume.specs.Time.{IsImageAmid, LeavesOnly};
 ghost use Rattle.hera_volume.specs.declared.file_id.FileId.{FileId};
-ghost use Rattle.hera_top.specs.Outcome.{Outcome, refused, text_of_outcome, status_of_outcome, IsSaid};
+ghost use Rattle.hera_top.specs.Outcome.{Outcome, refused, text_of_outcome, status_of_outcome, file_name, IsSaid};
 ghost use Rattle.hera_top.specs.Passages.{passage};
 ghost use Rattle.hera_top.specs.Statuses.{number_of};
 
@@ -11,7 +11,7 @@ use crate::refusal::Refusal;
 use crate::status::ExitStatus;
 use hera_causes::Failed;
 use hera_print::end_line;
-use hera_volume::Outside;
+use hera_volume::{FileId, Outside};
 use std::alloc::Global;
 
 /// Emits the line, or a prefix of it up to the first failure. The files are left alone.
@@ -31,12 +31,24 @@ pub(crate) fn say_all<W: Outside>(outside: &mut W, text: &[u8], status: ExitStat
     requires { status ≢ ExitStatus.OutputFailed }
     ensures said { (outcome : Outcome) → text_of_outcome outcome ≡ text.now → status_of_outcome outcome ≡ number_of status → IsSaid outcome (number_of result) (passage W.told W.disk W.emitted W.output_faults W.device_faults W.moment W.left_since outside.old outside.new) }
     ensures status { (result ≡ status) ⊎ (result ≡ ExitStatus.OutputFailed) }
+    ensures files { W.device_faults outside.new ≡ W.device_faults outside.old }
     ensures later { W.output_faults outside.old ≤ W.output_faults outside.new }
     ensures output { result ≡ ExitStatus.OutputFailed → Rose (W.output_faults outside.old) (W.output_faults outside.new) }
 {
     match say(outside, text) {
         Ok(()) => status,
         Err(_) => ExitStatus::OutputFailed,
+    }
+}
+
+/// The beginning of the line of a damaged file.
+fn damage_label(file: FileId) -> &'static str
+    ensures { result.now ≡ codes "damaged " ++ file_name file }
+{
+    match file {
+        FileId::Select => "damaged select",
+        FileId::Left => "damaged left",
+        FileId::Right => "damaged right",
     }
 }
 
@@ -47,11 +59,19 @@ pub(crate) fn refuse<W: Outside>(alloc: Global, outside: &mut W, refusal: Refusa
     ensures output { result ≡ ExitStatus.OutputFailed → Rose (W.output_faults outside.old) (W.output_faults outside.new) }
     ensures unread { result ≡ ExitStatus.Unread → refusal ≡ Refusal.Unread }
     ensures usage { result ≡ ExitStatus.Usage → refusal ≡ Refusal.Usage }
+    ensures device { result ≢ ExitStatus.DeviceFailed }
+    ensures files { W.device_faults outside.new ≡ W.device_faults outside.old }
 {
     let status = refusal.status();
     match refusal {
         Refusal::Usage => say_all(outside, b"usage\n", status),
         Refusal::Unread => say_all(outside, b"script unread\n", status),
+        Refusal::Exists => say_all(outside, b"database exists\n", status),
+        Refusal::NoDatabase => say_all(outside, b"no database\n", status),
+        Refusal::Damaged { file, at } => match end_line(alloc, damage_label(file), at) {
+            Ok(line) => say_all(outside, line.bytes(), status),
+            Err(_) => ExitStatus::NoMemory,
+        },
         Refusal::Script { cause, at } => match end_line(alloc, cause.label(), u64::from(at)) {
             Ok(line) => say_all(outside, line.bytes(), status),
             Err(_) => ExitStatus::NoMemory,

@@ -1,6 +1,6 @@
 use Rattle.std.proofs.Common.{ap}
 use Rattle.hera_meaning.specs.Plain.{program_of}
-use Rattle.hera_top.specs.declared.words.Command.{Command}
+use Rattle.hera_top.specs.declared.words.ScriptCommand.{ScriptCommand}
 use Rattle.hera_top.specs.Outcome.{outcome_of, text_of_outcome, status_of_outcome}
 use Rattle.hera_top.proofs.commands.perform.Goals as goal
 
@@ -8,4 +8,4 @@ pub returns-in-Check-clause-said : goal.returns-in-Check-clause-said
 returns-in-Check-clause-said g c =
     let p = program_of c.args.program.now in
     c.say_all.ensures.said (outcome_of c.args.hosts.now c.args.command p)
-    (ap (λ (k : Command). text_of_outcome (outcome_of c.args.hosts.now k p)) c.in-Check.is) (ap (λ (k : Command). status_of_outcome (outcome_of c.args.hosts.now k p)) c.in-Check.is)
+    (ap (λ (k : ScriptCommand). text_of_outcome (outcome_of c.args.hosts.now k p)) c.in-Check.is) (ap (λ (k : ScriptCommand). status_of_outcome (outcome_of c.args.hosts.now k p)) c.in-Check.is)
