@@ -11,3 +11,4 @@ mod Renewing
 mod Making
 mod Answering
 mod Ran
+mod Wording
