@@ -15,12 +15,12 @@ pub returns-in-len3 : goal.returns-in-len3
 returns-in-len3 c =
     c.long_command.ensures
     ∙ three_words c.as_slice.result.now c.name-item-then-this-lt4.result c.word-item.result c.as_str-in-len3.result.now c.as_str-in-len3-2.result.now (omega (arith, c.in-len3.len_at_least, c.in-len3.len_below))
-        c.name-item-then-this-lt4.is c.word-item.is c.as_str-in-len3.ensures.value c.as_str-in-len3-2.ensures.value
+    c.name-item-then-this-lt4.is c.word-item.is c.as_str-in-len3.ensures.value c.as_str-in-len3-2.ensures.value
     ∙ ap (λ (l : List (String Global)). command_of (words_of l)) c.as_slice.ensures.value
 
 pub returns-in-len4 : goal.returns-in-len4
 returns-in-len4 c =
     c.longest_command.ensures
     ∙ four_words c.as_slice.result.now c.name-item-then-this-lt5.result c.word-item-then-this-lt5.result c.as_str-in-len4.result.now c.as_str-in-len4-2.result.now (omega (arith, c.in-len4.len_at_least, c.in-len4.len_below))
-        c.name-item-then-this-lt5.is c.word-item-then-this-lt5.is c.as_str-in-len4.ensures.value c.as_str-in-len4-2.ensures.value
+    c.name-item-then-this-lt5.is c.word-item-then-this-lt5.is c.as_str-in-len4.ensures.value c.as_str-in-len4-2.ensures.value
     ∙ ap (λ (l : List (String Global)). command_of (words_of l)) c.as_slice.ensures.value
