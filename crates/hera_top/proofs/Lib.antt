@@ -12,3 +12,4 @@ mod Renewing
 mod Making
 mod Answering
 mod Ran
+mod Wording

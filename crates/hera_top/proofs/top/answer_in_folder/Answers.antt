@@ -29,5 +29,5 @@ returns-in-Run-clause-answers g c =
     (seen_set g.S.Source.left g.S.Source.faults c.args.sources.now.items c.answer_with_script-in-Run.new.source some) refl
     c.answer_with_script-in-Run.ensures.answers
 
-pub answer_with_script-in-Run-requires-clause-reads : goal.answer_with_script-in-Run-requires-clause-reads
-answer_with_script-in-Run-requires-clause-reads g c = run_reads c.args.command _ c.in-Run.is
+pub answer_with_script-requires-in-Run-clause-reads : goal.answer_with_script-requires-in-Run-clause-reads
+answer_with_script-requires-in-Run-clause-reads g c = run_reads c.args.command _ c.in-Run.is
