@@ -147,7 +147,7 @@ fn a_folder_is_made_printed_and_checkpointed(rt: HostRuntime) -> Result<(), Fail
         assert_eq!(rt; outside.bytes().get(before..).unwrap_or(b""), output);
         assert_eq!(rt; answer, status);
     }
-    assert_eq!(rt; outside.file(FileId::Select), b"\x01");
+    assert_eq!(rt; outside.file(FileId::Select), b"\x01".as_slice());
     Ok(())
 }
 
@@ -180,7 +180,7 @@ fn stop_init(rt: &impl Abort, alloc: Global, stop: u64, fill: u8) -> Result<(), 
     let status = call(rt, alloc, &["dump", "d"], b"", &mut found)?;
     let text = found.bytes().get(before..).unwrap_or(b"");
     if before == 0 && status == 5 {
-        assert_eq!(rt; text, b"no database\n");
+        assert_eq!(rt; text, b"no database\n".as_slice());
     } else {
         assert_eq!(rt; status, 0);
         assert_eq!(rt; text, EMPTY);
@@ -204,12 +204,12 @@ fn stop_checkpoint(rt: &impl Abort, alloc: Global, stop: u64, fill: u8) -> Resul
     let mut outside = outside_until(alloc, Some(stop));
     call(rt, alloc, &["init", "d", "f"], TWO, &mut outside)?;
     let made = outside.bytes().len();
-    assert_eq!(rt; outside.bytes(), b"created\n");
+    assert_eq!(rt; outside.bytes(), b"created\n".as_slice());
     call(rt, alloc, &["checkpoint", "d"], b"", &mut outside)?;
     let mut found = outside.crash(fill);
     let before = found.bytes().len();
     if before > made {
-        assert_eq!(rt; found.file(FileId::Select), b"\x01");
+        assert_eq!(rt; found.file(FileId::Select), b"\x01".as_slice());
     }
     let status = call(rt, alloc, &["dump", "d"], b"", &mut found)?;
     assert_eq!(rt; status, 0);
@@ -314,7 +314,7 @@ fn a_commit_whose_line_is_cut_is_stored(rt: HostRuntime) -> Result<(), Fail> {
     call(&rt, alloc, &["init", "d", "f"], TWO, &mut outside)?;
     let status = call(&rt, alloc, &["run", "d", "100", "f"], COMMITS, &mut outside)?;
     assert_eq!(rt; status, 8);
-    assert_eq!(rt; outside.bytes(), b"created\ncom");
+    assert_eq!(rt; outside.bytes(), b"created\ncom".as_slice());
     let before = outside.bytes().len();
     call(&rt, alloc, &["dump", "d"], b"", &mut outside)?;
     assert_eq!(rt; outside.bytes().get(before..).unwrap_or(b""), rows_after(1));
