@@ -1,4 +1,5 @@
 pub mod Over
+pub mod Working
 pub mod Descends
 pub mod Standing
 pub mod Telling
