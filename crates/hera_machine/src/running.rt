@@ -116,7 +116,7 @@ impl Running {
         commits: &[Delta],
         rel: RelId,
     ) -> Result<(), AllocError>
-        ensures { let s = state_over base.now.state commits.now in OnOk result (machine_at s self.new ≡ with_top s (Some rel.0) (machine_at s self.old)) }
+        ensures pushed { let s = state_over base.now.state commits.now in OnOk result (machine_at s self.new ≡ with_top s (Some rel.0) (machine_at s self.old)) }
         ensures at { OnOk result (self.new.at ≡ self.old.at) }
     {
         let newest = self.changes.len();

@@ -96,14 +96,19 @@ impl Work {
         requires no_hosts { hosts.now ≡ [] }
         ensures { let s = state_over base.now.state commits.now in IfOk result (λ told. step_of s told self.new ≡ machine.act code.now relations.now (specs_of hosts.now) (Some instr.now) s (machine_of s self.old)) }
     {
-        match (instr, self.top.take()) {
-            (Instr::Walk, Some(rel)) => self.running.walk_over(rel),
-            (instr, Some(rel)) => {
-                self.running.push_rel(base, commits, rel)?;
-                self.running.act(instr, code, relations, base, commits, hosts)
-            }
-            (Instr::Rel(rel), None) => self.rel(code, base, commits, *rel),
-            (instr, None) => self.running.act(instr, code, relations, base, commits, hosts),
+        match self.top.take() {
+            None => match instr {
+                Instr::Rel(rel) => self.rel(code, base, commits, *rel),
+                _ => self.running.act(instr, code, relations, base, commits, hosts),
+            },
+            Some(rel) => match instr {
+                Instr::Walk => self.running.walk_over(rel),
+                _ => {
+                    // not reached: a relation is named in front of a walk alone
+                    self.running.push_rel(base, commits, rel)?;
+                    self.running.act(instr, code, relations, base, commits, hosts)
+                }
+            },
         }
     }
 

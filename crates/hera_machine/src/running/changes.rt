@@ -1,9 +1,10 @@
 //! Deltas: layers under which the machine reads, and the pending delta. A walk that names a relation is
 //! given the rows that are left of it before what it names is changed.
-ghost use Rattle.std.specs.Prelude.{◌≡◌, ◌+◌, ◌<◌, ◌^◌, [], map, IfOk, OnOk};
+ghost use Rattle.std.specs.Prelude.{◌≡◌, ◌+◌, ◌<◌, ◌^◌, [], drop, map, IfOk, OnOk};
 ghost use Rattle.hera_meaning.specs.Deltas.{Delta, State, atoms};
 ghost use Rattle.hera_code.specs.Machine.{quiet, commits, on_top, enters, leaves_layer, applies};
 ghost use Rattle.hera_frames.specs.Walking.{settled};
+ghost use Rattle.hera_frames.specs.Waiting.{frames_settled};
 ghost use Rattle.hera_machine.specs.Over.{state_over};
 ghost use Rattle.hera_machine.specs.Telling.{step_at};
 ghost use Rattle.hera_machine.specs.Working.{machine_at};
@@ -11,15 +12,15 @@ ghost use Rattle.hera_machine.specs.Working.{machine_at};
 use super::{Running, stuck};
 use crate::events::{End, Told};
 use delta_atoms::Delta;
-use hera_frames::{into_delta, let_go, settle_frames, settle_walks};
+use hera_frames::{Stack, into_delta, let_go, settle_frames, settle_walks};
 use hera_meaning::{RelDecl, TrapName};
 use hera_prims::is_delta_of;
 use rel_pages::Base;
 use smash_merge::smash_into;
 use std::alloc::AllocError;
+use std::mem::replace;
 
 impl Running {
-    #[tactic(auto, using(hera_frames::proofs::Layering::layering))]
     pub(super) fn enter(
         &mut self,
         relations: &[RelDecl],
@@ -53,7 +54,6 @@ impl Running {
         Ok(Told::Quiet)
     }
 
-    #[tactic(auto, using(hera_frames::proofs::Layering::layering))]
     pub(super) fn leave(&mut self, base: &Base, commits: &[Delta]) -> Result<Told, AllocError>
         requires { self.old.at + 1 < 2 ^ 64 }
         ensures { let s = state_over base.now.state commits.now in IfOk result (λ told. step_at s told self.new ≡ leaves_layer (machine_at s self.old).own (machine_at s self.old).layers (machine_at s self.old)) }
@@ -96,14 +96,33 @@ impl Running {
     /// Collects what is left of all walks that name a relation. Then another pending delta changes nothing
     /// else.
     fn settle_all(&mut self, base: &Base, commits: &[Delta]) -> Result<(), AllocError>
-        ensures { let s = state_over base.now.state commits.now in OnOk result ((d : Delta) → machine_at s (record self.new { pending = d }) ≡ record (machine_at s self.old) { pending = d }) }
+        ensures rest { OnOk result (self.new ≡ record self.old { walks = self.new.walks; callers = self.new.callers }) }
+        ensures pending { let s = state_over base.now.state commits.now in OnOk result ((d : Delta) → machine_at s (record self.new { pending = d }) ≡ record (machine_at s self.old) { pending = d }) }
     {
         self.settle_from(base, commits, 0)?;
         if self.names_below {
-            let depth = self.changes.len() - self.own;
-            settle_frames(self.alloc, &mut self.callers, &self.changes, base, commits, depth)?;
-            self.names_below = false;
+            self.settle_callers(base, commits)
+        } else {
+            Ok(())
         }
+    }
+
+    /// Collects what is left of all walks of the frames that wait.
+    fn settle_callers(&mut self, base: &Base, commits: &[Delta]) -> Result<(), AllocError>
+        ensures { OnOk result (self.new ≡ record self.old { callers = frames_settled (state_over base.now.state commits.now) self.old.pending (drop self.old.own self.old.layers) self.old.callers }) }
+    {
+        let depth = self.changes.len() - self.own;
+        let mut callers = replace(&mut self.callers, Stack::new(self.alloc));
+        settle_frames(
+            self.alloc,
+            &mut callers,
+            &self.changes,
+            base,
+            commits,
+            depth,
+        )?;
+        self.callers = callers;
+        self.names_below = false;
         Ok(())
     }
 
