@@ -76,6 +76,8 @@ impl Work {
         ensures steps { let s = state_over base.now.state commits.now in IfOk result (λ told. step_of s told self.new ≡ code_step code.now relations.now (specs_of hosts.now) s (machine_of s self.old)) }
         ensures nearer { Forward code.now → IfOk result (TellsNearer (length code.now.instrs) (machine_of [] self.old) (machine_of [] self.new)) }
     {
+        // for the proof alone: addresses of code are below 2^64 - 1
+        let _len = code.instrs.len();
         match code.instrs.get(self.running.at()) {
             None => Ok(Told::Ended(End::Stuck)),
             Some(instr) => self.execute(instr, code, relations, base, commits, hosts),
