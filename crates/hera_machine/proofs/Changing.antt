@@ -13,6 +13,7 @@ use Rattle.hera_meaning.specs.Fits.{is_delta_of}
 use Rattle.hera_meaning.specs.Hosts.{Hosts}
 use Rattle.hera_meaning.specs.Run.{stopped}
 use Rattle.hera_code.specs.declared.instrs.Code.{Code}
+use Rattle.hera_code.specs.declared.instrs.Instr.{Instr}
 use Rattle.hera_code.specs.declared.instrs.Instr.TheVariants.{Walk as walk_instr}
 use Rattle.hera_code.specs.Machine.{Machine, Step, quiet, commits, ends, ended, needs, needs_that, if_step, as_delta, on_top, unless_fail, enters, applies, pushes, rows_value, after_layers, current_state, leaves_layer, opens_walk, act}
 use Rattle.hera_frames.specs.declared.frames.Frame.{Frame}
@@ -238,12 +239,19 @@ unnamed_told s (Out line) p = refl
 unnamed_told s (Commit d) p = refl
 unnamed_told s (Ended end) p = refl
 
-pub walk_told : (res : Result Told AllocError) (s : State) (code : Code) (rels : List RelDecl) (hosts : Hosts) (old : Work) (p new : Parked) (o : Option ℕ) (r : ℕ) →
-    record { parked = p; top = o } ≡ old → o ≡ Some r →
+pub walk_told : (res : Result Told AllocError) (s : State) (code : Code) (rels : List RelDecl) (hosts : Hosts) (old : Work) (i : Instr) (p new : Parked) (o u : Option ℕ) (r : ℕ) →
+    i ≡ walk_instr → record { parked = p; top = o } ≡ old → o ≡ Some r → u ≡ None →
     IfOk res (λ told. step_at s told new ≡ opens_walk (table (rows_at (current_state s (machine_at s p)) r)) p.operands (machine_at s p)) →
-    IfOk res (λ told. step_of s told (record { parked = new; top = None }) ≡ act code rels hosts (Some walk_instr) s (machine_of s old))
-walk_told (Err e) s code rels hosts old p new o r same top h = tt
-walk_told (Ok told) s code rels hosts old p new o r same top h =
-    unnamed_told s told new ∙ h
+    IfOk res (λ told. step_of s told (record { parked = new; top = u }) ≡ act code rels hosts (Some i) s (machine_of s old))
+walk_told (Err e) s code rels hosts old i p new o u r it same top none h = tt
+walk_told (Ok told) s code rels hosts old i p new o u r it same top none h =
+    ap (λ t. step_of s told (record { parked = new; top = t })) none
+    ∙ unnamed_told s told new ∙ h
     ∙ ap (λ t. act code rels hosts (Some walk_instr) s (machine_of s (record { parked = p; top = t }))) (sym top)
     ∙ ap (λ w. act code rels hosts (Some walk_instr) s (machine_of s w)) same
+    ∙ ap (λ j. act code rels hosts (Some j) s (machine_of s old)) (sym it)
+
+-- what the instruction at hand tells, by what it is
+pub told_by : (res : Result Told AllocError) (s : State) (code : Code) (rels : List RelDecl) (hosts : Hosts) (m : Machine) (new : Parked) (i j : Instr) → i ≡ j →
+    IfOk res (λ told. step_at s told new ≡ act code rels hosts (Some j) s m) → IfOk res (λ told. step_at s told new ≡ act code rels hosts (Some i) s m)
+told_by res s code rels hosts m new i j it h = subst (λ k. IfOk res (λ told. step_at s told new ≡ act code rels hosts (Some k) s m)) (sym it) h

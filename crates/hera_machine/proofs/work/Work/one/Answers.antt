@@ -16,7 +16,7 @@ pub execute-requires-clause-next : goal.execute-requires-clause-next
 execute-requires-clause-next c =
     let same = c.at.ensures ∙ ap (λ (w : Work). w.parked.at) c.self.view_is in
     let within : c.at.result < length c.args.code.now.instrs = here_within c.args.code.now c.at.result c.in-Some.instr.now (ap option_copied (sym c.in-Some.is) ∙ c.get.ensures) in
-    omega (arith, same, within, c.len.ensures, c.len.type_inv)
+    omega (arith, same, within, c.len-len.ensures, c.len-len.type_inv)
 
 pub returns-in-Some-clause-steps : goal.returns-in-Some-clause-steps
 returns-in-Some-clause-steps c =
