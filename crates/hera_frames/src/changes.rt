@@ -100,7 +100,13 @@ impl Changes {
 
     /// The rows of a relation after the commits, the pending delta and so many of the layers, the oldest
     /// ones, in this order. It takes no memory.
-    pub fn rel<'a>(&'a self, base: &'a Base, commits: &'a [Delta], rel: RelId, tip: usize) -> Hyp<'a>
+    pub fn rel<'a>(
+        &'a self,
+        base: &'a Base,
+        commits: &'a [Delta],
+        rel: RelId,
+        tip: usize,
+    ) -> Hyp<'a>
         requires { rel.0 < length base.now.catalogue }
         ensures { slice_get (seen_at (after_all base.now.state commits.now) self.now.pending self.now.layers tip) rel.0 ≡ Some result }
     {

@@ -77,15 +77,7 @@ fn settle_frames_into(
 {
     let mut below = depth;
     while let Some(mut frame) = frames.pop() {
-        settle_walks(
-            alloc,
-            &mut frame.walks,
-            changes,
-            base,
-            commits,
-            below,
-            0,
-        )?;
+        settle_walks(alloc, &mut frame.walks, changes, base, commits, below, 0)?;
         frame.names_below = false;
         below = below.saturating_sub(frame.own);
         done.push(frame)?;

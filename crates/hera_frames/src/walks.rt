@@ -229,7 +229,10 @@ impl Walk {
         ensures { OnOk result (self.new ≡ settled (after_all base.now.state commits.now) changes.now.pending (lowest depth changes.now.layers) from self.old) }
     {
         let last = bytes_of(&self.current);
-        if let Some(rows) = self.source.left(alloc, last, changes, base, commits, depth, from)? {
+        if let Some(rows) = self
+            .source
+            .left(alloc, last, changes, base, commits, depth, from)?
+        {
             let_go(replace(&mut self.source, Source::Rows { rows, next: 0 }));
         }
         Ok(())

@@ -101,14 +101,17 @@ impl Work {
         match self.top.take() {
             None => match instr {
                 Instr::Rel(rel) => self.rel(code, base, commits, *rel),
-                _ => self.running.act(instr, code, relations, base, commits, hosts),
+                _ => self
+                    .running
+                    .act(instr, code, relations, base, commits, hosts),
             },
             Some(rel) => match instr {
                 Instr::Walk => self.running.walk_over(rel),
                 _ => {
                     // not reached: a relation is named in front of a walk alone
                     self.running.push_rel(base, commits, rel)?;
-                    self.running.act(instr, code, relations, base, commits, hosts)
+                    self.running
+                        .act(instr, code, relations, base, commits, hosts)
                 }
             },
         }

@@ -73,12 +73,7 @@ impl Running {
     }
 
     /// Collects what is left of the running frame's walks that name a relation under at least `from` layers.
-    fn settle_from(
-        &mut self,
-        base: &Base,
-        commits: &[Delta],
-        from: usize,
-    ) -> Result<(), AllocError>
+    fn settle_from(&mut self, base: &Base, commits: &[Delta], from: usize) -> Result<(), AllocError>
         ensures { OnOk result (self.new ≡ record self.old { walks = map (settled (state_over base.now.state commits.now) self.old.pending self.old.layers from) self.old.walks }) }
     {
         let count = self.changes.len();

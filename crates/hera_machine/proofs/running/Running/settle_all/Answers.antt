@@ -15,4 +15,4 @@ returns-else-self-clause-pending c = λ d.
     let names = c.self.inside.names_below in
     ap (λ (p : Parked). machine_at s (record p { pending = d })) c.in_ok-settle_from.ensures
     ∙ settled_running s c.args.self.now names d c.if-self.false
-      (subst (λ (p : Parked). AreKept p.layers p.own names p.callers) (c.self.view_is ∙ c.in_ok-settle_from.ensures) c.self.invariant)
+    (subst (λ (p : Parked). AreKept p.layers p.own names p.callers) (c.self.view_is ∙ c.in_ok-settle_from.ensures) c.self.invariant)
