@@ -233,7 +233,7 @@ named_told s old p q r same none moved there =
     ∙ ap (λ o. pushes (rows_value o) m) (sym (rows_there (current_state s m) r there))
     ∙ ap (λ o. pushes (rows_value (slice_get (current_state s (with_top s o m)) r)) (with_top s o m)) (sym none)
 
-unnamed_told : (s : State) (told : Told) (p : Parked) → step_of s told (record { parked = p; top = None }) ≡ step_at s told p
+pub unnamed_told : (s : State) (told : Told) (p : Parked) → step_of s told (record { parked = p; top = None }) ≡ step_at s told p
 unnamed_told s Quiet p = refl
 unnamed_told s (Out line) p = refl
 unnamed_told s (Commit d) p = refl

@@ -2,3 +2,4 @@ pub mod Lowered
 pub mod Along
 pub mod Nearing
 pub mod Changing
+pub mod Asking

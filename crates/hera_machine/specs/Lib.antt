@@ -3,3 +3,4 @@ pub mod Working
 pub mod Descends
 pub mod Standing
 pub mod Telling
+pub mod Asking

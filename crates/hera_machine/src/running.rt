@@ -11,6 +11,7 @@ ghost use Rattle.hera_machine.specs.Over.{state_over};
 ghost use Rattle.hera_machine.specs.Telling.{step_at};
 ghost use Rattle.hera_machine.specs.Working.{machine_at, with_top};
 
+mod asks;
 mod calls;
 mod changes;
 mod jumps;

@@ -15,12 +15,13 @@ use crate::running::Running;
 use delta_atoms::Delta;
 use hera_code::{Code, Instr};
 use hera_host::HostTable;
-use hera_meaning::{RelDecl, RelId};
+use hera_meaning::{Op, RelDecl, RelId};
 use rel_pages::Base;
 use std::alloc::{AllocError, Global};
 use std::marker::Model;
 
-/// A machine at work. A relation that is only walked over is named, and no rows of it are collected.
+/// A machine at work. A relation that is only walked over or asked for one tuple is named, and no rows of
+/// it are collected.
 #[derive(Drop)]
 pub(crate) struct Work {
     running: Running,
@@ -37,9 +38,9 @@ impl Model for Work {
     ghost view = { λ w. record { parked = w.running; top = option_map (λ r. r.0) w.top } };
 }
 
-/// Whether a relation that is pushed at this address is walked over to be selected or mapped, and not by
-/// a loop of statements, whose walk is dropped at its end.
-fn is_selected(code: &Code, at: usize) -> bool {
+/// Whether a relation that is pushed at this address is asked for a tuple, or walked over to be selected or
+/// mapped; and not by a loop of statements, whose walk is dropped at its end.
+fn stays_named(code: &Code, at: usize) -> bool {
     if at >= usize::MAX - 2 {
         return false;
     }
@@ -47,6 +48,7 @@ fn is_selected(code: &Code, at: usize) -> bool {
         (Some(Instr::Walk), Some(Instr::Next(_, end))) => {
             !matches!(code.instrs.get(*end as usize), Some(Instr::Drop))
         }
+        (Some(Instr::Prim(Op::In, _)), _) => true,
         _ => false,
     }
 }
@@ -107,8 +109,9 @@ impl Work {
             },
             Some(rel) => match instr {
                 Instr::Walk => self.running.walk_over(rel),
+                Instr::Prim(Op::In, _) => self.running.ask(base, commits, rel),
                 _ => {
-                    // not reached: a relation is named in front of a walk alone
+                    // not reached: a relation is named in front of a walk or a question alone
                     self.running.push_rel(base, commits, rel)?;
                     self.running
                         .act(instr, code, relations, base, commits, hosts)
@@ -129,7 +132,7 @@ impl Work {
         requires top { self.old.top ≡ None }
         ensures { let s = state_over base.now.state commits.now in IfOk result (λ told. step_of s told self.new ≡ pushes (rows_value (slice_get (current_state s (machine_of s self.old)) rel.0)) (machine_of s self.old)) }
     {
-        if usize::from(rel.0) < base.catalogue().len() && is_selected(code, self.running.at()) {
+        if usize::from(rel.0) < base.catalogue().len() && stays_named(code, self.running.at()) {
             self.running.go_on();
             self.top = Some(rel);
             return Ok(Told::Quiet);

@@ -7,8 +7,8 @@ use Rattle.hera_machine.specs.Working.{Work, machine_at}
 use Rattle.hera_machine.proofs.Changing.{named_told}
 use Rattle.hera_machine.proofs.work.Work.rel.Goals as goal
 
-pub returns-then-is_selected : goal.returns-then-is_selected
-returns-then-is_selected c =
+pub returns-then-stays_named : goal.returns-then-stays_named
+returns-then-stays_named c =
     let s = state_over c.args.base.now.state c.args.commits.now in
     let p = c.args.self.now.parked in
     let long = read-length c.args.base.now.state c.args.commits.now p.pending p.layers in
