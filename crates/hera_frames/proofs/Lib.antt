@@ -3,5 +3,8 @@ pub mod Slots
 pub mod Padding
 pub mod Drops
 pub mod Dropping
+pub mod Chaining
+pub mod Settled
+pub mod Bounds
+pub mod Naming
 pub mod Layering
-pub mod Applying

@@ -1,3 +1,3 @@
-pub mod Applied
+pub mod Chained
 pub mod Walking
 pub mod Waiting

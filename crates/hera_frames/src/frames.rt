@@ -15,4 +15,6 @@ pub struct Frame {
     pub walks: Stack<Walk>,
     /// How many of the machine's layers it has pushed itself.
     pub own: usize,
+    /// Whether a walk of the frames below may name a relation.
+    pub names_below: bool,
 }

@@ -1,23 +1,26 @@
-//! What a machine is made of: operands, slots, walks, layers, and frames that wait.
+//! What a machine is made of: operands, slots, walks, the deltas under which it reads, and frames that
+//! wait.
 //!
-//! Operands, layers, walks and frames stand on stacks of one type, which contracts see with the newest
-//! first; slots are seen in order.
+//! Operands, walks and frames stand on stacks of one type, which contracts see with the newest first;
+//! slots are seen in order. The pending delta and the deltas of `when` are layers over the committed
+//! state, and a walk may name a relation under them in place of having its rows.
 #![tactic(auto)]
 
+mod changes;
 mod frames;
-mod layers;
 mod locals;
 mod operands;
+mod past;
+mod settling;
 mod stack;
 mod values;
-mod views;
 mod walks;
 
+pub use changes::Changes;
 pub use frames::Frame;
-pub use layers::Layers;
 pub use locals::Locals;
 pub use operands::Operands;
+pub use settling::{any_named, settle_frames, settle_walks};
 pub use stack::Stack;
 pub use values::{bool_of, const_of, into_delta, into_rel, into_row, let_go};
-pub use views::{apply_all, apply_to};
-pub use walks::Walk;
+pub use walks::{Walk, rows_past};

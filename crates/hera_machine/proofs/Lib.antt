@@ -1,4 +1,5 @@
 pub mod Lowered
 pub mod Along
-pub mod Relation_views
 pub mod Nearing
+pub mod Changing
+pub mod Asking

@@ -1,4 +1,6 @@
 pub mod Over
+pub mod Working
 pub mod Descends
 pub mod Standing
 pub mod Telling
+pub mod Asking

@@ -6,8 +6,8 @@
 
 mod events;
 mod machine;
-mod relations;
 mod running;
+mod work;
 
 pub use events::{End, Event, Status};
 pub use machine::Machine;

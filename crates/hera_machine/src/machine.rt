@@ -9,7 +9,7 @@ ghost use Rattle.hera_machine.specs.Over.{state_over};
 ghost use Rattle.hera_machine.specs.Standing.{machine_over, event_over, status_after, WaitsBy, IsNearer};
 
 use crate::events::{End, Event, Status, Told};
-use crate::running::Running;
+use crate::work::Work;
 use delta_atoms::Delta;
 use hera_code::Code;
 use hera_host::HostTable;
@@ -23,17 +23,19 @@ use std::marker::Model;
 pub struct Machine<'c> {
     code: &'c Code,
     relations: &'c [RelDecl],
-    running: Running,
+    work: Work,
     status: Status,
     waiting: Option<Delta>,
 }
 
 impl<'c> Model for Machine<'c> {
+    ghost use Rattle.std.specs.Prelude.{[]};
+    ghost use Rattle.hera_machine.specs.Working.{machine_of};
     ghost use Rattle.hera_machine.specs.Standing.{Standing};
 
     ghost Value = { Standing };
 
-    ghost view = { λ m. record { code = m.code.now; relations = m.relations.now; state = m.running; status = m.status; waits = m.waiting } };
+    ghost view = { λ m. record { code = m.code.now; relations = m.relations.now; work = m.work; state = machine_of [] m.work; status = m.status; waits = m.waiting } };
 }
 
 impl<'c> Machine<'c> {
@@ -57,7 +59,7 @@ impl<'c> Machine<'c> {
         Ok(Machine {
             code,
             relations,
-            running: Running::start(alloc, slots, turns)?,
+            work: Work::start(alloc, slots, turns)?,
             status: Status::Working,
             waiting: None,
         })
@@ -91,7 +93,7 @@ impl<'c> Machine<'c> {
         }
         let code = self.code;
         let relations = self.relations;
-        match self.running.one(code, relations, base, commits, hosts) {
+        match self.work.one(code, relations, base, commits, hosts) {
             Err(e) => {
                 self.status = Status::GaveUp;
                 Err(e)

@@ -1,15 +1,17 @@
 //! A machine at work: what it is, and which function does which instruction. The functions stand by
 //! themes, one an instruction.
-ghost use Rattle.std.specs.Prelude.{◌≡◌, ◌+◌, ◌<◌, ◌^◌, [], Some, IfOk, length};
-ghost use Rattle.hera_meaning.specs.Deltas.{atoms};
+ghost use Rattle.std.specs.Prelude.{◌≡◌, ◌+◌, ◌<◌, ◌^◌, [], Some, IfOk, OnOk};
+ghost use Rattle.hera_meaning.specs.Deltas.{State, atoms, rows_at};
+ghost use Rattle.hera_meaning.specs.Values.{table};
 ghost use Rattle.hera_meaning.specs.Worlds.{locals_from};
 ghost use Rattle.hera_host.specs.Tables.{specs_of};
-ghost use Rattle.hera_code.specs.Forward.{Forward};
 ghost use Rattle.hera_code.specs.Machine as machine;
-ghost use Rattle.hera_code.specs.Machine.{code_step};
+ghost use Rattle.hera_code.specs.Machine.{current_state, opens_walk};
 ghost use Rattle.hera_machine.specs.Over.{state_over};
-ghost use Rattle.hera_machine.specs.Telling.{step_of, TellsNearer};
+ghost use Rattle.hera_machine.specs.Telling.{step_at};
+ghost use Rattle.hera_machine.specs.Working.{machine_at, with_top};
 
+mod asks;
 mod calls;
 mod changes;
 mod jumps;
@@ -17,11 +19,11 @@ mod values;
 mod walks;
 
 use crate::events::{End, Told};
-use delta_atoms::Delta;
+use delta_atoms::{Delta, Value};
 use hera_code::{Code, Instr};
-use hera_frames::{Frame, Layers, Locals, Operands, Stack, Walk};
+use hera_frames::{Changes, Frame, Locals, Operands, Stack, Walk, rows_past};
 use hera_host::HostTable;
-use hera_meaning::RelDecl;
+use hera_meaning::{RelDecl, RelId};
 use hera_prims::Args;
 use rel_pages::Base;
 use std::alloc::{AllocError, Global};
@@ -38,33 +40,33 @@ pub(crate) struct Running {
     operands: Operands,
     locals: Locals,
     walks: Stack<Walk>,
-    layers: Layers,
+    changes: Changes,
     own: usize,
     callers: Stack<Frame>,
-    pending: Delta,
+    /// Whether a walk of a frame that waits may name a relation.
+    names_below: bool,
     turns: u64,
 }
 
 impl Model for Running {
-    ghost use Rattle.hera_code.specs.Machine as machine;
+    ghost use Rattle.hera_machine.specs.Working.{Parked};
+    ghost use Rattle.hera_frames.specs.Waiting.{AreKept};
 
-    ghost Value = { machine.Machine };
-
-    ghost use Rattle.hera_frames.specs.Waiting.{frames_of, AreOwned};
+    ghost Value = { Parked };
 
     ghost view = { λ r. record {
       at = r.at;
       operands = r.operands;
       locals = r.locals;
       walks = r.walks;
-      layers = r.layers;
+      layers = r.changes.layers;
       own = r.own;
-      callers = frames_of r.layers r.own r.callers;
-      pending = r.pending;
+      callers = r.callers;
+      pending = r.changes.pending;
       turns = r.turns;
     } };
 
-    ghost invariant = { λ r. AreOwned r.layers r.own r.callers };
+    ghost invariant = { λ r. AreKept r.changes.layers r.own r.names_below r.callers };
 }
 
 /// What an instruction needs was not there, or was of another kind.
@@ -85,16 +87,58 @@ impl Running {
             operands: Operands::new(alloc),
             locals: Locals::start(alloc, Args::new(alloc), slots)?,
             walks: Stack::new(alloc),
-            layers: Layers::new(alloc),
+            changes: Changes::new(alloc)?,
             own: 0,
             callers: Stack::new(alloc),
-            pending: Delta::empty(alloc),
+            names_below: false,
             turns,
         })
     }
 
-    /// Executes an instruction.
-    fn act(
+    /// The address at which it stands.
+    pub(crate) fn at(&self) -> usize
+        ensures { result ≡ self.now.at }
+    {
+        self.at
+    }
+
+    /// Goes on to the next instruction.
+    pub(crate) fn go_on(&mut self)
+        requires { self.old.at + 1 < 2 ^ 64 }
+        ensures { self.new ≡ record self.old { at = self.old.at + 1 } }
+    {
+        self.at += 1;
+    }
+
+    /// Puts the rows of a relation upon the operands, as they are in the state that the machine reads.
+    pub(crate) fn push_rel(
+        &mut self,
+        base: &Base,
+        commits: &[Delta],
+        rel: RelId,
+    ) -> Result<(), AllocError>
+        ensures pushed { let s = state_over base.now.state commits.now in OnOk result (machine_at s self.new ≡ with_top s (Some rel.0) (machine_at s self.old)) }
+        ensures at { OnOk result (self.new.at ≡ self.old.at) }
+    {
+        let newest = self.changes.len();
+        let rows = rows_past(self.alloc, &self.changes, base, commits, rel, newest, None)?;
+        self.operands.push(Value::Rel(rows))?;
+        Ok(())
+    }
+
+    /// Opens a walk over a relation that it names.
+    pub(crate) fn walk_over(&mut self, rel: RelId) -> Result<Told, AllocError>
+        requires { self.old.at + 1 < 2 ^ 64 }
+        ensures { (s : State) → IfOk result (λ told. step_at s told self.new ≡ opens_walk (table (rows_at (current_state s (machine_at s self.old)) rel.0)) self.old.operands (machine_at s self.old)) }
+    {
+        let newest = self.changes.len();
+        self.walks.push(Walk::over(self.alloc, rel, newest))?;
+        self.at += 1;
+        Ok(Told::Quiet)
+    }
+
+    /// Executes an instruction other than one that names a relation.
+    pub(crate) fn act(
         &mut self,
         instr: &Instr,
         code: &Code,
@@ -105,7 +149,7 @@ impl Running {
     ) -> Result<Told, AllocError>
         requires next { self.old.at + 1 < 2 ^ 64 }
         requires no_hosts { hosts.now ≡ [] }
-        ensures { IfOk result (λ told. step_of told self.new ≡ machine.act code.now relations.now (specs_of hosts.now) (Some instr.now) (state_over base.now.state commits.now) self.old) }
+        ensures { let s = state_over base.now.state commits.now in IfOk result (λ told. step_at s told self.new ≡ machine.act code.now relations.now (specs_of hosts.now) (Some instr.now) s (machine_at s self.old)) }
     {
         match instr {
             Instr::Push(constant) => self.push(constant),
@@ -117,10 +161,10 @@ impl Running {
             Instr::Jump(a) => self.jump(code, *a),
             Instr::Unless(a) => self.unless(code, *a),
             Instr::Back(a) => self.back(code, *a),
-            Instr::Enter(at) => self.enter(relations, *at),
-            Instr::Leave => self.leave(),
+            Instr::Enter(at) => self.enter(relations, base, commits, *at),
+            Instr::Leave => self.leave(base, commits),
             Instr::Walk => self.open_walk(),
-            Instr::Next(i, a) => self.next(code, *i, *a),
+            Instr::Next(i, a) => self.next(code, base, commits, *i, *a),
             Instr::Keep => self.keep(),
             Instr::Gather => self.gather(),
             Instr::Yield => self.yield_set(),
@@ -129,33 +173,11 @@ impl Running {
             Instr::Ret => self.ret(),
             Instr::RetVal => self.ret_val(),
             Instr::Print(shape) => self.print(relations, shape),
-            Instr::Apply(at) => self.apply(relations, *at),
+            Instr::Apply(at) => self.apply(relations, base, commits, *at),
             Instr::Commit => self.commit(),
-            Instr::Rollback => self.rollback(),
+            Instr::Rollback => self.rollback(base, commits),
             Instr::Assert(at) => self.claim(*at),
             Instr::Halt => Ok(Told::Ended(End::Done)),
-        }
-    }
-
-    /// Executes the instruction at hand.
-    #[tactic(auto, using(crate::proofs::Nearing::here_within))]
-    pub(crate) fn one(
-        &mut self,
-        code: &Code,
-        relations: &[RelDecl],
-        base: &Base,
-        commits: &[Delta],
-        hosts: &HostTable,
-    ) -> Result<Told, AllocError>
-        requires { hosts.now ≡ [] }
-        ensures steps { IfOk result (λ told. step_of told self.new ≡ code_step code.now relations.now (specs_of hosts.now) (state_over base.now.state commits.now) self.old) }
-        ensures nearer { Forward code.now → IfOk result (TellsNearer (length code.now.instrs) self.old self.new) }
-    {
-        // for the proof alone: addresses of code are below 2^64 - 1
-        let _len = code.instrs.len();
-        match code.instrs.get(self.at) {
-            None => Ok(Told::Ended(End::Stuck)),
-            Some(instr) => self.act(instr, code, relations, base, commits, hosts),
         }
     }
 }

@@ -114,12 +114,12 @@ module _ (code : Code) (rels : List RelDecl) (hosts : Hosts) (db : Database) (tu
     pub works : m.status ≡ Working
     pub code_is : m.code ≡ code
     pub rels_are : m.relations ≡ rels
-    pub goes_on : (j : ℕ) → code_at code rels db.state hosts turns (steps + j) ≡ exec_code code rels hosts j (state_after db.state events) m.state events
+    pub goes_on : (j : ℕ) → code_at code rels db.state hosts turns (steps + j) ≡ exec_code code rels hosts j (state_after db.state events) (machine_over (state_after db.state events) m) events
 
   -- from there it made a step, and told this
   pub record Steps (events : List Event) (m new : Standing) (told : machine_event.Event) : Type 0 where
     pub at : IsAt events m
-    pub step : event_over (state_after db.state events) told new ≡ code_step m.code m.relations hosts (state_after db.state events) m.state
+    pub step : event_over (state_after db.state events) told new ≡ code_step m.code m.relations hosts (state_after db.state events) (machine_over (state_after db.state events) m)
     pub status : new.status ≡ status_by told
     pub code_kept : new.code ≡ m.code
     pub rels_kept : new.relations ≡ m.relations
@@ -137,24 +137,24 @@ module _ (code : Code) (rels : List RelDecl) (hosts : Hosts) (db : Database) (tu
       → event_over given e new ≡ code_step m.code m.relations hosts given (machine_over given m)
       → new.status ≡ status_by e → new.code ≡ m.code → new.relations ≡ m.relations → Steps events m new told
   stepped events m new given e told at same event is status code_kept rels_kept =
-      let first : event_over given told new ≡ code_step m.code m.relations hosts given m.state =
-      subst (λ (x : machine_event.Event). event_over given x new ≡ code_step m.code m.relations hosts given m.state) event is in
+      let first : event_over given told new ≡ code_step m.code m.relations hosts given (machine_over given m) =
+      subst (λ (x : machine_event.Event). event_over given x new ≡ code_step m.code m.relations hosts given (machine_over given m)) event is in
       record {
         at = at;
-        step = subst (λ (s : State). event_over s told new ≡ code_step m.code m.relations hosts s m.state) same first;
+        step = subst (λ (s : State). event_over s told new ≡ code_step m.code m.relations hosts s (machine_over s m)) same first;
         status = status ∙ ap status_by event;
         code_kept = code_kept;
         rels_kept = rels_kept;
       }
 
   -- where the code stands a step later
-  further : (events : List Event) (m : Standing) (at : IsAt events m) (t : Step) → t ≡ code_step m.code m.relations hosts (state_after db.state events) m.state
+  further : (events : List Event) (m : Standing) (at : IsAt events m) (t : Step) → t ≡ code_step m.code m.relations hosts (state_after db.state events) (machine_over (state_after db.state events) m)
       → (j : ℕ) → code_at code rels db.state hosts turns ((at.steps + 1) + j) ≡ after_step t (state_after db.state events) events (λ s m es. exec_code code rels hosts j s m es)
   further events m at t is j =
       let more : (at.steps + 1) + j ≡ at.steps + suc j = omega arith in
       let here = state_after db.state events in
-      let own : code_step code rels hosts here m.state ≡ t =
-      ap (λ (c : Code). code_step c rels hosts here m.state) (sym at.code_is) ∙ ap (λ (r : List RelDecl). code_step m.code r hosts here m.state) (sym at.rels_are) ∙ sym is in
+      let own : code_step code rels hosts here (machine_over here m) ≡ t =
+      ap (λ (c : Code). code_step c rels hosts here (machine_over here m)) (sym at.code_is) ∙ ap (λ (r : List RelDecl). code_step m.code r hosts here (machine_over here m)) (sym at.rels_are) ∙ sym is in
       ap (λ (k : ℕ). code_at code rels db.state hosts turns k) more ∙ at.goes_on (suc j)
       ∙ ap (λ (t : Step). after_step t here events (λ s m es. exec_code code rels hosts j s m es)) own
 
@@ -164,7 +164,7 @@ module _ (code : Code) (rels : List RelDecl) (hosts : Hosts) (db : Database) (tu
     works = to.status;
     code_is = to.code_kept ∙ to.at.code_is;
     rels_are = to.rels_kept ∙ to.at.rels_are;
-    goes_on = further events m to.at (quiet new.state) to.step;
+    goes_on = further events m to.at (quiet (machine_over (state_after db.state events) new)) to.step;
   }
 
   pub at_out : (events : List Event) (m new : Standing) (line : List ℕ) → Steps events m new (Out line) → IsAt (events ++ out line ∷ []) new
@@ -173,15 +173,15 @@ module _ (code : Code) (rels : List RelDecl) (hosts : Hosts) (db : Database) (tu
     works = to.status;
     code_is = to.code_kept ∙ to.at.code_is;
     rels_are = to.rels_kept ∙ to.at.rels_are;
-    goes_on = λ j. further events m to.at (says line new.state) to.step j
-        ∙ ap (λ (s : State). exec_code code rels hosts j s new.state (events ++ out line ∷ [])) (sym (state_after-append db.state events (out line ∷ [])));
+    goes_on = λ j. further events m to.at (says line (machine_over (state_after db.state events) new)) to.step j
+        ∙ ap (λ (s : State). exec_code code rels hosts j s (machine_over s new) (events ++ out line ∷ [])) (sym (state_after-append db.state events (out line ∷ [])));
   }
 
   -- the events of a commit
   abbrev pub committing : (events : List Event) → Delta → List Event
   committing events d = store (apply_of (state_after db.state events) d) d ∷ out (commit_text (suc (stores events))) ∷ []
 
-  pub at_commit : (events : List Event) (m new taken : Standing) (d : Delta) → Steps events m new Commit → commit_over (state_after db.state events) new.waits new ≡ commits d new.state → taken ≡ record new { waits = None }
+  pub at_commit : (events : List Event) (m new taken : Standing) (d : Delta) → Steps events m new Commit → commit_over (state_after db.state events) new.waits new ≡ commits d (machine_over (apply_of (state_after db.state events) d) new) → taken ≡ record new { waits = None }
       → IsAt (events ++ committing events d) taken
   at_commit events m new taken d to waits is =
       subst (λ (x : Standing). IsAt (events ++ committing events d) x) (sym is) (record {
@@ -189,8 +189,8 @@ module _ (code : Code) (rels : List RelDecl) (hosts : Hosts) (db : Database) (tu
         works = to.status;
         code_is = to.code_kept ∙ to.at.code_is;
         rels_are = to.rels_kept ∙ to.at.rels_are;
-        goes_on = λ j. further events m to.at (commits d new.state) (sym waits ∙ to.step) j
-            ∙ ap (λ (s : State). exec_code code rels hosts j s new.state (events ++ committing events d)) (sym (state_after-append db.state events (committing events d)));
+        goes_on = λ j. further events m to.at (commits d (machine_over (apply_of (state_after db.state events) d) new)) (sym waits ∙ to.step) j
+            ∙ ap (λ (s : State). exec_code code rels hosts j s (machine_over s new) (events ++ committing events d)) (sym (state_after-append db.state events (committing events d)));
       })
 
   -- ---- what a step adds
@@ -200,17 +200,17 @@ module _ (code : Code) (rels : List RelDecl) (hosts : Hosts) (db : Database) (tu
     pub at : IsAt events m
     pub now : events_in (code_at code rels db.state hosts turns (at.steps + 1)) ≡ events ++ more
 
-  events_next : (events : List Event) (m : Standing) (at : IsAt events m) (t : Step) → t ≡ code_step m.code m.relations hosts (state_after db.state events) m.state
+  events_next : (events : List Event) (m : Standing) (at : IsAt events m) (t : Step) → t ≡ code_step m.code m.relations hosts (state_after db.state events) (machine_over (state_after db.state events) m)
       → events_in (code_at code rels db.state hosts turns (at.steps + 1)) ≡ events_in (after_step t (state_after db.state events) events (λ s m es. still s m es))
   events_next events m at t is =
       let none : at.steps + 1 ≡ (at.steps + 1) + 0 = omega arith in
       ap (λ (k : ℕ). events_in (code_at code rels db.state hosts turns k)) none ∙ ap events_in (further events m at t is 0)
 
   pub adds_out : (events : List Event) (m new : Standing) (line : List ℕ) → Steps events m new (Out line) → Adds events (out line ∷ []) m
-  adds_out events m new line to = record { at = to.at; now = events_next events m to.at (says line new.state) to.step }
+  adds_out events m new line to = record { at = to.at; now = events_next events m to.at (says line (machine_over (state_after db.state events) new)) to.step }
 
-  pub adds_commit : (events : List Event) (m new : Standing) (d : Delta) → Steps events m new Commit → commit_over (state_after db.state events) new.waits new ≡ commits d new.state → Adds events (committing events d) m
-  adds_commit events m new d to waits = record { at = to.at; now = events_next events m to.at (commits d new.state) (sym waits ∙ to.step) }
+  pub adds_commit : (events : List Event) (m new : Standing) (d : Delta) → Steps events m new Commit → commit_over (state_after db.state events) new.waits new ≡ commits d (machine_over (apply_of (state_after db.state events) d) new) → Adds events (committing events d) m
+  adds_commit events m new d to waits = record { at = to.at; now = events_next events m to.at (commits d (machine_over (apply_of (state_after db.state events) d) new)) (sym waits ∙ to.step) }
 
   pub adds_end : (events : List Event) (m new : Standing) (end : End) → Steps events m new (Ended end) → Adds events (ending_of end) m
   adds_end events m new end to = record { at = to.at; now = events_next events m to.at (ends (stop_of end)) to.step ∙ line_behind events (stop_of end) }

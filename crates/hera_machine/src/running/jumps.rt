@@ -1,7 +1,9 @@
 //! Jumps: an address past the code's end leaves the run stuck, and a jump back spends a turn.
 ghost use Rattle.std.specs.Prelude.{◌≡◌, ◌+◌, ◌<◌, ◌^◌, IfOk};
+ghost use Rattle.hera_meaning.specs.Deltas.{State};
 ghost use Rattle.hera_code.specs.Machine.{quiet, on_with, on_top, needs_address, goes_to, spends, by_bool};
-ghost use Rattle.hera_machine.specs.Telling.{step_of};
+ghost use Rattle.hera_machine.specs.Telling.{step_at};
+ghost use Rattle.hera_machine.specs.Working.{machine_at};
 
 use super::{Running, stuck};
 use crate::events::{End, Told};
@@ -11,7 +13,7 @@ use std::alloc::AllocError;
 
 impl Running {
     pub(super) fn jump(&mut self, code: &Code, a: u32) -> Result<Told, AllocError>
-        ensures { IfOk result (λ told. step_of told self.new ≡ goes_to code.now a self.old) }
+        ensures { (s : State) → IfOk result (λ told. step_at s told self.new ≡ goes_to code.now a (machine_at s self.old)) }
     {
         if (a as usize) >= code.instrs.len() {
             return stuck();
@@ -22,7 +24,7 @@ impl Running {
 
     pub(super) fn unless(&mut self, code: &Code, a: u32) -> Result<Told, AllocError>
         requires { self.old.at + 1 < 2 ^ 64 }
-        ensures { IfOk result (λ told. step_of told self.new ≡ on_top self.old.operands (λ v vs. needs_address code.now a (by_bool v (quiet (on_with vs self.old)) (quiet (record self.old { at = a; operands = vs }))))) }
+        ensures { (s : State) → IfOk result (λ told. step_at s told self.new ≡ on_top (machine_at s self.old).operands (λ v vs. needs_address code.now a (by_bool v (quiet (on_with vs (machine_at s self.old))) (quiet (record (machine_at s self.old) { at = a; operands = vs }))))) }
     {
         let Some(v) = self.operands.pop() else {
             return stuck();
@@ -44,7 +46,7 @@ impl Running {
     }
 
     pub(super) fn back(&mut self, code: &Code, a: u32) -> Result<Told, AllocError>
-        ensures { IfOk result (λ told. step_of told self.new ≡ needs_address code.now a (spends self.old.turns (λ n. quiet (record self.old { at = a; turns = n })))) }
+        ensures { (s : State) → IfOk result (λ told. step_at s told self.new ≡ needs_address code.now a (spends (machine_at s self.old).turns (λ n. quiet (record (machine_at s self.old) { at = a; turns = n })))) }
     {
         if (a as usize) >= code.instrs.len() {
             return stuck();

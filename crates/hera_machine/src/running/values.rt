@@ -1,5 +1,6 @@
 //! Instructions on operands and slots: they push values, compute, claim and print.
 ghost use Rattle.std.specs.Prelude.{◌≡◌, ◌+◌, ◌<◌, ◌^◌, [], Some, IfOk, slice_get};
+ghost use Rattle.hera_meaning.specs.Deltas.{State};
 ghost use Rattle.hera_meaning.specs.Hosts.{host_at};
 ghost use Rattle.hera_meaning.specs.Fits.{arity};
 ghost use Rattle.hera_meaning.specs.Worlds.{set_local};
@@ -8,12 +9,12 @@ ghost use Rattle.hera_meaning.specs.Run.{stopped};
 ghost use Rattle.hera_host.specs.Tables.{specs_of};
 ghost use Rattle.hera_code.specs.Machine.{quiet, ends, ended, on_with, on_top, on_some, pushes, needs_slot, by_bool, prints, answers, asks_host, rows_value, current_state};
 ghost use Rattle.hera_machine.specs.Over.{state_over};
-ghost use Rattle.hera_machine.specs.Telling.{step_of};
+ghost use Rattle.hera_machine.specs.Telling.{step_at};
+ghost use Rattle.hera_machine.specs.Working.{machine_at};
 
 use super::{Running, stuck};
 use crate::events::{End, Told};
-use crate::relations::rel_rows;
-use delta_atoms::{Delta, Value};
+use delta_atoms::Delta;
 use hera_frames::{bool_of, const_of, let_go};
 use hera_host::HostTable;
 use hera_meaning::{Const, Op, RelDecl, RelId, Shape, TrapName};
@@ -25,7 +26,7 @@ use std::alloc::AllocError;
 impl Running {
     pub(super) fn push(&mut self, constant: &Const) -> Result<Told, AllocError>
         requires { self.old.at + 1 < 2 ^ 64 }
-        ensures { IfOk result (λ told. step_of told self.new ≡ pushes (Some (const_value constant.now)) self.old) }
+        ensures { (s : State) → IfOk result (λ told. step_at s told self.new ≡ pushes (Some (const_value constant.now)) (machine_at s self.old)) }
     {
         self.operands.push(const_of(self.alloc, constant)?)?;
         self.at += 1;
@@ -34,7 +35,7 @@ impl Running {
 
     pub(super) fn load(&mut self, i: u32) -> Result<Told, AllocError>
         requires { self.old.at + 1 < 2 ^ 64 }
-        ensures { IfOk result (λ told. step_of told self.new ≡ pushes (slice_get self.old.locals i) self.old) }
+        ensures { (s : State) → IfOk result (λ told. step_at s told self.new ≡ pushes (slice_get (machine_at s self.old).locals i) (machine_at s self.old)) }
     {
         let Some(v) = self.locals.copy_of(i as usize)? else {
             return stuck();
@@ -46,7 +47,7 @@ impl Running {
 
     pub(super) fn store(&mut self, i: u32) -> Result<Told, AllocError>
         requires { self.old.at + 1 < 2 ^ 64 }
-        ensures { IfOk result (λ told. step_of told self.new ≡ on_top self.old.operands (λ v vs. needs_slot i self.old (quiet (record self.old { at = self.old.at + 1; operands = vs; locals = set_local self.old.locals i v })))) }
+        ensures { (s : State) → IfOk result (λ told. step_at s told self.new ≡ on_top (machine_at s self.old).operands (λ v vs. needs_slot i (machine_at s self.old) (quiet (record (machine_at s self.old) { at = (machine_at s self.old).at + 1; operands = vs; locals = set_local (machine_at s self.old).locals i v })))) }
     {
         let Some(v) = self.operands.pop() else {
             return stuck();
@@ -58,26 +59,26 @@ impl Running {
         Ok(Told::Quiet)
     }
 
-    pub(super) fn rel(
+    pub(crate) fn rel(
         &mut self,
         base: &Base,
         commits: &[Delta],
         r: RelId,
     ) -> Result<Told, AllocError>
         requires { self.old.at + 1 < 2 ^ 64 }
-        ensures { IfOk result (λ told. step_of told self.new ≡ pushes (rows_value (slice_get (current_state (state_over base.now.state commits.now) self.old) r.0)) self.old) }
+        ensures { let s = state_over base.now.state commits.now in IfOk result (λ told. step_at s told self.new ≡ pushes (rows_value (slice_get (current_state s (machine_at s self.old)) r.0)) (machine_at s self.old)) }
     {
-        let Some(rows) = rel_rows(self.alloc, base, commits, &self.pending, &self.layers, r)? else {
+        if usize::from(r.0) >= base.catalogue().len() {
             return stuck();
-        };
-        self.operands.push(Value::Rel(rows))?;
+        }
+        self.push_rel(base, commits, r)?;
         self.at += 1;
         Ok(Told::Quiet)
     }
 
     pub(super) fn prim(&mut self, op: &Op, at: u32) -> Result<Told, AllocError>
         requires { self.old.at + 1 < 2 ^ 64 }
-        ensures { IfOk result (λ told. step_of told self.new ≡ on_some (arity op.now) self.old.operands (λ args vs. answers at op.now args vs self.old)) }
+        ensures { (s : State) → IfOk result (λ told. step_at s told self.new ≡ on_some (arity op.now) (machine_at s self.old).operands (λ args vs. answers at op.now args vs (machine_at s self.old))) }
     {
         let Some(args) = self.operands.take(self.alloc, arity(op))? else {
             return stuck();
@@ -99,7 +100,7 @@ impl Running {
     /// Asks a host function. The table has none, so the run is stuck.
     pub(super) fn host(&mut self, hosts: &HostTable, h: u32) -> Result<Told, AllocError>
         requires { hosts.now ≡ [] }
-        ensures { IfOk result (λ told. step_of told self.new ≡ on_top self.old.operands (λ v vs. asks_host (host_at (specs_of hosts.now) h) v vs self.old)) }
+        ensures { (s : State) → IfOk result (λ told. step_at s told self.new ≡ on_top (machine_at s self.old).operands (λ v vs. asks_host (host_at (specs_of hosts.now) h) v vs (machine_at s self.old))) }
     {
         // named for the contract alone, which says of them that no host has this number
         let _hosts = hosts;
@@ -113,7 +114,7 @@ impl Running {
 
     pub(super) fn claim(&mut self, at: u32) -> Result<Told, AllocError>
         requires { self.old.at + 1 < 2 ^ 64 }
-        ensures { IfOk result (λ told. step_of told self.new ≡ on_top self.old.operands (λ v vs. by_bool v (quiet (on_with vs self.old)) (ends (ended (stopped TrapName.Assert at))))) }
+        ensures { (s : State) → IfOk result (λ told. step_at s told self.new ≡ on_top (machine_at s self.old).operands (λ v vs. by_bool v (quiet (on_with vs (machine_at s self.old))) (ends (ended (stopped TrapName.Assert at))))) }
     {
         let Some(v) = self.operands.pop() else {
             return stuck();
@@ -130,7 +131,7 @@ impl Running {
 
     pub(super) fn print(&mut self, relations: &[RelDecl], shape: &Shape) -> Result<Told, AllocError>
         requires { self.old.at + 1 < 2 ^ 64 }
-        ensures { IfOk result (λ told. step_of told self.new ≡ on_top self.old.operands (λ v vs. prints relations.now v vs self.old shape.now)) }
+        ensures { (s : State) → IfOk result (λ told. step_at s told self.new ≡ on_top (machine_at s self.old).operands (λ v vs. prints relations.now v vs (machine_at s self.old) shape.now)) }
     {
         let Some(v) = self.operands.pop() else {
             return stuck();

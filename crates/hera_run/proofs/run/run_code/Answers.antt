@@ -2,7 +2,7 @@ use Rattle.std.proofs.Common.{◌≡◌, ◌+◌, ◌-◌, ◌++◌, ◌∷◌, 
 use Rattle.std.proofs.lemmas.Result.{MatchResult-from_err, err_from_is_err_and}
 use Rattle.std.proofs.KnownBytes.{Appends-nil}
 use Rattle.std.specs.Io.KnownBytes.{Appends}
-use Rattle.hera_meaning.specs.Deltas.{Delta}
+use Rattle.hera_meaning.specs.Deltas.{Delta, apply_of}
 use Rattle.hera_meaning.specs.Worlds.{out}
 use Rattle.hera_meaning.specs.Run.{printed, state_after}
 use Rattle.hera_host.specs.Tables.{specs_of}
@@ -10,7 +10,7 @@ use Rattle.hera_code.specs.Machine.{commits}
 use Rattle.hera_code.specs.Reached.{stores}
 use Rattle.hera_machine.specs.declared.events.Event.TheVariants as events
 use Rattle.hera_machine.specs.Over.{state_over}
-use Rattle.hera_machine.specs.Standing.{Standing, commit_over, WaitsBy}
+use Rattle.hera_machine.specs.Standing.{Standing, machine_over, commit_over, WaitsBy}
 use Rattle.rel_pages.specs.Stored.{Stored}
 use Rattle.hera_volume.specs.Time.{LeavesOnly}
 use Rattle.hera_volume.proofs.Moments.{leaves-none, leaves-on}
@@ -155,7 +155,7 @@ commit-requires-clause-proper g c =
     let same = state_read old db (state_after db.state i.events) c.base.result.now c.commits.result.now c.base.ensures.base c.commits.ensures.commits i.carried.stored in
     let to = stepped c.args.code.now c.args.relations.now (specs_of c.args.hosts.now) db c.args.turns i.events m n (state_over c.base.result.now.state c.commits.result.now) c.in_ok-step.field-0 (events.Commit) i.at same c.in-Commit.is (ens.steps i.at.works) ens.status ens.code ens.relations in
     let d = c.take_pending-delta.result in
-    let waits : commit_over (state_after db.state i.events) n.waits n ≡ commits d n.state = ap (λ o. commit_over (state_after db.state i.events) o n) c.take_pending-delta.ensures.delta in
+    let waits : commit_over (state_after db.state i.events) n.waits n ≡ commits d (machine_over (apply_of (state_after db.state i.events) d) n) = ap (λ o. commit_over (state_after db.state i.events) o n) c.take_pending-delta.ensures.delta in
     let adds = adds_commit c.args.code.now c.args.relations.now (specs_of c.args.hosts.now) db c.args.turns i.events m n d to waits in
     proper_commit c.args.code.now c.args.relations.now (specs_of c.args.hosts.now) db c.args.turns i.events m d old.base.catalogue adds (ap (λ (b : Stored). b.catalogue) i.base) c.requires.proper
 
@@ -174,7 +174,7 @@ steps-preserved g c =
     let same = state_read old db (state_after db.state i.events) c.base.result.now c.commits.result.now c.base.ensures.base c.commits.ensures.commits i.carried.stored in
     let to = stepped c.args.code.now c.args.relations.now (specs_of c.args.hosts.now) db c.args.turns i.events m n (state_over c.base.result.now.state c.commits.result.now) c.in_ok-step.field-0 (events.Commit) i.at same c.in-Commit.is (ens.steps i.at.works) ens.status ens.code ens.relations in
     let d = c.take_pending-delta.result in
-    let waits : commit_over (state_after db.state i.events) n.waits n ≡ commits d n.state = ap (λ o. commit_over (state_after db.state i.events) o n) c.take_pending-delta.ensures.delta in
+    let waits : commit_over (state_after db.state i.events) n.waits n ≡ commits d (machine_over (apply_of (state_after db.state i.events) d) n) = ap (λ o. commit_over (state_after db.state i.events) o n) c.take_pending-delta.ensures.delta in
     let adds = adds_commit c.args.code.now c.args.relations.now (specs_of c.args.hosts.now) db c.args.turns i.events m n d to waits in
     let number = length c.commits-in-Commit.result.now - length c.commits-opened.result.now + 1 in
     let now_long : length c.commits-in-Commit.result.now ≡ length old.commits = ap (λ (l : List Delta). length l) c.commits-in-Commit.ensures.commits in
@@ -210,7 +210,7 @@ returns-in_err-commit-in-Commit-clause-cut g c =
     let same = state_read old db (state_after db.state i.events) c.base.result.now c.commits.result.now c.base.ensures.base c.commits.ensures.commits i.carried.stored in
     let to = stepped c.args.code.now c.args.relations.now (specs_of c.args.hosts.now) db c.args.turns i.events m n (state_over c.base.result.now.state c.commits.result.now) c.in_ok-step.field-0 (events.Commit) i.at same c.in-Commit.is (ens.steps i.at.works) ens.status ens.code ens.relations in
     let d = c.take_pending-delta.result in
-    let waits : commit_over (state_after db.state i.events) n.waits n ≡ commits d n.state = ap (λ o. commit_over (state_after db.state i.events) o n) c.take_pending-delta.ensures.delta in
+    let waits : commit_over (state_after db.state i.events) n.waits n ≡ commits d (machine_over (apply_of (state_after db.state i.events) d) n) = ap (λ o. commit_over (state_after db.state i.events) o n) c.take_pending-delta.ensures.delta in
     let adds = adds_commit c.args.code.now c.args.relations.now (specs_of c.args.hosts.now) db c.args.turns i.events m n d to waits in
     let number = length c.commits-in-Commit.result.now - length c.commits-opened.result.now + 1 in
     let now_long : length c.commits-in-Commit.result.now ≡ length old.commits = ap (λ (l : List Delta). length l) c.commits-in-Commit.ensures.commits in
@@ -236,7 +236,7 @@ returns-in_err-commit-in-Commit-clause-any_moment g c =
     let same = state_read old db (state_after db.state i.events) c.base.result.now c.commits.result.now c.base.ensures.base c.commits.ensures.commits i.carried.stored in
     let to = stepped c.args.code.now c.args.relations.now (specs_of c.args.hosts.now) db c.args.turns i.events m n (state_over c.base.result.now.state c.commits.result.now) c.in_ok-step.field-0 (events.Commit) i.at same c.in-Commit.is (ens.steps i.at.works) ens.status ens.code ens.relations in
     let d = c.take_pending-delta.result in
-    let waits : commit_over (state_after db.state i.events) n.waits n ≡ commits d n.state = ap (λ o. commit_over (state_after db.state i.events) o n) c.take_pending-delta.ensures.delta in
+    let waits : commit_over (state_after db.state i.events) n.waits n ≡ commits d (machine_over (apply_of (state_after db.state i.events) d) n) = ap (λ o. commit_over (state_after db.state i.events) o n) c.take_pending-delta.ensures.delta in
     let adds = adds_commit c.args.code.now c.args.relations.now (specs_of c.args.hosts.now) db c.args.turns i.events m n d to waits in
     let number = length c.commits-in-Commit.result.now - length c.commits-opened.result.now + 1 in
     let now_long : length c.commits-in-Commit.result.now ≡ length old.commits = ap (λ (l : List Delta). length l) c.commits-in-Commit.ensures.commits in
@@ -261,7 +261,7 @@ returns-in_err-commit-in-Commit-clause-full g c =
     let same = state_read old db (state_after db.state i.events) c.base.result.now c.commits.result.now c.base.ensures.base c.commits.ensures.commits i.carried.stored in
     let to = stepped c.args.code.now c.args.relations.now (specs_of c.args.hosts.now) db c.args.turns i.events m n (state_over c.base.result.now.state c.commits.result.now) c.in_ok-step.field-0 (events.Commit) i.at same c.in-Commit.is (ens.steps i.at.works) ens.status ens.code ens.relations in
     let d = c.take_pending-delta.result in
-    let waits : commit_over (state_after db.state i.events) n.waits n ≡ commits d n.state = ap (λ o. commit_over (state_after db.state i.events) o n) c.take_pending-delta.ensures.delta in
+    let waits : commit_over (state_after db.state i.events) n.waits n ≡ commits d (machine_over (apply_of (state_after db.state i.events) d) n) = ap (λ o. commit_over (state_after db.state i.events) o n) c.take_pending-delta.ensures.delta in
     let adds = adds_commit c.args.code.now c.args.relations.now (specs_of c.args.hosts.now) db c.args.turns i.events m n d to waits in
     let q = err_from_is_err_and c.from_residual-in_err-commit-in-Commit.result c.from_residual-in_err-commit-in-Commit.ensures.1 in
     rw (q.1, q.2)

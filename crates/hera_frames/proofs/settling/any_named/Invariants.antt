@@ -1,0 +1,6 @@
+use Rattle.std.proofs.Common.{take}
+use Rattle.hera_frames.specs.Walking.{AreGiven}
+use Rattle.hera_frames.proofs.settling.any_named.Given as goal
+
+abbrev pub invariant-loop-walk : goal.invariant-loop-walk
+invariant-loop-walk l = AreGiven (take l.walk-index l.walk-items)
