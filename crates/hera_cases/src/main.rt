@@ -5,80 +5,25 @@
 //! its script is that file, and for the word `-` the lines up to the next case, joined by line feeds. For each case the
 //! program prints that line, what the call emitted, and a line `-- STATUS`. Cases one behind another whose words name the
 //! same folder have the same files, which are empty at the first of them.
+//!
+//! A line of a case that begins with `=> ` is none of its script. `=> FILE HEX` gives the file `select`, `left` or `right`
+//! of the folder these bytes before the call, and `=> cut FILE LENGTH` cuts it. `=> FAULT FIRST..LAST FILL` runs the case once for each number, LAST left
+//! out, over a copy of the files, in place of a run over the files themselves: with `fail` the call on a file with that
+//! number fails, with `stop` all fails from that call on, and with `emit` an emission takes one byte and that with this
+//! number fails. It prints what was emitted, the status, and then what `dump` prints of the files after a crash, in which each
+//! byte that may be any is FILL; behind `-- from NUMBER on`, and only where that is something else than for the number before.
 #![tactic(auto)]
 
-ghost use Rattle.std.specs.Prelude.{◌≡◌, IfOk, length};
+mod case;
+mod session;
+mod trials;
 
-use hera_causes::MemSource;
-use hera_host::HostTable;
-use hera_top::{files_of, folder_of, hera};
-use hera_volume::MemOutside;
-use std::alloc::{AllocError, Global};
-use std::fs::{self, Files};
+use crate::case::Case;
+use crate::session::Session;
+use crate::trials::Trials;
+use hera_top::{files_of, folder_of};
+use std::fs::Files;
 use std::io::{self, BufRead, BufReader};
-
-/// A name with a command line, and a script.
-#[derive(Drop)]
-struct Case {
-    heading: String,
-    script: Vec<u8>,
-}
-
-impl Case {
-    /// A case of this heading, with no script yet.
-    fn new(alloc: Global, heading: &str) -> Result<Case, AllocError> {
-        Ok(Case {
-            heading: String::from_str(alloc, heading)?,
-            script: Vec::new(alloc),
-        })
-    }
-
-    /// Appends a line to the script.
-    fn add_line(&mut self, line: &str) -> Result<(), AllocError> {
-        if !self.script.is_empty() {
-            self.script.push(b'\n')?;
-        }
-        self.script.extend_from_slice(line.as_bytes())?;
-        Ok(())
-    }
-
-    /// The words of the command line, which stand behind the name.
-    fn words(&self, alloc: Global) -> Result<Vec<String>, AllocError> {
-        let mut words = Vec::new(alloc);
-        if let Some((_, line)) = self.heading.split_once(": ") {
-            for word in line.split(' ') {
-                words.push(String::from_str(alloc, word)?)?;
-            }
-        }
-        Ok(words)
-    }
-
-    /// Takes the script from a file, but not for the word `-`.
-    fn load<R: Files + AllocGlobal>(&mut self, rt: &R, file: &str) -> io::Result<()> {
-        if file != "-" {
-            let text = fs::read_to_string(rt, file)?;
-            self.script.extend_from_slice(text.as_bytes())?;
-        }
-        Ok(())
-    }
-}
-
-/// A folder, and an outside whose files it has.
-#[derive(Drop)]
-struct Session {
-    folder: String,
-    outside: MemOutside,
-}
-
-impl Session {
-    /// A folder of empty files.
-    fn new(alloc: Global, folder: &str) -> Result<Session, AllocError> {
-        Ok(Session {
-            folder: String::from_str(alloc, folder)?,
-            outside: MemOutside::new(alloc, Vec::new(alloc), None, Vec::new(alloc)),
-        })
-    }
-}
 
 /// The folder that the words name, or an empty text.
 fn folder_name(words: &Vec<String>) -> &str {
@@ -88,15 +33,45 @@ fn folder_name(words: &Vec<String>) -> &str {
     }
 }
 
-/// As many sources of the script.
-fn sources_of(alloc: Global, script: &[u8], count: usize) -> Result<Vec<MemSource>, AllocError>
-    ensures { IfOk result (λ sources. length sources.items ≡ count) }
-{
-    let mut sources = Vec::new(alloc);
-    for _ in 0..count {
-        sources.push(MemSource::new(script.to_vec(alloc)?, Vec::new(alloc)))?;
+/// Runs the case once for each trial, and prints each outcome that differs from the one before it.
+fn try_all<R: Print + AllocGlobal>(
+    rt: &R,
+    case: &Case,
+    words: &Vec<String>,
+    session: &Session,
+    trials: Trials,
+) -> io::Result<()> {
+    let mut last = Vec::new(rt.alloc());
+    for number in trials.first..trials.last {
+        let outcome = session.call_with_fault(rt.alloc(), words, &case.script, trials, number)?;
+        if outcome != last {
+            println!(rt; "-- from {number} on")?;
+            rt.write_all(&outcome)?;
+            last = outcome;
+        }
     }
-    Ok(sources)
+    Ok(())
+}
+
+/// Does what the settings of the case ask for, and says whether one of them ran it.
+fn follow<R: Print + AllocGlobal>(
+    rt: &R,
+    case: &Case,
+    words: &Vec<String>,
+    session: &mut Session,
+) -> io::Result<bool> {
+    let mut ran = false;
+    for line in &case.settings {
+        match Trials::read(line.as_str()) {
+            Some(trials) => {
+                println!(rt; "=> {line}")?;
+                try_all(rt, case, words, session, trials)?;
+                ran = true;
+            }
+            None => session.set_file(rt.alloc(), line.as_str())?,
+        }
+    }
+    Ok(ran)
 }
 
 /// Runs the case, and prints its heading, what was emitted, and the status.
@@ -105,28 +80,18 @@ fn run<R: Files + Print + AllocGlobal>(
     mut case: Case,
     session: &mut Session,
 ) -> io::Result<()> {
-    let alloc = rt.alloc();
-    let words = case.words(alloc)?;
-    let folder = folder_name(&words);
-    if folder.is_empty() || folder != session.folder.as_str() {
-        *session = Session::new(alloc, folder)?;
-    }
+    let words = case.words(rt.alloc())?;
+    session.enter(rt.alloc(), folder_name(&words))?;
     let (first, last) = files_of(&words);
     for file in &words[first..last] {
         case.load(rt, file.as_str())?;
     }
-    let mut sources = sources_of(alloc, &case.script, last - first)?;
-    let before = session.outside.bytes().len();
-    let status = hera(
-        alloc,
-        &words,
-        &mut sources,
-        &mut session.outside,
-        &HostTable::new(alloc),
-    );
     println!(rt; "== {}", case.heading)?;
-    rt.write_all(session.outside.bytes().get(before..).unwrap_or(b""))?;
-    println!(rt; "-- {status}")
+    if follow(rt, &case, &words, session)? {
+        return Ok(());
+    }
+    let report = session.call(rt.alloc(), &words, &case.script)?;
+    rt.write_all(&report)
 }
 
 fn main(rt: HostRuntime) -> io::Result<()> {
@@ -143,7 +108,7 @@ fn main(rt: HostRuntime) -> io::Result<()> {
             }
             None => {
                 if let Some(case) = &mut current {
-                    case.add_line(&line)?;
+                    case.add_line(alloc, &line)?;
                 }
             }
         }

@@ -1,0 +1,155 @@
+ghost use Rattle.std.specs.Prelude.{◌≡◌, IfOk, length};
+
+use crate::trials::{Trials, write_file};
+use hera_causes::MemSource;
+use hera_host::HostTable;
+use hera_top::{files_of, hera};
+use hera_volume::{FileId, MemOutside};
+use std::alloc::{AllocError, Global};
+use std::io::{self, ErrorKind};
+
+/// A folder, and an outside whose files it has.
+#[derive(Drop)]
+pub(crate) struct Session {
+    folder: String,
+    outside: MemOutside,
+}
+
+impl Session {
+    /// A folder of empty files.
+    pub(crate) fn new(alloc: Global, folder: &str) -> Result<Session, AllocError> {
+        Ok(Session {
+            folder: String::from_str(alloc, folder)?,
+            outside: MemOutside::new(alloc, Vec::new(alloc), None, Vec::new(alloc)),
+        })
+    }
+
+    /// Goes on with the files of this folder, which are empty where it is another one or none.
+    pub(crate) fn enter(&mut self, alloc: Global, folder: &str) -> Result<(), AllocError> {
+        if folder.is_empty() || folder != self.folder.as_str() {
+            *self = Session::new(alloc, folder)?;
+        }
+        Ok(())
+    }
+
+    /// Calls with these words over the files.
+    pub(crate) fn call(
+        &mut self,
+        alloc: Global,
+        words: &Vec<String>,
+        script: &[u8],
+    ) -> Result<Vec<u8>, AllocError> {
+        report_of(alloc, words, script, &mut self.outside)
+    }
+
+    /// Gives a file the bytes of a line `FILE HEX`, or cuts it by one `cut FILE LENGTH`.
+    pub(crate) fn set_file(&mut self, alloc: Global, line: &str) -> io::Result<()> {
+        let (name, rest) = parted(line)?;
+        if name == "cut" {
+            return self.cut_file(alloc, rest);
+        }
+        let bytes = bytes_of(alloc, rest)?;
+        write_file(&mut self.outside, file_named(name)?, &bytes)
+    }
+
+    /// Cuts a file by a line `FILE LENGTH`.
+    fn cut_file(&mut self, alloc: Global, line: &str) -> io::Result<()> {
+        let (name, digits) = parted(line)?;
+        let file = file_named(name)?;
+        let Ok(length) = digits.parse::<usize>() else {
+            return Err(unread());
+        };
+        let bytes = self.outside.file(file).get(..length).unwrap_or(b"").to_vec(alloc)?;
+        write_file(&mut self.outside, file, &bytes)
+    }
+
+    /// Calls with these words over a copy of the files, in which what has this number goes wrong, and dumps what a crash
+    /// leaves.
+    pub(crate) fn call_with_fault(
+        &self,
+        alloc: Global,
+        words: &Vec<String>,
+        script: &[u8],
+        trials: Trials,
+        number: u64,
+    ) -> io::Result<Vec<u8>> {
+        let dump = words_in(alloc, &["dump", self.folder.as_str()])?;
+        let mut outside = trials.copy_of(alloc, &self.outside, number)?;
+        let mut report = report_of(alloc, words, script, &mut outside)?;
+        let found = report_of(alloc, &dump, b"", &mut outside.crash(trials.fill))?;
+        report.extend_from_slice(&found)?;
+        Ok(report)
+    }
+}
+
+/// A line of a case that asks for nothing that is known.
+fn unread() -> io::Error {
+    io::Error::from(ErrorKind::InvalidInput)
+}
+
+/// The first word of a line, and the rest.
+fn parted(line: &str) -> io::Result<(&str, &str)> {
+    match line.split_once(' ') {
+        Some(parts) => Ok(parts),
+        None => Err(unread()),
+    }
+}
+
+/// The file with this name.
+fn file_named(name: &str) -> io::Result<FileId> {
+    match name {
+        "select" => Ok(FileId::Select),
+        "left" => Ok(FileId::Left),
+        "right" => Ok(FileId::Right),
+        _ => Err(unread()),
+    }
+}
+
+/// These words.
+fn words_in(alloc: Global, line: &[&str]) -> Result<Vec<String>, AllocError> {
+    let mut words = Vec::new(alloc);
+    for word in line {
+        words.push(String::from_str(alloc, *word)?)?;
+    }
+    Ok(words)
+}
+
+/// The bytes of hexadecimal digits, with blanks between the bytes.
+fn bytes_of(alloc: Global, digits: &str) -> io::Result<Vec<u8>> {
+    let mut bytes = Vec::new(alloc);
+    for part in digits.split(' ') {
+        match hex::decode(alloc, part) {
+            Ok(some) => bytes.extend_from_slice(&some)?,
+            Err(_) => return Err(unread()),
+        }
+    }
+    Ok(bytes)
+}
+
+/// As many sources of the script.
+fn sources_of(alloc: Global, script: &[u8], count: usize) -> Result<Vec<MemSource>, AllocError>
+    ensures { IfOk result (λ sources. length sources.items ≡ count) }
+{
+    let mut sources = Vec::new(alloc);
+    for _ in 0..count {
+        sources.push(MemSource::new(script.to_vec(alloc)?, Vec::new(alloc)))?;
+    }
+    Ok(sources)
+}
+
+/// Calls with these words, and gives what was emitted and a line with the status.
+fn report_of(
+    alloc: Global,
+    words: &Vec<String>,
+    script: &[u8],
+    outside: &mut MemOutside,
+) -> Result<Vec<u8>, AllocError> {
+    let (first, last) = files_of(words);
+    let mut sources = sources_of(alloc, script, last - first)?;
+    let before = outside.bytes().len();
+    let status = hera(alloc, words, &mut sources, outside, &HostTable::new(alloc));
+    let mut report = outside.bytes().get(before..).unwrap_or(b"").to_vec(alloc)?;
+    let line = format!(in alloc; "-- {status}\n")?;
+    report.extend_from_slice(line.as_bytes())?;
+    Ok(report)
+}
