@@ -6,114 +6,27 @@ README's table of statuses has not: a crash, a hang, another status, or a text t
 
 Its parts:
   bytes    each byte of the 43-byte half of docs/FORMATS.md set to each of 256 values, and each cut of it, by `dump`
-  halves   databases well formed and damaged, by `dump`; what is printed is compared with bench/reader.py
-  scripts  random bytes, token soups, broken examples and phrases of the grammar, by `check`, `list`, `eval` and `run`
-  memory   each allocation of a command refused in turn, on a script, and on init, run and dump of a folder
-  crash    the same over files in memory, with a crash behind init and run (with --cases, the program of hera_cases)
+  halves   databases well formed and damaged, by `dump` and `checkpoint`
+  scripts  random bytes, token soups, broken examples and phrases of the grammar, by `check`, `list`, `eval`, `init`, `run`
+  memory   each allocation of a command refused in turn: on a script, and on init, run, dump and checkpoint of a folder
+  crash    the same over files in memory, with a crash behind each (with --cases, the built program of hera_cases)
+
+What `dump` prints is compared with bench/reader.py, which is written from the documents alone. The part halves, and the
+part scripts, take N seconds each, in N processes at a time.
 """
 
 import argparse
 import multiprocessing
 import os
 import random
-import re
-import shutil
 import signal
-import subprocess
 import sys
-import tempfile
 import time
 
+import memory
 import reader
+from common import Folder, Wrong, call, judge
 from inputs import Halves, Scripts
-
-HANG = 20
-REFUSALS = b"BadUtf8 BadToken TooDeep Syntax Unknown Repeated Mismatch Impure NoReturn TooMany".split()
-TRAPS = b"DivZero Overflow EmptyMin ApplyFail WhenFail ReadFail Assert".split()
-STATUSES = {
-    "check": {0, 3}, "list": {0, 3}, "eval": {0, 1, 3, 4}, "run": {0, 1, 3, 4, 5}, "init": {0, 3, 5},
-    "dump": {0, 5}, "checkpoint": {0, 5},
-}
-
-
-class Wrong(Exception):
-    """An answer that no table has."""
-
-
-def call(program, words, environment=None):
-    """Runs the program, and gives what it prints, what it complains of, and its status (negative for a signal)."""
-    try:
-        done = subprocess.run(
-            [program, *words], stdin=subprocess.DEVNULL, capture_output=True, timeout=HANG, close_fds=False, env=environment
-        )
-    except subprocess.TimeoutExpired:
-        return b"", b"", "hang"
-    return done.stdout, done.stderr, done.returncode
-
-
-def last_line(text):
-    return text[:-1].rsplit(b"\n", 1)[-1] if text.endswith(b"\n") else b""
-
-
-def judge(command, size, text, complaint, status):
-    """Whether the answer to a command, over a script of this size, is one that the tables have."""
-    if status not in STATUSES[command]:
-        return f"status {status}"
-    if complaint:
-        return f"it wrote {complaint[:200]!r} to standard error"
-    line = last_line(text)
-    if status == 3:
-        found = re.fullmatch(rb"refused (\w+) at (\d+)\n", text)
-        if not found or found[1] not in REFUSALS or int(found[2]) > size:
-            return f"status 3 with {text[:200]!r}"
-    if status == 1:
-        found = re.fullmatch(rb"trap (\w+) at (\d+)", line)
-        if not found or found[1] not in TRAPS or int(found[2]) >= size:
-            return f"status 1 with the last line {line!r}"
-    if status == 4 and line != b"turns spent":
-        return f"status 4 with the last line {line!r}"
-    if status == 5 and not re.fullmatch(
-        rb"no database\n|database exists\n|damaged (select|left|right) at \d+\n|differs [^\n]+\n", text
-    ):
-        return f"status 5 with {text[:200]!r}"
-    if command == "check" and status == 0 and text != b"accepted\n":
-        return f"status 0 with {text[:200]!r}"
-    return None
-
-
-class Folder:
-    """A folder of a database, and a script beside it, in memory where the system has a place for that."""
-
-    def __init__(self):
-        self.path = tempfile.mkdtemp(dir="/dev/shm" if os.path.isdir("/dev/shm") else None)
-        self.script = os.path.join(self.path, "script")
-        self.database = os.path.join(self.path, "d")
-        os.mkdir(self.database)
-
-    def __enter__(self):
-        return self
-
-    def __exit__(self, *_):
-        shutil.rmtree(self.path, ignore_errors=True)
-
-    def write(self, name, data):
-        with open(os.path.join(self.path, name), "wb") as file:
-            file.write(data)
-
-    def put(self, select, left, right=b""):
-        for name, data in (("d/select", select), ("d/left", left), ("d/right", right)):
-            self.write(name, data)
-
-    def read(self):
-        """The files as they are; a missing one is empty."""
-        files = []
-        for name in ("select", "left", "right"):
-            try:
-                with open(os.path.join(self.database, name), "rb") as file:
-                    files.append(file.read())
-            except FileNotFoundError:
-                files.append(b"")
-        return files
 
 
 def compare_dump(program, folder, select, left, right=b""):
@@ -256,89 +169,6 @@ def run_part(part, options):
     print(f"{part}: {sum(count for count, _ in told)} inputs in {time.monotonic() - begun:.0f} s", flush=True)
 
 
-# Refused memory.
-
-TWO = b"relation R(a int); relation S(a int); "
-COMMITS = TWO + b"main { apply {+R(1)}; commit; apply {+R(2)}; commit; }"
-ROWS = [
-    b"relation R(a int);\nrows %d\n%srelation S(a int);\nrows 0\n" % (count, rows)
-    for count, rows in enumerate([b"", b"[1]\n", b"[1]\n[2]\n"])
-]
-
-
-def refuser(folder):
-    """The library that refuses an allocation, built from its source beside this script."""
-    source = os.path.join(os.path.dirname(os.path.abspath(__file__)), "refuse.c")
-    library = os.path.join(folder.path, "refuse.so")
-    subprocess.run([os.environ.get("CC", "cc"), "-O2", "-shared", "-fPIC", "-o", library, source], check=True)
-    return library
-
-
-def environment(library, number, count):
-    return {"LD_PRELOAD": library, "REFUSE": str(number), "REFUSE_COUNT": count}
-
-
-def found_in(program, folder, commits):
-    """The state that is found is that of the lines printed, or of one commit more."""
-    text, _, status = call(program, ["dump", folder.database])
-    return status == 0 and text in ROWS[commits : commits + 2]
-
-
-def is_left_right(program, folder, name, before, printed):
-    """What a command that found no memory may leave."""
-    if name == "init":
-        text, _, status = call(program, ["dump", folder.database])
-        return (text, status) == (b"no database\n", 5) or text == ROWS[0]
-    if name == "run":
-        return found_in(program, folder, printed.count(b"\n"))
-    return folder.read() == before
-
-
-def refuse_each(program, folder, library, name, words, before, whole):
-    """Refuses each allocation of a command in turn, each time over the same files."""
-    count_file, number, cut = os.path.join(folder.path, "count"), 0, 0
-    while True:
-        number += 1
-        folder.put(*before)
-        text, complaint, status = call(program, words, environment(library, number, count_file))
-        with open(count_file, "rb") as file:
-            allocations = int(file.read())
-        if number > allocations:
-            break
-        cut += (text, status) != whole
-        good = (text, status) == whole or (status in (6, 8, 9) and whole[0].startswith(text))
-        if not good or complaint or not is_left_right(program, folder, name, before, text):
-            raise Wrong(f"{name} with allocation {number} refused: {text!r} {status} {complaint!r}")
-    folder.put(*before)
-    if call(program, words) != (whole[0], b"", whole[1]):
-        raise Wrong(f"{name} with ample memory")
-    print(f"memory: {name}: {number - 1} allocations refused, {cut} of them ended the command", flush=True)
-
-
-def try_memory(program):
-    """Each allocation of `eval` of the supplier script, and of init, run and dump of a folder."""
-    with Folder() as folder:
-        library = refuser(folder)
-        examples = os.path.join(os.path.dirname(os.path.abspath(__file__)), "..", "examples")
-        shutil.copy(os.path.join(examples, "supplier.hera"), folder.script)
-        whole = call(program, ["eval", "1000", folder.script])
-        refuse_each(
-            program, folder, library, "eval", ["eval", "1000", folder.script], [b"", b"", b""], (whole[0], whole[2])
-        )
-        folder.write("script", COMMITS)
-        before = [b"", b"", b""]
-        for name, words, text in (
-            ("init", ["init", folder.database, folder.script], b"created\n"),
-            ("run", ["run", folder.database, "100", folder.script], b"commit 1\ncommit 2\n"),
-            ("dump", ["dump", folder.database], ROWS[2]),
-            ("checkpoint", ["checkpoint", folder.database], b"checkpointed\n"),
-        ):
-            refuse_each(program, folder, library, name, words, before, (text, 0)) if name != "checkpoint" else None
-            if name == "checkpoint":
-                break
-            before = folder.read()
-
-
 def main():
     parser = argparse.ArgumentParser()
     parser.add_argument("program")
@@ -355,7 +185,9 @@ def main():
             if options.only in (None, part):
                 run_part(part, options)
         if options.only in (None, "memory"):
-            try_memory(options.program)
+            memory.try_program(options.program)
+        if options.cases and options.only in (None, "crash"):
+            memory.try_cases(os.path.abspath(options.cases))
     except Wrong as wrong:
         print(f"WRONG: {wrong}")
         return 1
