@@ -6,7 +6,8 @@ import shutil
 import subprocess
 import tempfile
 
-HANG = 20
+# After so many seconds a call is taken for one that does not return.
+HANG = 600
 REFUSALS = b"BadUtf8 BadToken TooDeep Syntax Unknown Repeated Mismatch Impure NoReturn TooMany".split()
 TRAPS = b"DivZero Overflow EmptyMin ApplyFail WhenFail ReadFail Assert".split()
 STATUSES = {

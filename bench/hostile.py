@@ -189,7 +189,9 @@ def main():
         if options.cases and options.only in (None, "crash"):
             memory.try_cases(os.path.abspath(options.cases))
     except Wrong as wrong:
-        print(f"WRONG: {wrong}")
+        with open("hostile-input", "w") as file:
+            file.write(f"{wrong}\n")
+        print(f"WRONG: {str(wrong)[:500]}\n(the whole of it is in the file hostile-input)")
         return 1
     return 0
 
