@@ -128,9 +128,6 @@ def read_journal(fields, catalogue, state):
             relation = fields.number(2, lambda n: n < len(catalogue) and n >= before)
             schema = catalogue[relation][1]
             atoms.append((sign, relation, fields.row(schema, lambda r: relation > before or r > row)))
-        # The gate behind the record is a field of it: without that the record is damaged there.
-        if fields.at >= len(fields.data):
-            raise Damaged(fields.at)
         for sign, relation, row in atoms:
             if sign == 1:
                 state[relation].add(row)
