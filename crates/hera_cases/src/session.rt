@@ -59,7 +59,12 @@ impl Session {
         let Ok(length) = digits.parse::<usize>() else {
             return Err(unread());
         };
-        let bytes = self.outside.file(file).get(..length).unwrap_or(b"").to_vec(alloc)?;
+        let bytes = self
+            .outside
+            .file(file)
+            .get(..length)
+            .unwrap_or(b"")
+            .to_vec(alloc)?;
         write_file(&mut self.outside, file, &bytes)
     }
 
