@@ -12,7 +12,7 @@ REFUSALS = b"BadUtf8 BadToken TooDeep Syntax Unknown Repeated Mismatch Impure No
 TRAPS = b"DivZero Overflow EmptyMin ApplyFail WhenFail ReadFail Assert".split()
 STATUSES = {
     "check": {0, 3}, "list": {0, 3}, "eval": {0, 1, 3, 4}, "run": {0, 1, 3, 4, 5}, "init": {0, 3, 5},
-    "dump": {0, 5}, "checkpoint": {0, 5},
+    "dump": {0, 5}, "checkpoint": {0, 5}, "drill": {0},
 }
 
 

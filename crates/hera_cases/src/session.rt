@@ -2,9 +2,10 @@ ghost use Rattle.std.specs.Prelude.{◌≡◌, IfOk, length};
 
 use crate::trials::{Trials, write_file};
 use hera_causes::MemSource;
-use hera_host::HostTable;
+use hera_meaning::Scalar;
 use hera_top::{files_of, hera};
 use hera_volume::{FileId, MemOutside};
+use program_hosts::{band, bucket, clamp, is_sku, program_hosts};
 use std::alloc::{AllocError, Global};
 use std::io::{self, ErrorKind};
 
@@ -151,8 +152,15 @@ fn report_of(
 ) -> Result<Vec<u8>, AllocError> {
     let (first, last) = files_of(words);
     let mut sources = sources_of(alloc, script, last - first)?;
+    let hosts = program_hosts(
+        alloc,
+        Box::new(alloc, |arg: &Scalar| band(arg))?,
+        Box::new(alloc, |arg: &Scalar| bucket(arg))?,
+        Box::new(alloc, |arg: &Scalar| is_sku(arg))?,
+        Box::new(alloc, |arg: &Scalar| clamp(arg))?,
+    )?;
     let before = outside.bytes().len();
-    let status = hera(alloc, words, &mut sources, outside, &HostTable::new(alloc));
+    let status = hera(alloc, words, &mut sources, outside, &hosts);
     let mut report = outside.bytes().get(before..).unwrap_or(b"").to_vec(alloc)?;
     let line = format!(in alloc; "-- {status}\n")?;
     report.extend_from_slice(line.as_bytes())?;

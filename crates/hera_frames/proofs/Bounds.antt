@@ -1,5 +1,5 @@
 -- Rows past two bounds.
-use Rattle.std.proofs.Common.{◌≡◌, Bool, true, false, cond, List, [], ◌∷◌, Option, None, Some, refl, sym, ap, ◌∙◌, subst}
+use Rattle.std.proofs.Common.{◌≡◌, Bool, true, false, cond, List, [], ◌∷◌, Option, None, Some, refl, sym, subst}
 use Rattle.std.specs.List.{filter, find}
 use Rattle.std.proofs.lemmas.Bool.{both_ways, false≢true}
 use Rattle.hera_sets.specs.Rows.{Row, is_below, is_past}

@@ -2,9 +2,9 @@ pub mod Taking
 pub mod Slots
 pub mod Padding
 pub mod Drops
-pub mod Dropping
-pub mod Chaining
-pub mod Settled
 pub mod Bounds
 pub mod Naming
-pub mod Layering
+pub mod Branching
+pub mod Settled
+pub mod Upheld
+pub mod FieldsGiven

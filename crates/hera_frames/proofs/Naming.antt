@@ -1,5 +1,5 @@
 -- The rows of a relation that is named.
-use Rattle.std.proofs.Common.{◌≡◌, ℕ, zero, suc, ◌<◌, ◌≤◌, List, [], ◌∷◌, length, Some, refl, sym, ap, ◌∙◌, arith}
+use Rattle.std.proofs.Common.{◌≡◌, ℕ, zero, suc, ◌<◌, ◌≤◌, List, [], ◌∷◌, length, Some, refl, ◌∙◌, arith}
 use Rattle.std.specs.Prelude.{slice_get}
 use Rattle.std.proofs.lemmas.Option.{none-some, same_Some}
 use Rattle.hera_sets.specs.Rows.{Row}
@@ -7,7 +7,6 @@ use Rattle.hera_meaning.specs.Deltas.{Delta, State, rows_at, apply_of}
 use Rattle.hera_code.specs.Machine.{after_layers}
 use Rattle.when_overlay.specs.Changed.{after_all}
 use Rattle.when_overlay.proofs.Viewing.{length_changed, length_after}
-use Rattle.hera_frames.specs.Walking.{lowest, seen_at}
 
 pub rows_got : (t : State) (r : ℕ) (rows : List Row) → slice_get t r ≡ Some rows → rows_at t r ≡ rows
 rows_got [] r rows e = absurd (none-some rows e)

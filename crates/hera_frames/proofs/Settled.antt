@@ -1,140 +1,178 @@
--- Walks that were given the rows that are left of them, and what a change of the layers leaves as it is.
-use Rattle.std.proofs.Common.{◌≡◌, ℕ, zero, suc, ◌+◌, ◌-◌, ◌<◌, ◌≤◌, Bool, true, false, cond, List, [], ◌∷◌, ◌++◌, length, drop, take, get_or, map, Option, None, Some, refl, sym, ap, ◌∙◌, subst, arith, add-one}
-use Rattle.std.specs.Prelude.{nat_le}
-use Rattle.std.specs.List.{filter}
+-- Names that are given up: operands, walks and frames with rows in the place of names.
+use Rattle.std.proofs.Common.{◌≡◌, ℕ, zero, suc, ◌+◌, ◌<◌, ◌≤◌, false, List, [], ◌∷◌, ◌++◌, length, take, drop, get_or, map, max, min, Option, refl, sym, ap, ◌∙◌, subst, arith, add-one}
+use Rattle.std.specs.Prelude.{slice_set}
 use Rattle.std.proofs.Math.Seq.{take-suc}
-use Rattle.std.proofs.lemmas.List.{take_all}
-use Rattle.std.proofs.lemmas.Bool.{le-leb, leb-false}
+use Rattle.std.proofs.lemmas.List.{take_all, map-append}
 use Rattle.hera_prims.specs.Newest.{newest}
-use Rattle.hera_sets.specs.Rows.{Row, is_past}
-use Rattle.hera_meaning.specs.Deltas.{Delta, State, atoms, is_fail, rows_at, apply_of}
-use Rattle.hera_meaning.proofs.DeltaLaws.{apply_of-kept}
-use Rattle.hera_code.specs.Machine as machine
-use Rattle.hera_code.specs.Machine.{after_layers}
-use Rattle.hera_frames.specs.declared.frames.Frame.{Frame}
-use Rattle.hera_frames.specs.Walking.{Rest, given, named, Pace, lowest, seen_at, to_come, walk_at, is_named, IsGiven, AreGiven, settled_rest, settled}
-use Rattle.hera_frames.specs.Waiting.{frames_at, AreKept, frames_settled}
-use Rattle.hera_frames.proofs.Chaining.{lowest_more}
+use Rattle.hera_prims.proofs.Stacks.{newest_push}
+use Rattle.hera_meaning.specs.Deltas.{State}
+use Rattle.when_overlay.specs.declared.layers.Layer.{Layer}
+use Rattle.hera_frames.specs.declared.operands.Operand.{Operand}
+use Rattle.hera_frames.specs.Items.{Item, held, relation, item_of, value_at, operands_at, collected, is_relation, IsHeld, AreHeld, reach_of, reach}
+use Rattle.hera_frames.specs.Walking.{Rest, given, named, Pace, to_come, walk_at, is_named, IsGiven, AreGiven, settled, rest_reach, walks_reach}
 
--- ---- one walk
+-- ---- operands
 
-abbrev walk_with : Pace → List Row → machine.Walk
-walk_with w rows = record { rows = rows; current = w.current; gathered = w.gathered }
+pub held_itself : (s : State) (ls : List Layer) (item : Item) → is_relation item ≡ false → collected s ls item ≡ item
+held_itself s ls (held v) h = refl
+held_itself s ls (relation r k) h = cc
 
-with_rows : (w : Pace) (xs ys : List Row) → xs ≡ ys → walk_with w xs ≡ walk_with w ys
-with_rows w xs ys e = ap (walk_with w) e
+pub unrelated : (item : Item) → is_relation item ≡ false → IsHeld item
+unrelated (held v) h = tt
+unrelated (relation r k) h = cc
 
--- what is given stays, and what is not names layers that stay
-rest_more : (s : State) (p d : Delta) (ls : List Delta) (last : Option Row) (r : Rest) → to_come s p (d ∷ ls) last (settled_rest s p ls (suc (length ls)) last r) ≡ to_come s p ls last r
-rest_more s p d ls last (given rows) = refl
-rest_more s p d ls last (named r tip) = by (nat_le (suc (length ls)) tip) refl
-  where
-    by : (b : Bool) → nat_le (suc (length ls)) tip ≡ b → to_come s p (d ∷ ls) last (cond b (given (filter (is_past last) (rows_at (seen_at s p ls tip) r))) (named r tip)) ≡ filter (is_past last) (rows_at (seen_at s p ls tip) r)
-    by true e = refl
-    by false e =
-        let below : tip < suc (length ls) = leb-false (suc (length ls)) tip e in
-        ap (λ ds. filter (is_past last) (rows_at (after_layers (apply_of s p) ds) r)) (lowest_more tip d ls (omega (arith, below)))
+pub items_are_held : (s : State) (ls : List Layer) (items : List Item) → AreHeld (map (collected s ls) items)
+items_are_held s ls [] = tt
+items_are_held s ls (item ∷ items) = (tt, items_are_held s ls items)
 
-rest_less : (s : State) (p d : Delta) (ls : List Delta) (last : Option Row) (r : Rest) → to_come s p ls last (settled_rest s p (d ∷ ls) (suc (length ls)) last r) ≡ to_come s p (d ∷ ls) last r
-rest_less s p d ls last (given rows) = refl
-rest_less s p d ls last (named r tip) = by (nat_le (suc (length ls)) tip) refl
-  where
-    by : (b : Bool) → nat_le (suc (length ls)) tip ≡ b → to_come s p ls last (cond b (given (filter (is_past last) (rows_at (seen_at s p (d ∷ ls) tip) r))) (named r tip)) ≡ filter (is_past last) (rows_at (seen_at s p (d ∷ ls) tip) r)
-    by true e = refl
-    by false e =
-        let below : tip < suc (length ls) = leb-false (suc (length ls)) tip e in
-        ap (λ ds. filter (is_past last) (rows_at (after_layers (apply_of s p) ds) r)) (sym (lowest_more tip d ls (omega (arith, below))))
+-- the value of a collected operand asks for no layer
+pub items_collected : (s t : State) (ls ms : List Layer) (items : List Item) → operands_at t ms (map (collected s ls) items) ≡ operands_at s ls items
+items_collected s t ls ms [] = refl
+items_collected s t ls ms (item ∷ items) = ap (λ vs. value_at s ls item ∷ vs) (items_collected s t ls ms items)
 
-rest_all : (s : State) (p q : Delta) (ls : List Delta) (last : Option Row) (r : Rest) → to_come s q ls last (settled_rest s p ls 0 last r) ≡ to_come s p ls last r
-rest_all s p q ls last (given rows) = refl
-rest_all s p q ls last (named r tip) = rw (le-leb 0 tip (omega arith)) refl
+pub items_held : (s t : State) (ls ms : List Layer) (items : List Item) → AreHeld items → operands_at t ms items ≡ operands_at s ls items
+items_held s t ls ms [] h = refl
+items_held s t ls ms (held v ∷ items) h = ap (λ vs. v ∷ vs) (items_held s t ls ms items h.1)
+items_held s t ls ms (relation r k ∷ items) h = absurd h.0
 
-rest_given : (s : State) (p q : Delta) (ls : List Delta) (last : Option Row) (r : Rest) → IsGiven r → to_come s q ls last r ≡ to_come s p ls last r
-rest_given s p q ls last (given rows) h = refl
-rest_given s p q ls last (named r tip) h = absurd h
+pub reach_held : (items : List Item) → AreHeld items → reach items ≡ 0
+reach_held [] h = refl
+reach_held (held v ∷ items) h = let e : reach items ≡ 0 = reach_held items h.1 in omega (arith, e)
+reach_held (relation r k ∷ items) h = absurd h.0
 
--- a pending delta that is stored
-kept_state : (s : State) (d : Delta) → is_fail d ≡ false → (ls : List Delta) → after_layers (apply_of (apply_of s d) (atoms [])) ls ≡ after_layers (apply_of s d) ls
-kept_state s d known ls = ap (λ t. after_layers t ls) (apply_of-kept s d known)
+pub reach_collected : (s : State) (ls : List Layer) (items : List Item) → reach (map (collected s ls) items) ≡ 0
+reach_collected s ls items = reach_held (map (collected s ls) items) (items_are_held s ls items)
 
-rest_stored : (s : State) (d : Delta) (ls : List Delta) (last : Option Row) (r : Rest) → is_fail d ≡ false → to_come (apply_of s d) (atoms []) ls last r ≡ to_come s d ls last r
-rest_stored s d ls last (given rows) known = refl
-rest_stored s d ls last (named r tip) known = ap (λ t. filter (is_past last) (rows_at t r)) (kept_state s d known (lowest tip ls))
+pub reach_drop : (n : ℕ) (items : List Item) → reach (drop n items) ≤ reach items
+reach_drop zero items = omega arith
+reach_drop (suc n) [] = omega arith
+reach_drop (suc n) (item ∷ items) = let h = reach_drop n items in omega (arith, h)
 
--- ---- all walks of a frame
+pub reach_rest : (item : Item) (items : List Item) → reach items ≤ reach (item ∷ items)
+reach_rest item items = omega arith
 
-pub walks_more : (s : State) (p d : Delta) (ls : List Delta) (ws : List Pace) → map (walk_at s p (d ∷ ls)) (map (settled s p ls (suc (length ls))) ws) ≡ map (walk_at s p ls) ws
-walks_more s p d ls [] = refl
-walks_more s p d ls (w ∷ ws) = λ i. with_rows w _ _ (rest_more s p d ls w.current w.rest) i ∷ walks_more s p d ls ws i
+-- ---- walks
 
-pub walks_less : (s : State) (p d : Delta) (ls : List Delta) (ws : List Pace) → map (walk_at s p ls) (map (settled s p (d ∷ ls) (suc (length ls))) ws) ≡ map (walk_at s p (d ∷ ls)) ws
-walks_less s p d ls [] = refl
-walks_less s p d ls (w ∷ ws) = λ i. with_rows w _ _ (rest_less s p d ls w.current w.rest) i ∷ walks_less s p d ls ws i
+pub walks_settled : (s t : State) (ls ms : List Layer) (ws : List Pace) → map (walk_at t ms) (map (settled s ls) ws) ≡ map (walk_at s ls) ws
+walks_settled s t ls ms [] = refl
+walks_settled s t ls ms (w ∷ ws) = ap (λ vs. walk_at s ls w ∷ vs) (walks_settled s t ls ms ws)
 
-pub walks_all : (s : State) (p q : Delta) (ls : List Delta) (ws : List Pace) → map (walk_at s q ls) (map (settled s p ls 0) ws) ≡ map (walk_at s p ls) ws
-walks_all s p q ls [] = refl
-walks_all s p q ls (w ∷ ws) = λ i. with_rows w _ _ (rest_all s p q ls w.current w.rest) i ∷ walks_all s p q ls ws i
+rest_given : (s t : State) (ls ms : List Layer) (last : Option _) (r : Rest) → IsGiven r → to_come t ms last r ≡ to_come s ls last r
+rest_given s t ls ms last (given rows) h = refl
+rest_given s t ls ms last (named r k) h = absurd h
 
-pub walks_given : (s : State) (p q : Delta) (ls : List Delta) (ws : List Pace) → AreGiven ws → map (walk_at s q ls) ws ≡ map (walk_at s p ls) ws
-walks_given s p q ls [] h = refl
-walks_given s p q ls (w ∷ ws) h = λ i. with_rows w _ _ (rest_given s p q ls w.current w.rest h.0) i ∷ walks_given s p q ls ws h.1 i
+pub walks_given : (s t : State) (ls ms : List Layer) (ws : List Pace) → AreGiven ws → map (walk_at t ms) ws ≡ map (walk_at s ls) ws
+walks_given s t ls ms [] h = refl
+walks_given s t ls ms (w ∷ ws) h =
+    λ i. record { rows = rest_given s t ls ms w.current w.rest h.0 i; current = w.current; gathered = w.gathered } ∷ walks_given s t ls ms ws h.1 i
 
-pub walks_stored : (s : State) (d : Delta) (ls : List Delta) (ws : List Pace) → is_fail d ≡ false → map (walk_at (apply_of s d) (atoms []) ls) ws ≡ map (walk_at s d ls) ws
-walks_stored s d ls [] known = refl
-walks_stored s d ls (w ∷ ws) known = λ i. with_rows w _ _ (rest_stored s d ls w.current w.rest known) i ∷ walks_stored s d ls ws known i
+pub walks_are_given : (s : State) (ls : List Layer) (ws : List Pace) → AreGiven (map (settled s ls) ws)
+walks_are_given s ls [] = tt
+walks_are_given s ls (w ∷ ws) = (tt, walks_are_given s ls ws)
 
-rest_is_given : (s : State) (p : Delta) (ls : List Delta) (last : Option Row) (r : Rest) → IsGiven (settled_rest s p ls 0 last r)
-rest_is_given s p ls last (given rows) = tt
-rest_is_given s p ls last (named r tip) = rw (le-leb 0 tip (omega arith)) tt
+rest_reach_given : (r : Rest) → IsGiven r → rest_reach r ≡ 0
+rest_reach_given (given rows) h = refl
+rest_reach_given (named r k) h = absurd h
 
-pub walks_are_given : (s : State) (p : Delta) (ls : List Delta) (ws : List Pace) → AreGiven (map (settled s p ls 0) ws)
-walks_are_given s p ls [] = tt
-walks_are_given s p ls (w ∷ ws) = (rest_is_given s p ls w.current w.rest, walks_are_given s p ls ws)
+pub reach_given : (ws : List Pace) → AreGiven ws → walks_reach ws ≡ 0
+reach_given [] h = refl
+reach_given (w ∷ ws) h =
+    let e : rest_reach w.rest ≡ 0 = rest_reach_given w.rest h.0 in
+    let g : walks_reach ws ≡ 0 = reach_given ws h.1 in
+    omega (arith, e, g)
 
--- ---- frames that wait
-
-abbrev frame_of : Frame → List Delta → List machine.Walk → machine.Frame
-frame_of f ls ws = record { at = f.at; operands = f.operands; locals = f.locals; walks = ws; layers = ls; own = f.own }
-
-frame_with : (f : Frame) (ls : List Delta) (xs ys : List machine.Walk) → xs ≡ ys → frame_of f ls xs ≡ frame_of f ls ys
-frame_with f ls xs ys e = ap (frame_of f ls) e
-
-pub frames_all : (s : State) (p q : Delta) (ls : List Delta) (own : ℕ) (fs : List Frame) → frames_at s q ls own (frames_settled s p (drop own ls) fs) ≡ frames_at s p ls own fs
-frames_all s p q ls own [] = refl
-frames_all s p q ls own (f ∷ fs) = λ i. frame_with f (drop own ls) _ _ (walks_all s p q (drop own ls) f.walks) i ∷ frames_all s p q (drop own ls) f.own fs i
-
-pub frames_given : (s : State) (p q : Delta) (ls : List Delta) (own : ℕ) (names : Bool) (fs : List Frame) → names ≡ false → AreKept ls own names fs → frames_at s q ls own fs ≡ frames_at s p ls own fs
-frames_given s p q ls own names [] none h = refl
-frames_given s p q ls own names (f ∷ fs) none h =
-    λ i. frame_with f (drop own ls) _ _ (walks_given s p q (drop own ls) f.walks (h.1 none).0) i ∷ frames_given s p q (drop own ls) f.own f.names_below fs (h.1 none).1 h.2 i
-
-pub frames_stored : (s : State) (d : Delta) (ls : List Delta) (own : ℕ) (fs : List Frame) → is_fail d ≡ false → frames_at (apply_of s d) (atoms []) ls own fs ≡ frames_at s d ls own fs
-frames_stored s d ls own [] known = refl
-frames_stored s d ls own (f ∷ fs) known =
-    λ i. frame_with f (drop own ls) _ _ (walks_stored s d (drop own ls) f.walks known) i ∷ frames_stored s d (drop own ls) f.own fs known i
-
-pub kept_settled : (s : State) (p : Delta) (ls : List Delta) (own : ℕ) (names : Bool) (fs : List Frame) → AreKept ls own names fs → AreKept ls own false (frames_settled s p (drop own ls) fs)
-kept_settled s p ls own names [] h = h
-kept_settled s p ls own names (f ∷ fs) h =
-    (h.0, (λ _. (walks_are_given s p (drop own ls) f.walks, refl)), kept_settled s p (drop own ls) f.own f.names_below fs h.2)
-
--- ---- whether walks have their rows
-
-given_behind : (ws : List Pace) (w : Pace) → AreGiven ws → IsGiven w.rest → AreGiven (ws ++ w ∷ [])
-given_behind [] w h g = (g, tt)
-given_behind (v ∷ ws) w h g = (h.0, given_behind ws w h.1 g)
-
-pub given_newest : (ws : List Pace) → AreGiven ws → AreGiven (newest (λ w. w) ws)
-given_newest [] h = tt
-given_newest (w ∷ ws) h = given_behind (newest (λ w. w) ws) w (given_newest ws h.1) h.0
-
-pub given_more : (ws : List Pace) (i : ℕ) (w : Pace) → i < length ws → w ≡ get_or ws i w → IsGiven w.rest → AreGiven (take i ws) → AreGiven (take (i + 1) ws)
-given_more ws i w h e g all =
-    subst AreGiven (sym (ap (λ k. take k ws) (add-one i) ∙ take-suc ws i w h ∙ ap (λ v. take i ws ++ v ∷ []) (sym e))) (given_behind (take i ws) w all g)
-
-pub given_end : (ws : List Pace) (i : ℕ) → length ws ≤ i → AreGiven (take i ws) → AreGiven ws
-given_end ws i h all = subst AreGiven (take_all i ws h) all
+pub reach_settled : (s : State) (ls : List Layer) (ws : List Pace) → walks_reach (map (settled s ls) ws) ≡ 0
+reach_settled s ls ws = reach_given (map (settled s ls) ws) (walks_are_given s ls ws)
 
 pub unnamed : (r : Rest) → is_named r ≡ false → IsGiven r
 unnamed (given rows) h = tt
-unnamed (named r tip) h = cc
+unnamed (named r k) h = cc
+
+-- ---- what a loop over all has seen
+
+newest_more : {A B : Type 0} → (f : A → B) (xs : List A) (i : ℕ) (x : A) → i < length xs → x ≡ get_or xs i x → newest f (take (i + 1) xs) ≡ f x ∷ newest f (take i xs)
+newest_more f xs i x h e =
+    ap (λ k. newest f (take k xs)) (add-one i) ∙ ap (newest f) (take-suc xs i x h) ∙ newest_push f (take i xs) (get_or xs i x)
+    ∙ ap (λ y. f y ∷ newest f (take i xs)) (sym e)
+
+newest_end : {A B : Type 0} → (f : A → B) (xs : List A) (i : ℕ) → length xs ≤ i → newest f (take i xs) ≡ newest f xs
+newest_end f xs i h = ap (newest f) (take_all i xs h)
+
+pub given_more : (ws : List Pace) (i : ℕ) (w : Pace) → i < length ws → w ≡ get_or ws i w → IsGiven w.rest → AreGiven (newest (λ x. x) (take i ws)) → AreGiven (newest (λ x. x) (take (i + 1) ws))
+given_more ws i w h e g all = subst AreGiven (sym (newest_more (λ x. x) ws i w h e)) (g, all)
+
+pub given_end : (ws : List Pace) (i : ℕ) → length ws ≤ i → AreGiven (newest (λ x. x) (take i ws)) → AreGiven (newest (λ x. x) ws)
+given_end ws i h all = subst AreGiven (newest_end (λ x. x) ws i h) all
+
+pub held_more : (os : List Operand) (i : ℕ) (o : Operand) → i < length os → o ≡ get_or os i o → IsHeld (item_of o) → AreHeld (newest item_of (take i os)) → AreHeld (newest item_of (take (i + 1) os))
+held_more os i o h e g all = subst AreHeld (sym (newest_more item_of os i o h e)) (g, all)
+
+pub held_end : (os : List Operand) (i : ℕ) → length os ≤ i → AreHeld (newest item_of (take i os)) → AreHeld (newest item_of os)
+held_end os i h all = subst AreHeld (newest_end item_of os i h) all
+
+pub reach_more : (os : List Operand) (i most count : ℕ) (o : Operand) → i < length os → o ≡ get_or os i o → count ≡ min most (reach (newest item_of (take i os))) →
+    max count (min most (reach_of (item_of o))) ≡ min most (reach (newest item_of (take (i + 1) os)))
+reach_more os i most count o h e g =
+    let next : reach (newest item_of (take (i + 1) os)) ≡ max (reach_of (item_of o)) (reach (newest item_of (take i os))) = ap reach (newest_more item_of os i o h e) in
+    omega (arith, g, next)
+
+pub reach_end : (os : List Operand) (i most count : ℕ) → length os ≤ i → count ≡ min most (reach (newest item_of (take i os))) → count ≡ min most (reach (newest item_of os))
+reach_end os i most count h g = g ∙ ap (λ items. min most (reach items)) (newest_end item_of os i h)
+
+pub paces_more : (ws : List Pace) (i most count : ℕ) (w : Pace) → i < length ws → w ≡ get_or ws i w → count ≡ min most (walks_reach (newest (λ x. x) (take i ws))) →
+    max count (min most (rest_reach w.rest)) ≡ min most (walks_reach (newest (λ x. x) (take (i + 1) ws)))
+paces_more ws i most count w h e g =
+    let next : walks_reach (newest (λ x. x) (take (i + 1) ws)) ≡ max (rest_reach w.rest) (walks_reach (newest (λ x. x) (take i ws))) = ap walks_reach (newest_more (λ x. x) ws i w h e) in
+    omega (arith, g, next)
+
+pub paces_end : (ws : List Pace) (i most count : ℕ) → length ws ≤ i → count ≡ min most (walks_reach (newest (λ x. x) (take i ws))) → count ≡ min most (walks_reach (newest (λ x. x) ws))
+paces_end ws i most count h g = g ∙ ap (λ ps. min most (walks_reach ps)) (newest_end (λ x. x) ws i h)
+
+-- ---- operands that are collected one by one
+
+newest_set : {A B : Type 0} → (f : A → B) (xs : List A) (i : ℕ) (x d : A) → i < length xs → f x ≡ f (get_or xs i d) → newest f (slice_set xs i x) ≡ newest f xs
+newest_set f [] i x d h e = absurd (omega (arith, h))
+newest_set f (y ∷ ys) zero x d h e = ap (λ z. newest f ys ++ z ∷ []) e
+newest_set f (y ∷ ys) (suc i) x d h e = ap (λ zs. zs ++ f y ∷ []) (newest_set f ys i x d (omega (arith, h)) e)
+
+newest_take : {A B : Type 0} → (f : A → B) (xs : List A) (i : ℕ) (x : A) → i < length xs → newest f (take (suc i) (slice_set xs i x)) ≡ f x ∷ newest f (take i xs)
+newest_take f [] i x h = absurd (omega (arith, h))
+newest_take f (y ∷ ys) zero x h = refl
+newest_take f (y ∷ ys) (suc i) x h = ap (λ zs. zs ++ f y ∷ []) (newest_take f ys i x (omega (arith, h)))
+
+-- what is collected of the operands, the newest first
+abbrev pub all_collected : State → List Layer → List Operand → List Item
+all_collected s ls os = newest (λ o. collected s ls (item_of o)) os
+
+-- of the operands that were: as many of them as counted have their values, and what is collected is the same
+pub record IsCollecting (s : State) (ls : List Layer) (old new : List Operand) (i : ℕ) : Type 0 where
+  pub first : AreHeld (newest item_of (take i new))
+  pub same : all_collected s ls new ≡ all_collected s ls old
+
+pub collecting_put : (s : State) (ls : List Layer) (old os new : List Operand) (i : ℕ) (x o : Operand) → i < length os → o ≡ get_or os i o → IsHeld (item_of x) → collected s ls (item_of o) ≡ item_of x →
+    new ≡ slice_set os i x → IsCollecting s ls old os i → IsCollecting s ls old new (i + 1)
+collecting_put s ls old os new i x o h e has g put c =
+    let same : collected s ls (item_of x) ≡ collected s ls (item_of (get_or os i o)) =
+    ap (collected s ls) (sym g) ∙ ap (λ y. collected s ls (item_of y)) e in
+    record {
+      first = subst AreHeld (sym (ap (λ ys. newest item_of (take (i + 1) ys)) put ∙ ap (λ k. newest item_of (take k (slice_set os i x))) (add-one i) ∙ newest_take item_of os i x h)) (has, c.first);
+      same = ap (all_collected s ls) put ∙ newest_set (λ y. collected s ls (item_of y)) os i x o h same ∙ c.same;
+    }
+
+pub collecting_skip : (s : State) (ls : List Layer) (old os : List Operand) (i : ℕ) (o : Operand) → i < length os → o ≡ get_or os i o → collected s ls (item_of o) ≡ item_of o →
+    IsCollecting s ls old os i → IsCollecting s ls old os (i + 1)
+collecting_skip s ls old os i o h e g c = record { first = held_more os i o h e (subst IsHeld g tt) c.first; same = c.same }
+
+map_newest : {A B C : Type 0} → (f : A → B) (g : B → C) (xs : List A) → map g (newest f xs) ≡ newest (λ x. g (f x)) xs
+map_newest f g [] = refl
+map_newest f g (x ∷ xs) = map-append g (newest f xs) (f x ∷ []) ∙ ap (λ ys. ys ++ g (f x) ∷ []) (map_newest f g xs)
+
+collected_held : (s : State) (ls : List Layer) (items : List Item) → AreHeld items → map (collected s ls) items ≡ items
+collected_held s ls [] h = refl
+collected_held s ls (held v ∷ items) h = ap (λ zs. held v ∷ zs) (collected_held s ls items h.1)
+collected_held s ls (relation r k ∷ items) h = absurd h.0
+
+pub collecting_end : (s : State) (ls : List Layer) (old os : List Operand) (i : ℕ) → length os ≤ i → IsCollecting s ls old os i → newest item_of os ≡ map (collected s ls) (newest item_of old)
+collecting_end s ls old os i h c =
+    sym (collected_held s ls (newest item_of os) (held_end os i h c.first))
+    ∙ map_newest item_of (collected s ls) os ∙ c.same ∙ sym (map_newest item_of (collected s ls) old)

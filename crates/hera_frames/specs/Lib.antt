@@ -1,3 +1,5 @@
-pub mod Chained
+pub mod Branched
+pub mod Items
+pub mod Seeing
 pub mod Walking
 pub mod Waiting

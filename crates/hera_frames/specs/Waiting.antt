@@ -1,29 +1,67 @@
--- Frames that wait, with the layers at their time.
-use Rattle.std.specs.Prelude.{◌≡◌, ◌≤◌, ℕ, Bool, false, List, [], ◌∷◌, drop, length, map}
-use Rattle.hera_meaning.specs.Deltas.{Delta, State}
+-- Frames that wait, with the layers under which they read.
+use Rattle.std.specs.Prelude.{◌≡◌, ◌<◌, ◌≤◌, ℕ, Bool, false, List, [], ◌∷◌, length, map}
+use Rattle.hera_meaning.specs.Deltas.{State}
 use Rattle.hera_code.specs.Machine as machine
+use Rattle.when_overlay.specs.declared.layers.Layer.{Layer}
 use Rattle.hera_frames.specs.declared.frames.Frame.{Frame}
-use Rattle.hera_frames.specs.Walking.{walk_at, settled, AreGiven}
+use Rattle.hera_frames.specs.Branched.{Branches, under}
+use Rattle.hera_frames.specs.Items.{Item, operands_at, collected, AreHeld, reach}
+use Rattle.hera_frames.specs.Walking.{Pace, walk_at, settled, AreGiven, walks_reach}
 
--- from the layers at hand, and how many of them are the running frame's own: these are gone when the
--- frame that waits goes on
-abbrev pub frames_at : State → Delta → List Delta → ℕ → List Frame → List machine.Frame
-frames_at s pending layers own [] = []
-frames_at s pending layers own (f ∷ fs) =
-    record { at = f.at; operands = f.operands; locals = f.locals; walks = map (walk_at s pending (drop own layers)) f.walks; layers = drop own layers; own = f.own } ∷ frames_at s pending (drop own layers) f.own fs
+-- a frame that waits, over the committed state and under the layers
+abbrev pub frame_at : State → List Layer → Frame → machine.Frame
+frame_at s ls f = record {
+  at = f.at;
+  operands = operands_at s ls f.operands.items;
+  locals = f.locals;
+  walks = map (walk_at s ls) f.walks;
+  layers = under ls f.tip;
+  own = f.own;
+}
 
--- each frame has as many layers as it calls its own: the running one of those at hand, and each one that
--- waits of those at its time. Where no walk of the frames that wait is said to name a relation, none does.
-abbrev pub AreKept : List Delta → ℕ → Bool → List Frame → Type 0
-AreKept layers own names [] = own ≤ length layers
-AreKept layers own names (f ∷ fs) =
-    (own ≤ length layers) × (names ≡ false → AreGiven f.walks × (f.names_below ≡ false)) × AreKept (drop own layers) f.own f.names_below fs
+-- the layers that a frame names are among the oldest ones, so many
+pub record IsWithin (n : ℕ) (f : Frame) : Type 0 where
+  pub tip : f.tip < n
+  pub operands : reach f.operands.items ≤ n
+  pub walks : walks_reach f.walks ≤ n
+  pub floor : f.floor ≤ n
 
--- the frames with their walks given the rows that are left of them, from the layers of the first one
-abbrev pub frames_settled : State → Delta → List Delta → List Frame → List Frame
-frames_settled s pending layers [] = []
-frames_settled s pending layers (f ∷ fs) =
-    record { at = f.at; operands = f.operands; locals = f.locals; walks = map (settled s pending layers 0) f.walks; own = f.own; names_below = false } ∷ frames_settled s pending (drop f.own layers) fs
+-- the frame names no relation, nor do those below
+pub record NamesNone (f : Frame) : Type 0 where
+  pub operands : AreHeld f.operands.items
+  pub walks : AreGiven f.walks
+  pub below : f.names_below ≡ false
+
+-- Of frames that wait: each one names layers below the floor of the one that it has called (the first one
+-- those below the floor at hand), and is upon as many layers as it calls its own. Where no frame that waits
+-- is said to name a relation, none does.
+abbrev pub AreKept : List Layer → ℕ → Bool → List Frame → Type 0
+AreKept ls floor names [] = Unit {0}
+AreKept ls floor names (f ∷ fs) =
+    (f.own ≤ length (under ls f.tip)) × IsWithin floor f × (names ≡ false → NamesNone f) × AreKept ls f.floor f.names_below fs
+
+-- Of the running frame and those that wait: it is upon as many layers as it calls its own, what it names is
+-- there, and so are the layers below its floor, among which are all that frames that wait name.
+pub record IsUpheld (c : Branches) (own floor : ℕ) (items : List Item) (walks : List Pace) (names : Bool) (fs : List Frame) : Type 0 where
+  pub tip : c.tip < length c.layers
+  pub owned : own ≤ length (under c.layers c.tip)
+  pub operands : reach items ≤ length c.layers
+  pub paces : walks_reach walks ≤ length c.layers
+  pub below : floor ≤ length c.layers
+  pub callers : AreKept c.layers floor names fs
+
+-- the frame with rows in the place of names
+abbrev pub frame_settled : State → List Layer → Frame → Frame
+frame_settled s ls f = record {
+  at = f.at;
+  operands = record { items = map (collected s ls) f.operands.items; spare = f.operands.spare };
+  locals = f.locals;
+  walks = map (settled s ls) f.walks;
+  tip = f.tip;
+  own = f.own;
+  floor = f.floor;
+  names_below = false;
+}
 
 -- a stack that was emptied onto another one
 abbrev pub poured : {A : Type 0} → List A → List A → List A

@@ -1,8 +1,7 @@
 //! Frames that wait.
 use crate::{Locals, Operands, Stack, Walk};
 
-/// A frame that waits: where it goes on, its operands, slots and walks, and how many of the layers at
-/// that time are its own.
+/// A frame that waits: where it goes on, its operands, slots and walks, and the layers under which it reads.
 #[derive(Drop)]
 pub struct Frame {
     /// The address at which it goes on.
@@ -13,8 +12,12 @@ pub struct Frame {
     pub locals: Locals,
     /// Its open walks.
     pub walks: Stack<Walk>,
-    /// How many of the machine's layers it has pushed itself.
+    /// The number of the layer under which it reads.
+    pub tip: usize,
+    /// How many of the layers under which it reads it has pushed itself.
     pub own: usize,
-    /// Whether a walk of the frames below may name a relation.
+    /// The number of the first layer that no frame below names.
+    pub floor: usize,
+    /// Whether a frame below may name a relation.
     pub names_below: bool,
 }

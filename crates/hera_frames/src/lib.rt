@@ -3,14 +3,17 @@
 //!
 //! Operands, walks and frames stand on stacks of one type, which contracts see with the newest first;
 //! slots are seen in order. The pending delta and the deltas of `when` are layers over the committed
-//! state, and a walk may name a relation under them in place of having its rows.
+//! state. An operand or a walk may name a relation under one of them in place of having its rows, and
+//! the layer stays as long as it is named.
 #![tactic(auto)]
 
 mod changes;
+mod flats;
 mod frames;
 mod locals;
 mod operands;
 mod past;
+mod seen;
 mod settling;
 mod stack;
 mod values;
@@ -19,8 +22,9 @@ mod walks;
 pub use changes::Changes;
 pub use frames::Frame;
 pub use locals::Locals;
-pub use operands::Operands;
-pub use settling::{any_named, settle_frames, settle_walks};
+pub use operands::{Operand, Operands};
+pub use seen::Seen;
+pub use settling::{any_named, release, settle_frames, settle_walks};
 pub use stack::Stack;
-pub use values::{bool_of, const_of, into_delta, into_rel, into_row, let_go};
+pub use values::{Datum, const_of, into_delta, into_rel, into_row, let_go};
 pub use walks::{Walk, rows_past};

@@ -1,66 +1,245 @@
 //! Operands.
-ghost use Rattle.std.specs.Prelude.{◌≡◌, [], ◌∷◌, OnOk, IfOk, MatchOption};
+ghost use Rattle.std.specs.Prelude.{◌≡◌, ◌+◌, ◌<◌, ◌≤◌, [], ◌∷◌, List, None, Some, false, min, drop, map, slice_get, IfOk, OnOk, OnErr, IsOk, MatchOption};
 ghost use Rattle.std.specs.Option.{option_map};
-ghost use Rattle.hera_code.specs.Machine.{taken};
-ghost use Rattle.delta_atoms.specs.Plain.{value_of};
+ghost use Rattle.hera_meaning.specs.Deltas.{State};
+ghost use Rattle.hera_meaning.specs.Values.{table};
+ghost use Rattle.hera_code.specs.Machine.{taken, as_bool, as_tuple, as_table, as_delta};
+ghost use Rattle.when_overlay.specs.declared.layers.Layer.{Layer};
+ghost use Rattle.when_overlay.specs.Changed.{after_all};
+ghost use Rattle.std.specs.Vec.{vec_len, vec_capacity};
+ghost use Rattle.hera_prims.specs.Newest.{newest};
+ghost use Rattle.hera_frames.specs.Items.{plain_of, item_of, held, relation, is_relation, value_at, operands_at, collected, AreHeld, reach_of, reach};
+ghost use Rattle.hera_frames.specs.Seeing.{rows_seen};
 
-use crate::Stack;
-use delta_atoms::Value;
+use crate::values::{Datum, into_delta, into_row, let_go};
+use crate::walks::rows_past;
+use crate::{Changes, Seen};
+use delta_atoms::{Delta, Value};
+use hera_meaning::RelId;
 use hera_prims::Args;
+use hera_rows::RowBuf;
+use rel_pages::Base;
 use std::alloc::{AllocError, Global};
 use std::marker::Model;
 use std::mem::replace;
 
-/// Operands, seen with the newest first.
+/// An operand: a value; or a relation as it is under a layer, of which no rows are copied.
+#[derive(Drop)]
+pub enum Operand {
+    /// A value.
+    Held(Datum),
+    /// The relation of this number, under the layer of this number.
+    Named { rel: RelId, tip: usize },
+}
+
+impl Operand {
+    /// The bool, where the operand is one.
+    pub fn bool_of(&self) -> Option<bool>
+        ensures { (s : State) → (ls : List Layer) → result ≡ as_bool (value_at s ls (item_of self.now)) }
+    {
+        match self {
+            Operand::Held(v) => v.bool_of(),
+            Operand::Named { .. } => None,
+        }
+    }
+
+    /// The row, where the operand is a tuple. It takes no memory.
+    pub fn into_row(self) -> Option<RowBuf>
+        ensures { (s : State) → (ls : List Layer) → result ≡ as_tuple (value_at s ls (item_of self)) }
+    {
+        match self {
+            Operand::Held(v) => into_row(v),
+            Operand::Named { .. } => None,
+        }
+    }
+
+    /// The delta, where the operand is one. It takes no memory.
+    pub fn into_delta(self) -> Option<Delta>
+        ensures { (s : State) → (ls : List Layer) → result ≡ as_delta (value_at s ls (item_of self)) }
+    {
+        match self {
+            Operand::Held(v) => into_delta(v),
+            Operand::Named { .. } => None,
+        }
+    }
+
+    /// The rows, where the operand is a relation, seen where they stand. It takes no memory.
+    pub fn seen<'a>(
+        &'a self,
+        changes: &'a Changes,
+        base: &'a Base,
+        commits: &'a [Delta],
+    ) -> Option<Seen<'a>>
+        ensures { let s = after_all base.now.state commits.now in option_map rows_seen result ≡ as_table (value_at s changes.now.layers (item_of self.now)) }
+    {
+        match self {
+            Operand::Held(v) => match v.rows() {
+                None => None,
+                Some(rows) => Some(Seen::Held(rows)),
+            },
+            Operand::Named { rel, tip } => {
+                if usize::from(rel.0) >= base.catalogue().len() {
+                    Some(Seen::Nothing)
+                } else {
+                    Some(Seen::Named(changes.rel(base, commits, *rel, *tip)))
+                }
+            }
+        }
+    }
+
+    /// The value, with the rows collected where the operand names a relation.
+    pub fn collect(
+        self,
+        alloc: Global,
+        changes: &Changes,
+        base: &Base,
+        commits: &[Delta],
+    ) -> Result<Datum, AllocError>
+        ensures { let s = after_all base.now.state commits.now in IfOk result (λ v. plain_of v ≡ value_at s changes.now.layers (item_of self)) }
+    {
+        match self {
+            Operand::Held(v) => Ok(v),
+            Operand::Named { rel, tip } => named_rows(alloc, changes, base, commits, rel, tip),
+        }
+    }
+}
+
+/// The rows of a relation under a layer, as a value.
+fn named_rows(
+    alloc: Global,
+    changes: &Changes,
+    base: &Base,
+    commits: &[Delta],
+    rel: RelId,
+    tip: usize,
+) -> Result<Datum, AllocError>
+    ensures { let s = after_all base.now.state commits.now in IfOk result (λ v. plain_of v ≡ value_at s changes.now.layers (relation rel.0 tip)) }
+{
+    let rows = rows_past(alloc, changes, base, commits, rel, tip, None)?;
+    Datum::new(alloc, Value::Rel(rows))
+}
+
+/// Operands, seen with the newest first, beside the number of further ones for which the place is there.
 #[derive(Drop)]
 pub struct Operands {
-    items: Stack<Value>,
+    pub(crate) items: Vec<Operand>,
 }
 
 impl Model for Operands {
-    ghost use Rattle.std.specs.Prelude.{List, map};
-    ghost use Rattle.hera_meaning.specs.Values as plain;
-    ghost use Rattle.delta_atoms.specs.Plain.{value_of};
+    ghost use Rattle.std.specs.Prelude.{◌-◌};
+    ghost use Rattle.std.specs.Vec.{vec_capacity, vec_len};
+    ghost use Rattle.hera_prims.specs.Newest.{newest};
+    ghost use Rattle.hera_frames.specs.Items.{Shelf, item_of};
 
-    ghost Value = { List plain.Value };
+    ghost Value = { Shelf };
 
-    ghost view = { λ s. map value_of s.items };
+    ghost view = { λ s. record { items = newest item_of s.items.items; spare = vec_capacity s.items - vec_len s.items } };
 }
 
 impl Operands {
     /// No operands. It takes no memory.
     pub fn new(alloc: Global) -> Operands
-        ensures { result ≡ [] }
+        ensures { result.items ≡ [] }
     {
         Operands {
-            items: Stack::new(alloc),
+            items: Vec::new(alloc),
         }
     }
 
-    /// Puts an operand upon the others.
-    pub fn push(&mut self, v: Value) -> Result<(), AllocError>
-        ensures { OnOk result (self.new ≡ value_of v ∷ self.old) }
+    /// Makes the place for at least `n` further operands. Without memory the places stay as they are.
+    pub fn reserve(&mut self, n: usize) -> Result<(), AllocError>
+        ensures items { self.new.items ≡ self.old.items }
+        ensures ok { OnOk result (n ≤ self.new.spare) }
+        ensures err { OnErr result (self.new ≡ self.old) }
     {
-        self.items.push(v)?;
+        self.items.reserve(n)
+    }
+
+    /// Puts a value upon the others. It takes no memory where spare is above 0.
+    #[tactic(auto, using(hera_prims::proofs::Stacks::newest_push))]
+    pub fn push(&mut self, v: Datum) -> Result<(), AllocError>
+        ensures ok { OnOk result (self.new.items ≡ held (plain_of v) ∷ self.old.items) }
+        ensures err { OnErr result (self.new.items ≡ self.old.items) }
+        ensures spared { 0 < self.old.spare → IsOk result }
+        ensures spare { self.old.spare ≤ self.new.spare + 1 }
+    {
+        self.items.push(Operand::Held(v))?;
+        Ok(())
+    }
+
+    /// Puts the name of a relation under a layer upon the others. It takes no memory where spare is above 0.
+    #[tactic(auto, using(hera_prims::proofs::Stacks::newest_push))]
+    pub fn push_named(&mut self, rel: RelId, tip: usize) -> Result<(), AllocError>
+        ensures ok { OnOk result (self.new.items ≡ relation rel.0 tip ∷ self.old.items) }
+        ensures err { OnErr result (self.new.items ≡ self.old.items) }
+        ensures spared { 0 < self.old.spare → IsOk result }
+        ensures spare { self.old.spare ≤ self.new.spare + 1 }
+    {
+        self.items.push(Operand::Named { rel, tip })?;
         Ok(())
     }
 
     /// Takes the newest operand off. It takes no memory.
-    pub fn pop(&mut self) -> Option<Value>
-        ensures { MatchOption result (self.old ≡ []) (λ v. self.old ≡ value_of v ∷ self.new) }
+    #[tactic(auto, using(hera_prims::proofs::Stacks::newest_push))]
+    pub fn pop(&mut self) -> Option<Operand>
+        ensures items { MatchOption result ((self.old.items ≡ []) × (self.new.items ≡ [])) (λ o. self.old.items ≡ item_of o ∷ self.new.items) }
+        ensures within { reach self.new.items ≤ reach self.old.items }
+        ensures spare { MatchOption result (self.new.spare ≡ self.old.spare) (λ _. self.new.spare ≡ self.old.spare + 1) }
     {
         self.items.pop()
     }
 
-    /// Takes `n` operands off, in the order in which they were pushed, if there are as many.
-    pub fn take(&mut self, alloc: Global, n: usize) -> Result<Option<Args>, AllocError>
-        ensures { IfOk result (λ args. taken n [] self.old ≡ option_map (λ args. record { args = args; rest = self.new }) args) }
+    /// Takes the newest operand off as a value, with its rows collected where it names a relation.
+    pub fn pop_value(
+        &mut self,
+        alloc: Global,
+        changes: &Changes,
+        base: &Base,
+        commits: &[Delta],
+    ) -> Result<Option<Datum>, AllocError>
+        ensures value { let s = after_all base.now.state commits.now in IfOk result (λ r. MatchOption r (self.old.items ≡ []) (λ v. operands_at s changes.now.layers self.old.items ≡ plain_of v ∷ operands_at s changes.now.layers self.new.items)) }
+        ensures rest { self.new.items ≡ drop 1 self.old.items }
+        ensures within { reach self.new.items ≤ reach self.old.items }
+        ensures spare { self.old.spare ≤ self.new.spare }
+    {
+        match self.pop() {
+            None => Ok(None),
+            Some(operand) => Ok(Some(operand.collect(alloc, changes, base, commits)?)),
+        }
+    }
+
+    /// The operand at place `i`, the newest of which is 0.
+    #[tactic(auto, using(hera_prims::proofs::Stacks::places))]
+    pub fn newest(&self, i: usize) -> Option<&Operand>
+        ensures { option_map (λ o. item_of o.now) result ≡ slice_get self.now.items i }
+    {
+        let count = self.items.len();
+        if i < count {
+            Some(&self.items[count - 1 - i])
+        } else {
+            None
+        }
+    }
+
+    /// Takes `n` operands off as values, in the order in which they were pushed, if there are as many. What
+    /// names a relation is collected.
+    pub fn take(
+        &mut self,
+        alloc: Global,
+        changes: &Changes,
+        base: &Base,
+        commits: &[Delta],
+        n: usize,
+    ) -> Result<Option<Args>, AllocError>
+        ensures taken { let s = after_all base.now.state commits.now in IfOk result (λ args. taken n [] (operands_at s changes.now.layers self.old.items) ≡ option_map (λ args. record { args = args; rest = operands_at s changes.now.layers self.new.items }) args) }
+        ensures within { reach self.new.items ≤ reach self.old.items }
+        ensures spare { self.old.spare ≤ self.new.spare }
     {
         let mut args = Args::new(alloc);
         for _ in 0..n {
-            match self.pop() {
+            match self.pop_value(alloc, changes, base, commits)? {
                 None => return Ok(None),
-                Some(v) => args.push_front(v)?,
+                Some(v) => args.push_front(v.into_value())?,
             }
         }
         Ok(Some(args))
@@ -69,8 +248,8 @@ impl Operands {
     /// Takes all operands off. Where there are none, the memory for further ones stays. It takes no
     /// memory.
     pub fn take_all(&mut self, alloc: Global) -> Operands
-        ensures all { result ≡ self.old }
-        ensures none { self.new ≡ [] }
+        ensures all { result.items ≡ self.old.items }
+        ensures none { self.new.items ≡ [] }
     {
         if self.items.len() == 0 {
             Operands::new(alloc)
@@ -78,4 +257,102 @@ impl Operands {
             replace(self, Operands::new(alloc))
         }
     }
+
+    /// How many of `most` layers have to be there, the oldest ones, for what the operands name.
+    pub fn reach(&self, most: usize) -> usize
+        ensures { result ≡ min most (reach self.now.items) }
+    {
+        let mut count: usize = 0;
+        for operand in &self.items {
+            count = count.max(operand.reach(most));
+        }
+        count
+    }
+
+    /// Whether some operand names a relation.
+    pub fn has_names(&self) -> bool
+        ensures { result ≡ false → AreHeld self.now.items }
+    {
+        for operand in &self.items {
+            if operand.is_named() {
+                return true;
+            }
+        }
+        false
+    }
+
+    /// The operands with the rows collected of those that name a relation.
+    pub fn settle(
+        self,
+        alloc: Global,
+        changes: &Changes,
+        base: &Base,
+        commits: &[Delta],
+    ) -> Result<Operands, AllocError>
+        ensures { let s = after_all base.now.state commits.now in IfOk result (λ settled. settled ≡ record { items = map (collected s changes.now.layers) self.items; spare = self.spare }) }
+    {
+        let Operands { mut items } = self;
+        collect_all(alloc, &mut items, changes, base, commits)?;
+        Ok(Operands { items })
+    }
+}
+
+impl Operand {
+    /// Whether it names a relation.
+    fn is_named(&self) -> bool
+        ensures { result ≡ is_relation (item_of self.now) }
+    {
+        match self {
+            Operand::Held(_) => false,
+            Operand::Named { .. } => true,
+        }
+    }
+
+    /// How many of `most` layers have to be there, the oldest ones, for what it names.
+    fn reach(&self, most: usize) -> usize
+        ensures { result ≡ min most (reach_of (item_of self.now)) }
+    {
+        match self {
+            Operand::Held(_) => 0,
+            Operand::Named { rel: _, tip } => if *tip < most { *tip + 1 } else { most },
+        }
+    }
+
+    /// The value to be put in the operand's place, where it names a relation.
+    fn rows(
+        &self,
+        alloc: Global,
+        changes: &Changes,
+        base: &Base,
+        commits: &[Delta],
+    ) -> Result<Option<Datum>, AllocError>
+        ensures { let s = after_all base.now.state commits.now in IfOk result (λ r. MatchOption r (collected s changes.now.layers (item_of self.now) ≡ item_of self.now) (λ v. collected s changes.now.layers (item_of self.now) ≡ held (plain_of v))) }
+    {
+        match self {
+            Operand::Held(_) => Ok(None),
+            Operand::Named { rel, tip } => {
+                Ok(Some(named_rows(alloc, changes, base, commits, *rel, *tip)?))
+            }
+        }
+    }
+}
+
+/// Collects the rows of the operands that name a relation.
+fn collect_all(
+    alloc: Global,
+    items: &mut Vec<Operand>,
+    changes: &Changes,
+    base: &Base,
+    commits: &[Delta],
+) -> Result<(), AllocError>
+    ensures items { let s = after_all base.now.state commits.now in OnOk result (newest item_of items.new.items ≡ map (collected s changes.now.layers) (newest item_of items.old.items)) }
+    ensures len { vec_len items.new ≡ vec_len items.old }
+    ensures capacity { vec_capacity items.new ≡ vec_capacity items.old }
+{
+    for i in 0..items.len() {
+        if let Some(v) = items[i].rows(alloc, changes, base, commits)? {
+            let_go(replace(&mut items[i], Operand::Held(v)));
+        }
+    }
+    Ok(())
 }

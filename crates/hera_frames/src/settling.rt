@@ -1,10 +1,13 @@
-//! Walks that are given the rows that are left of them, before what they name is changed.
-ghost use Rattle.std.specs.Prelude.{◌≡◌, ◌≤◌, [], false, map, OnOk, length};
+//! Names that are given up: what is named is collected before the pending delta changes, and layers that
+//! nothing names are dropped.
+ghost use Rattle.std.specs.Prelude.{◌≡◌, [], false, suc, min, max, map, OnOk, IfOk};
 ghost use Rattle.when_overlay.specs.Changed.{after_all};
-ghost use Rattle.hera_frames.specs.Walking.{lowest, settled, AreGiven};
-ghost use Rattle.hera_frames.specs.Waiting.{poured, frames_settled};
+ghost use Rattle.hera_frames.specs.Branched.{lowest};
+ghost use Rattle.hera_frames.specs.Items.{reach};
+ghost use Rattle.hera_frames.specs.Walking.{settled, AreGiven, walks_reach};
+ghost use Rattle.hera_frames.specs.Waiting.{poured, frame_settled};
 
-use crate::{Changes, Frame, Stack, Walk};
+use crate::{Changes, Frame, Operands, Stack, Walk};
 use delta_atoms::Delta;
 use rel_pages::Base;
 use std::alloc::{AllocError, Global};
@@ -20,8 +23,7 @@ fn pour<T: Drop>(from: &mut Stack<T>, to: &mut Stack<T>) -> Result<(), AllocErro
     Ok(())
 }
 
-/// Of the layers below the depth: moves all walks to another stack, and collects what is left of those
-/// that name a relation under at least `from` of them.
+/// Moves all walks to another stack, with the rows that are left of them.
 fn settle_into(
     alloc: Global,
     walks: &mut Stack<Walk>,
@@ -29,39 +31,65 @@ fn settle_into(
     changes: &Changes,
     base: &Base,
     commits: &[Delta],
-    depth: usize,
-    from: usize,
 ) -> Result<(), AllocError>
-    ensures done { OnOk result (done.new ≡ poured (map (settled (after_all base.now.state commits.now) changes.now.pending (lowest depth changes.now.layers) from) walks.old) done.old) }
+    ensures done { OnOk result (done.new ≡ poured (map (settled (after_all base.now.state commits.now) changes.now.layers) walks.old) done.old) }
     ensures none { OnOk result (walks.new ≡ []) }
 {
-    while let Some(mut walk) = walks.pop() {
-        walk.settle(alloc, changes, base, commits, depth, from)?;
-        done.push(walk)?;
+    while let Some(walk) = walks.pop() {
+        done.push(walk.settle(alloc, changes, base, commits)?)?;
     }
     Ok(())
 }
 
-/// Of the layers below the depth: collects what is left of the walks that name a relation under at least
-/// `from` of them.
+/// The walks with the rows that are left of them, collected where they name a relation.
 pub fn settle_walks(
     alloc: Global,
-    walks: &mut Stack<Walk>,
+    mut walks: Stack<Walk>,
     changes: &Changes,
     base: &Base,
     commits: &[Delta],
-    depth: usize,
-    from: usize,
-) -> Result<(), AllocError>
-    ensures { OnOk result (walks.new ≡ map (settled (after_all base.now.state commits.now) changes.now.pending (lowest depth changes.now.layers) from) walks.old) }
+) -> Result<Stack<Walk>, AllocError>
+    ensures { IfOk result (λ ws. ws ≡ map (settled (after_all base.now.state commits.now) changes.now.layers) walks) }
 {
     let mut done = Stack::new(alloc);
-    settle_into(alloc, walks, &mut done, changes, base, commits, depth, from)?;
-    pour(&mut done, walks)
+    settle_into(alloc, &mut walks, &mut done, changes, base, commits)?;
+    pour(&mut done, &mut walks)?;
+    Ok(walks)
 }
 
-/// Moves all frames to another stack, and collects what is left of their walks. The first one has the
-/// layers below the depth, and each one that follows as many fewer as the one before calls its own.
+/// The frame with rows in the place of all names.
+fn settle_frame(
+    alloc: Global,
+    frame: Frame,
+    changes: &Changes,
+    base: &Base,
+    commits: &[Delta],
+) -> Result<Frame, AllocError>
+    ensures { IfOk result (λ f. f ≡ frame_settled (after_all base.now.state commits.now) changes.now.layers frame) }
+{
+    let Frame {
+        at,
+        operands,
+        locals,
+        walks,
+        tip,
+        own,
+        floor,
+        names_below: _,
+    } = frame;
+    Ok(Frame {
+        at,
+        operands: operands.settle(alloc, changes, base, commits)?,
+        locals,
+        walks: settle_walks(alloc, walks, changes, base, commits)?,
+        tip,
+        own,
+        floor,
+        names_below: false,
+    })
+}
+
+/// Moves all frames to another stack, with rows in the place of all names.
 fn settle_frames_into(
     alloc: Global,
     frames: &mut Stack<Frame>,
@@ -69,38 +97,30 @@ fn settle_frames_into(
     changes: &Changes,
     base: &Base,
     commits: &[Delta],
-    depth: usize,
 ) -> Result<(), AllocError>
-    requires { depth ≤ length changes.now.layers }
-    ensures done { OnOk result (done.new ≡ poured (frames_settled (after_all base.now.state commits.now) changes.now.pending (lowest depth changes.now.layers) frames.old) done.old) }
+    ensures done { OnOk result (done.new ≡ poured (map (frame_settled (after_all base.now.state commits.now) changes.now.layers) frames.old) done.old) }
     ensures none { OnOk result (frames.new ≡ []) }
 {
-    let mut below = depth;
-    while let Some(mut frame) = frames.pop() {
-        settle_walks(alloc, &mut frame.walks, changes, base, commits, below, 0)?;
-        frame.names_below = false;
-        below = below.saturating_sub(frame.own);
-        done.push(frame)?;
+    while let Some(frame) = frames.pop() {
+        done.push(settle_frame(alloc, frame, changes, base, commits)?)?;
     }
     Ok(())
 }
 
-/// Collects what is left of all walks of frames that wait, the newest of which has the layers below the
-/// depth.
+/// The frames with rows in the place of all names.
 pub fn settle_frames(
     alloc: Global,
-    frames: &mut Stack<Frame>,
+    mut frames: Stack<Frame>,
     changes: &Changes,
     base: &Base,
     commits: &[Delta],
-    depth: usize,
-) -> Result<(), AllocError>
-    requires { depth ≤ length changes.now.layers }
-    ensures { OnOk result (frames.new ≡ frames_settled (after_all base.now.state commits.now) changes.now.pending (lowest depth changes.now.layers) frames.old) }
+) -> Result<Stack<Frame>, AllocError>
+    ensures { IfOk result (λ fs. fs ≡ map (frame_settled (after_all base.now.state commits.now) changes.now.layers) frames) }
 {
     let mut done = Stack::new(alloc);
-    settle_frames_into(alloc, frames, &mut done, changes, base, commits, depth)?;
-    pour(&mut done, frames)
+    settle_frames_into(alloc, &mut frames, &mut done, changes, base, commits)?;
+    pour(&mut done, &mut frames)?;
+    Ok(frames)
 }
 
 /// Whether some walk names a relation.
@@ -113,4 +133,29 @@ pub fn any_named(walks: &Stack<Walk>) -> bool
         }
     }
     false
+}
+
+/// How many of `most` layers have to be there, the oldest ones, for what the walks name.
+fn reach_of(walks: &Stack<Walk>, most: usize) -> usize
+    ensures { result ≡ min most (walks_reach walks.now) }
+{
+    let mut count: usize = 0;
+    for walk in walks.oldest_first() {
+        count = count.max(walk.reach(most));
+    }
+    count
+}
+
+/// Drops the newest layers that nothing names any more: neither the operands, nor the walks, nor a frame
+/// that waits, all of whose layers are below the floor. The machine doesn't read under them. It takes no
+/// memory.
+pub fn release(changes: &mut Changes, floor: usize, operands: &Operands, walks: &Stack<Walk>)
+    ensures { changes.new ≡ record changes.old { layers = lowest (max (max floor (suc changes.old.tip)) (max (reach operands.now.items) (walks_reach walks.now))) changes.old.layers } }
+{
+    let count = changes.len();
+    if count <= floor || count == changes.tip() + 1 {
+        return;
+    }
+    let named = operands.reach(count).max(reach_of(walks, count));
+    changes.keep_lowest(named.max(floor));
 }

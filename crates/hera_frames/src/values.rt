@@ -1,17 +1,109 @@
-//! What a value is.
-ghost use Rattle.std.specs.Prelude.{◌≡◌, IfOk, pos};
-ghost use Rattle.hera_meaning.specs.Values.{int_value};
+//! Values in little place.
+ghost use Rattle.std.specs.Prelude.{◌≡◌, true, IfOk, IsOk};
+ghost use Rattle.std.specs.Option.{option_copied};
 ghost use Rattle.hera_meaning.specs.Expressions.{const_value};
 ghost use Rattle.hera_code.specs.Machine.{as_bool, as_tuple, as_table, as_delta};
 ghost use Rattle.delta_atoms.specs.Plain.{value_of};
+ghost use Rattle.hera_frames.specs.Items.{plain_of, is_small};
 
-use delta_atoms::{Delta, Value};
+use delta_atoms::{Delta, Value, copy_value};
 use hera_meaning::{Const, Scalar};
 use hera_rows::{RowBuf, RowSet};
 use std::alloc::{AllocError, Global};
 
+/// A value. What is larger than an int stands on the heap.
+#[derive(Drop)]
+pub enum Datum {
+    /// An int.
+    Int(i64),
+    /// A bool.
+    Bool(bool),
+    /// A value of any kind.
+    Large(Box<Value>),
+}
+
+impl Datum {
+    /// A value in little place. An int or a bool takes no memory.
+    pub fn new(alloc: Global, v: Value) -> Result<Datum, AllocError>
+        ensures plain { IfOk result (λ d. plain_of d ≡ value_of v) }
+        ensures small { is_small (value_of v) ≡ true → IsOk result }
+    {
+        match v {
+            Value::Scalar(Scalar::Int(n)) => Ok(Datum::Int(n)),
+            Value::Scalar(Scalar::Bool(b)) => Ok(Datum::Bool(b)),
+            Value::Scalar(Scalar::Text(t)) => large(alloc, Value::Scalar(Scalar::Text(t))),
+            Value::Row(row) => large(alloc, Value::Row(row)),
+            Value::Rel(rows) => large(alloc, Value::Rel(rows)),
+            Value::Delta(delta) => large(alloc, Value::Delta(delta)),
+        }
+    }
+
+    /// The value. It takes no memory.
+    pub fn into_value(self) -> Value
+        ensures { value_of result ≡ plain_of self }
+    {
+        match self {
+            Datum::Int(n) => Value::Scalar(Scalar::Int(n)),
+            Datum::Bool(b) => Value::Scalar(Scalar::Bool(b)),
+            Datum::Large(v) => Box::into_inner(v),
+        }
+    }
+
+    /// A copy.
+    pub fn copy(&self, alloc: Global) -> Result<Datum, AllocError>
+        ensures { IfOk result (λ d. plain_of d ≡ plain_of self.now) }
+    {
+        match self {
+            Datum::Int(n) => Ok(Datum::Int(*n)),
+            Datum::Bool(b) => Ok(Datum::Bool(*b)),
+            Datum::Large(v) => large(alloc, copy_value(v)?),
+        }
+    }
+
+    /// The bool, where the value is one.
+    pub fn bool_of(&self) -> Option<bool>
+        ensures { result ≡ as_bool (plain_of self.now) }
+    {
+        match self {
+            Datum::Int(_) => None,
+            Datum::Bool(b) => Some(*b),
+            Datum::Large(v) => bool_of(v),
+        }
+    }
+
+    /// The rows, where the value is a relation.
+    pub fn rows(&self) -> Option<&RowSet>
+        ensures { option_copied result ≡ as_table (plain_of self.now) }
+    {
+        match self {
+            Datum::Int(_) => None,
+            Datum::Bool(_) => None,
+            Datum::Large(v) => rows_of(v),
+        }
+    }
+}
+
+/// A value that stands on the heap.
+fn large(alloc: Global, v: Value) -> Result<Datum, AllocError>
+    ensures { IfOk result (λ d. plain_of d ≡ value_of v) }
+{
+    Ok(Datum::Large(Box::new(alloc, v)?))
+}
+
+/// The rows, where the value is a relation.
+fn rows_of(v: &Value) -> Option<&RowSet>
+    ensures { option_copied result ≡ as_table (value_of v.now) }
+{
+    match v {
+        Value::Rel(rows) => Some(rows),
+        Value::Scalar(_) => None,
+        Value::Row(_) => None,
+        Value::Delta(_) => None,
+    }
+}
+
 /// The bool, where the value is one.
-pub fn bool_of(v: &Value) -> Option<bool>
+fn bool_of(v: &Value) -> Option<bool>
     ensures { result ≡ as_bool (value_of v.now) }
 {
     match v {
@@ -25,10 +117,10 @@ pub fn bool_of(v: &Value) -> Option<bool>
 }
 
 /// The row, where the value is a tuple.
-pub fn into_row(v: Value) -> Option<RowBuf>
-    ensures { result ≡ as_tuple (value_of v) }
+pub fn into_row(v: Datum) -> Option<RowBuf>
+    ensures { result ≡ as_tuple (plain_of v) }
 {
-    match v {
+    match v.into_value() {
         Value::Row(row) => Some(row),
         Value::Scalar(_) => None,
         Value::Rel(_) => None,
@@ -37,10 +129,10 @@ pub fn into_row(v: Value) -> Option<RowBuf>
 }
 
 /// The rows, where the value is a relation.
-pub fn into_rel(v: Value) -> Option<RowSet>
-    ensures { result ≡ as_table (value_of v) }
+pub fn into_rel(v: Datum) -> Option<RowSet>
+    ensures { result ≡ as_table (plain_of v) }
 {
-    match v {
+    match v.into_value() {
         Value::Rel(rows) => Some(rows),
         Value::Scalar(_) => None,
         Value::Row(_) => None,
@@ -49,10 +141,10 @@ pub fn into_rel(v: Value) -> Option<RowSet>
 }
 
 /// The delta, where the value is one.
-pub fn into_delta(v: Value) -> Option<Delta>
-    ensures { result ≡ as_delta (value_of v) }
+pub fn into_delta(v: Datum) -> Option<Delta>
+    ensures { result ≡ as_delta (plain_of v) }
 {
-    match v {
+    match v.into_value() {
         Value::Delta(delta) => Some(delta),
         Value::Scalar(_) => None,
         Value::Row(_) => None,
@@ -61,21 +153,18 @@ pub fn into_delta(v: Value) -> Option<Delta>
 }
 
 /// The value of a constant.
-pub fn const_of(alloc: Global, constant: &Const) -> Result<Value, AllocError>
-    ensures { IfOk result (λ v. value_of v ≡ const_value constant.now) }
+pub fn const_of(alloc: Global, constant: &Const) -> Result<Datum, AllocError>
+    ensures { IfOk result (λ d. plain_of d ≡ const_value constant.now) }
 {
     match constant {
-        Const::Scalar(scalar) => Ok(Value::Scalar(scalar.copy()?)),
-        Const::EmptyDelta => Ok(Value::Delta(Delta::empty(alloc))),
-        Const::FailDelta => Ok(Value::Delta(Delta::fail(alloc))),
+        Const::Scalar(Scalar::Int(n)) => Ok(Datum::Int(*n)),
+        Const::Scalar(Scalar::Bool(b)) => Ok(Datum::Bool(*b)),
+        Const::Scalar(Scalar::Text(text)) => {
+            large(alloc, Value::Scalar(Scalar::Text(text.copy()?)))
+        }
+        Const::EmptyDelta => large(alloc, Value::Delta(Delta::empty(alloc))),
+        Const::FailDelta => large(alloc, Value::Delta(Delta::fail(alloc))),
     }
-}
-
-/// The int 0.
-pub(crate) fn int_zero() -> Value
-    ensures { value_of result ≡ int_value (pos 0) }
-{
-    Value::Scalar(Scalar::Int(0))
 }
 
 /// Lets an item go. It is a function so that the proofs of its callers do not go through the item's parts.

@@ -1,12 +1,13 @@
 //! Walks.
-ghost use Rattle.std.specs.Prelude.{◌≡◌, ◌≤◌, [], ◌∷◌, None, Some, OnOk, IfOk, MatchOption, length};
+ghost use Rattle.std.specs.Prelude.{◌≡◌, ◌≤◌, [], ◌∷◌, None, Some, min, OnOk, IfOk, MatchOption};
 ghost use Rattle.std.specs.List.{filter};
 ghost use Rattle.std.specs.Option.{option_copied};
 ghost use Rattle.hera_sets.specs.Rows.{put, is_past};
 ghost use Rattle.hera_meaning.specs.Deltas.{rows_at};
 ghost use Rattle.hera_code.specs.Machine.{with_current};
 ghost use Rattle.when_overlay.specs.Changed.{after_all};
-ghost use Rattle.hera_frames.specs.Walking.{given, named, rest_of, seen_at, to_come, walk_at, lowest, settled, settled_rest, is_named, IsAtEnd, IsAtRow};
+ghost use Rattle.hera_frames.specs.Branched.{seen_at};
+ghost use Rattle.hera_frames.specs.Walking.{given, named, rest_of, to_come, walk_at, settled, is_named, rest_reach, IsAtEnd, IsAtRow};
 
 use crate::Changes;
 use crate::past::Past;
@@ -19,8 +20,8 @@ use std::alloc::{AllocError, Global};
 use std::marker::Model;
 use std::mem::replace;
 
-/// What a walk goes over: rows of its own, from a place on; or a relation under so many of the machine's
-/// layers, of which what lies past the current row is still to come.
+/// What a walk goes over: rows of its own, from a place on; or a relation as it is under a layer, of which
+/// what lies past the current row is still to come.
 #[derive(Drop)]
 pub(crate) enum Source {
     Rows { rows: RowSet, next: usize },
@@ -46,7 +47,7 @@ fn bytes_of(row: &Option<RowBuf>) -> Option<&[u8]>
     }
 }
 
-/// A copy of the next row past the bound in a relation under so many of the layers.
+/// A copy of the next row past the bound in a relation under a layer.
 fn row_past(
     alloc: Global,
     changes: &Changes,
@@ -56,7 +57,7 @@ fn row_past(
     tip: usize,
     bound: Option<&[u8]>,
 ) -> Result<Option<RowBuf>, AllocError>
-    ensures { let rows = rows_at (seen_at (after_all base.now.state commits.now) changes.now.pending changes.now.layers tip) rel.0 in IfOk result (λ r. MatchOption r (filter (is_past (option_copied bound.entry)) rows ≡ []) (λ x. filter (is_past (option_copied bound.entry)) rows ≡ x ∷ filter (is_past (Some x)) rows)) }
+    ensures { let rows = rows_at (seen_at (after_all base.now.state commits.now) changes.now.layers tip) rel.0 in IfOk result (λ r. MatchOption r (filter (is_past (option_copied bound.entry)) rows ≡ []) (λ x. filter (is_past (option_copied bound.entry)) rows ≡ x ∷ filter (is_past (Some x)) rows)) }
 {
     if usize::from(rel.0) >= base.catalogue().len() {
         return Ok(None);
@@ -67,7 +68,7 @@ fn row_past(
     }
 }
 
-/// The rows past the bound in a relation under so many of the layers, as a set.
+/// The rows past the bound in a relation under a layer, as a set.
 pub fn rows_past(
     alloc: Global,
     changes: &Changes,
@@ -77,7 +78,7 @@ pub fn rows_past(
     tip: usize,
     bound: Option<&[u8]>,
 ) -> Result<RowSet, AllocError>
-    ensures { IfOk result (λ rows. rows ≡ filter (is_past (option_copied bound.entry)) (rows_at (seen_at (after_all base.now.state commits.now) changes.now.pending changes.now.layers tip) rel.0)) }
+    ensures { IfOk result (λ rows. rows ≡ filter (is_past (option_copied bound.entry)) (rows_at (seen_at (after_all base.now.state commits.now) changes.now.layers tip) rel.0)) }
 {
     if usize::from(rel.0) >= base.catalogue().len() {
         return Ok(RowSet::new(alloc));
@@ -97,7 +98,8 @@ impl Source {
         base: &Base,
         commits: &[Delta],
     ) -> Result<Option<RowBuf>, AllocError>
-        ensures { let s = after_all base.now.state commits.now in IfOk result (λ r. MatchOption r (to_come s changes.now.pending changes.now.layers (option_copied last.entry) (rest_of self.old) ≡ []) (λ x. to_come s changes.now.pending changes.now.layers (option_copied last.entry) (rest_of self.old) ≡ x ∷ to_come s changes.now.pending changes.now.layers (Some x) (rest_of self.new))) }
+        ensures names { rest_reach (rest_of self.new) ≡ rest_reach (rest_of self.old) }
+        ensures step { let s = after_all base.now.state commits.now in IfOk result (λ r. MatchOption r (to_come s changes.now.layers (option_copied last.entry) (rest_of self.old) ≡ []) (λ x. to_come s changes.now.layers (option_copied last.entry) (rest_of self.old) ≡ x ∷ to_come s changes.now.layers (Some x) (rest_of self.new))) }
     {
         match self {
             Source::Rows { rows, next } => {
@@ -113,8 +115,7 @@ impl Source {
         }
     }
 
-    /// Of the layers below the depth: what lies past the last row in the relation that is named, if it is
-    /// named under at least `from` of them.
+    /// What lies past the last row in the relation that is named, where one is.
     fn left(
         &self,
         alloc: Global,
@@ -122,20 +123,13 @@ impl Source {
         changes: &Changes,
         base: &Base,
         commits: &[Delta],
-        depth: usize,
-        from: usize,
     ) -> Result<Option<RowSet>, AllocError>
-        ensures { let s = after_all base.now.state commits.now in IfOk result (λ r. MatchOption r (settled_rest s changes.now.pending (lowest depth changes.now.layers) from (option_copied last.entry) (rest_of self.now) ≡ rest_of self.now) (λ rows. settled_rest s changes.now.pending (lowest depth changes.now.layers) from (option_copied last.entry) (rest_of self.now) ≡ given rows)) }
+        ensures { let s = after_all base.now.state commits.now in IfOk result (λ r. MatchOption r (rest_of self.now ≡ given (to_come s changes.now.layers (option_copied last.entry) (rest_of self.now))) (λ rows. rows ≡ to_come s changes.now.layers (option_copied last.entry) (rest_of self.now))) }
     {
         match self {
             Source::Rows { .. } => Ok(None),
             Source::Named { rel, tip } => {
-                if *tip < from {
-                    Ok(None)
-                } else {
-                    let tip = (*tip).min(depth);
-                    Ok(Some(rows_past(alloc, changes, base, commits, *rel, tip, last)?))
-                }
+                Ok(Some(rows_past(alloc, changes, base, commits, *rel, *tip, last)?))
             }
         }
     }
@@ -161,7 +155,7 @@ impl Walk {
         }
     }
 
-    /// A walk in front of the first row of a relation under so many of the layers, with nothing gathered.
+    /// A walk in front of the first row of a relation under a layer, with nothing gathered.
     /// It takes no memory.
     pub fn over(alloc: Global, rel: RelId, tip: usize) -> Walk
         ensures { result ≡ record { rest = named rel.0 tip; current = None; gathered = [] } }
@@ -183,6 +177,16 @@ impl Walk {
         }
     }
 
+    /// How many of `most` layers have to be there, the oldest ones, for what it names.
+    pub(crate) fn reach(&self, most: usize) -> usize
+        ensures { result ≡ min most (rest_reach self.now.rest) }
+    {
+        match &self.source {
+            Source::Rows { .. } => 0,
+            Source::Named { rel: _, tip } => if *tip < most { *tip + 1 } else { most },
+        }
+    }
+
     /// Goes on to the next row, of which it gives a copy, or finds none left.
     pub fn next(
         &mut self,
@@ -191,7 +195,8 @@ impl Walk {
         base: &Base,
         commits: &[Delta],
     ) -> Result<Option<RowBuf>, AllocError>
-        ensures { let s = after_all base.now.state commits.now in IfOk result (λ r. MatchOption r (IsAtEnd (walk_at s changes.now.pending changes.now.layers self.old) (walk_at s changes.now.pending changes.now.layers self.new)) (λ x. IsAtRow x (walk_at s changes.now.pending changes.now.layers self.old) (walk_at s changes.now.pending changes.now.layers self.new))) }
+        ensures step { let s = after_all base.now.state commits.now in IfOk result (λ r. MatchOption r (IsAtEnd (walk_at s changes.now.layers self.old) (walk_at s changes.now.layers self.new)) (λ x. IsAtRow x (walk_at s changes.now.layers self.old) (walk_at s changes.now.layers self.new))) }
+        ensures names { rest_reach self.new.rest ≤ rest_reach self.old.rest }
     {
         let last = bytes_of(&self.current);
         match self.source.next(alloc, last, changes, base, commits)? {
@@ -215,27 +220,21 @@ impl Walk {
         }
     }
 
-    /// Of the layers below the depth: collects what is left of it, if it names a relation under at least
-    /// `from` of them.
+    /// The walk with the rows that are left of it, collected where it names a relation.
     pub fn settle(
-        &mut self,
+        mut self,
         alloc: Global,
         changes: &Changes,
         base: &Base,
         commits: &[Delta],
-        depth: usize,
-        from: usize,
-    ) -> Result<(), AllocError>
-        ensures { OnOk result (self.new ≡ settled (after_all base.now.state commits.now) changes.now.pending (lowest depth changes.now.layers) from self.old) }
+    ) -> Result<Walk, AllocError>
+        ensures { IfOk result (λ w. w ≡ settled (after_all base.now.state commits.now) changes.now.layers self) }
     {
         let last = bytes_of(&self.current);
-        if let Some(rows) = self
-            .source
-            .left(alloc, last, changes, base, commits, depth, from)?
-        {
+        if let Some(rows) = self.source.left(alloc, last, changes, base, commits)? {
             let_go(replace(&mut self.source, Source::Rows { rows, next: 0 }));
         }
-        Ok(())
+        Ok(self)
     }
 
     /// Gathers the current row, if there is one.

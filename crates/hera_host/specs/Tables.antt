@@ -13,6 +13,9 @@ pub record Host : Type 0 where
   pub name : List ℕ
   pub spec : HostSpec
 
+abbrev pub host : List ℕ → HostSpec → Host
+host name spec = record { name = name; spec = spec }
+
 -- what the hosts of a table answer, by their numbers
 abbrev pub specs_of : List Host → Hosts
 specs_of table = map (λ h. h.spec) table

@@ -1,127 +1,106 @@
-ghost use Rattle.std.specs.Prelude.{◌≡◌, ◌<◌, [], IfSome, length};
-ghost use Rattle.hera_meaning.specs.Hosts.{host_takes, host_gives};
-ghost use Rattle.hera_host.specs.Tables.{AreHosts, host_named, takes_at, gives_at};
-ghost use Rattle.hera_sets.specs.Rows.{is_same};
+//! The table of host functions.
+ghost use Rattle.std.specs.Prelude.{◌≡◌, true, ◌+◌, ◌<◌, ◌^◌, ◌++◌, [], ◌∷◌, ◌↔◌, IsSome, IsSomeAnd, IfSome, OnOk, IfErr, length, map};
+ghost use Rattle.hera_meaning.specs.Hosts.{host_at, host_of};
+ghost use Rattle.hera_meaning.specs.Scalars.{is_kind};
+ghost use Rattle.hera_host.specs.Tables.{AreHosts, host, specs_of, host_named, takes_at, gives_at};
 
-use hera_meaning::{HostSpec, Kind, Name};
-use hera_sets::is_same;
+use crate::host::HostFn;
+use crate::names::HostNames;
+use hera_meaning::{HostAnswer, Kind, Scalar};
 use std::alloc::Global;
-use std::marker::Model;
+use thiserror::Error;
 
-/// A host function: its name, and what it answers for its argument.
-#[derive(Drop)]
-pub struct HostFn {
-    name: Name,
-    spec: HostSpec,
-}
-
-impl Model for HostFn {
-    ghost use Rattle.hera_host.specs.Tables.{Host};
-
-    ghost Value = { Host };
-
-    ghost view = { λ h. record { name = h.name; spec = h.spec } };
-}
-
-impl HostFn {
-    /// Whether the host has this name.
-    fn is_named(&self, name: &[u8]) -> bool
-        ensures { result ≡ is_same name.now self.now.name }
-    {
-        is_same(name, self.name.bytes())
-    }
-
-    /// The kind of the argument.
-    fn param(&self) -> Kind
-        ensures { result ≡ host_takes self.now.spec }
-    {
-        match &self.spec {
-            HostSpec::Prefix { .. } => Kind::Text,
-            _ => Kind::Int,
-        }
-    }
-
-    /// The kind of the answer.
-    fn result(&self) -> Kind
-        ensures { result ≡ host_gives self.now.spec }
-    {
-        match &self.spec {
-            HostSpec::Band { .. } | HostSpec::Prefix { .. } => Kind::Bool,
-            _ => Kind::Int,
-        }
-    }
-}
-
-/// The place of the host of this name.
-fn place_of(hosts: &[HostFn], name: &[u8]) -> Option<usize>
-    ensures place { result ≡ host_named name.now hosts.now }
-    ensures within { IfSome result (λ i. i < length hosts.now) }
-{
-    hosts.iter().position(|host| host.is_named(name))
+/// Why a host function was not added to a table.
+#[derive(Debug, Drop, Error)]
+pub enum HostFault {
+    /// A host of the table has this name.
+    #[error("a host function has this name")]
+    NameTaken,
+    /// No memory for one more host.
+    #[error("out of memory")]
+    Memory,
 }
 
 /// The host functions that a script may call. A host's number is its place.
 #[derive(Drop)]
 pub struct HostTable {
-    hosts: Vec<HostFn>,
-}
-
-impl Model for HostTable {
-    ghost use Rattle.std.specs.Prelude.{List};
-    ghost use Rattle.hera_host.specs.Tables.{Host};
-
-    ghost Value = { List Host };
-
-    ghost use Rattle.std.specs.Prelude.{◌<◌, ◌^◌, length};
-    ghost use Rattle.hera_host.specs.Tables.{AreHosts};
-
-    ghost view = { λ t. t.hosts.items };
-
-    ghost invariant = { λ t. (length t.hosts.items < 2 ^ 32) × AreHosts t.hosts.items };
+    pub names: HostNames,
+    fns: Vec<HostFn>,
+    ghost listed: { names ≡ map (λ f. host f.name f.spec) fns.items },
 }
 
 impl HostTable {
     /// The table without hosts. It takes no memory.
     pub fn new(alloc: Global) -> HostTable
-        ensures { result ≡ [] }
+        ensures { result.names ≡ [] }
     {
         HostTable {
-            hosts: Vec::new(alloc),
+            names: HostNames::new(alloc),
+            fns: Vec::new(alloc),
         }
     }
 
     /// How many there are.
     pub fn len(&self) -> u32
-        ensures count { result ≡ length self.now }
-        ensures valid { AreHosts self.now }
+        ensures count { result ≡ length self.now.names }
+        ensures valid { AreHosts self.now.names }
     {
-        self.hosts.len() as u32
+        self.names.len()
+    }
+
+    /// Puts one more behind the others, which then has the number `len`. `NameTaken` comes exactly where a host of the
+    /// table has its name, `Memory` where there is no memory for it; the host comes back, and the table is as before.
+    pub fn add(&mut self, new: HostFn) -> Result<(), (HostFn, HostFault)>
+        requires { length self.old.names + 1 < 2 ^ 32 }
+        ensures added { OnOk result (self.new.names ≡ self.old.names ++ host new.name new.spec ∷ []) }
+        ensures unchanged { IfErr result (λ refusal. (refusal.0 ≡ new) × (self.new.names ≡ self.old.names)) }
+        ensures taken { (result ≡ Err (new, HostFault.NameTaken)) ↔ IsSome (host_named new.name self.old.names) }
+    {
+        if self.names.find(new.name.bytes()).is_some() {
+            return Err((new, HostFault::NameTaken));
+        }
+        let Ok(listed) = new.listed() else {
+            return Err((new, HostFault::Memory));
+        };
+        if self.fns.reserve(1).is_err() || self.names.push(listed).is_err() {
+            return Err((new, HostFault::Memory));
+        }
+        match self.fns.push(new) {
+            Ok(()) => Ok(()),
+            Err(_) => unreachable!(),
+        }
     }
 
     /// The number of the host of this name, `None` exactly where there is none.
     pub fn find(&self, name: &[u8]) -> Option<u32>
-        ensures number { result ≡ host_named name.now self.now }
-        ensures within { IfSome result (λ id. id < length self.now) }
+        ensures number { result ≡ host_named name.now self.now.names }
+        ensures within { IfSome result (λ id. id < length self.now.names) }
     {
-        match place_of(&self.hosts, name) {
-            Some(place) => Some(place as u32),
-            None => None,
-        }
+        self.names.find(name)
     }
 
     /// The kind of the argument of the host of this number.
     pub fn param(&self, id: u32) -> Kind
-        requires { id < length self.now }
-        ensures { result ≡ takes_at self.now id }
+        requires { id < length self.now.names }
+        ensures { result ≡ takes_at self.now.names id }
     {
-        self.hosts[id as usize].param()
+        self.names.param(id)
     }
 
     /// The kind of the answer of the host of this number.
     pub fn result(&self, id: u32) -> Kind
-        requires { id < length self.now }
-        ensures { result ≡ gives_at self.now id }
+        requires { id < length self.now.names }
+        ensures { result ≡ gives_at self.now.names id }
     {
-        self.hosts[id as usize].result()
+        self.names.result(id)
+    }
+
+    /// What the host of this number answers for an argument of its kind. It takes no memory.
+    pub fn call(&self, id: u32, arg: &Scalar) -> HostAnswer
+        requires number { id < length self.now.names }
+        requires kind { is_kind (takes_at self.now.names id) arg.now ≡ true }
+        ensures answer { IsSomeAnd (host_at (specs_of self.now.names) id) (λ spec. result ≡ host_of spec arg.now) }
+    {
+        self.fns[id as usize].answer(arg)
     }
 }

@@ -1,5 +1,5 @@
 -- A machine that is moved step by step goes on as the code does.
-use Rattle.std.proofs.Common.{◌≡◌, ℕ, suc, ◌+◌, List, [], ◌∷◌, ◌++◌, length, Option, Some, None, refl, sym, ap, ◌∙◌, arith, append_assoc, append-nil, zero-add, length-append}
+use Rattle.std.proofs.Common.{◌≡◌, ℕ, suc, ◌+◌, List, [], ◌∷◌, ◌++◌, length, Some, None, refl, sym, ap, ◌∙◌, arith, append_assoc, append-nil, zero-add, length-append}
 use Rattle.hera_meaning.specs.declared.schemas.RelDecl.{RelDecl}
 use Rattle.hera_meaning.specs.Deltas.{Delta, State, apply_of}
 use Rattle.hera_meaning.specs.Hosts.{Hosts}
@@ -8,7 +8,7 @@ use Rattle.hera_meaning.specs.Worlds.{Event, out, store}
 use Rattle.hera_meaning.specs.Run.{printed, state_after, finished, stopped, out_of_turns}
 use Rattle.hera_code.specs.declared.instrs.Code.{Code}
 use Rattle.hera_code.specs.Machine.{Machine, Stop, ended, stuck, Step, quiet, says, commits, ends, code_step}
-use Rattle.hera_code.specs.Reached.{Reached, over, with_line, stores, after_step, exec_code, code_at, start_of}
+use Rattle.hera_code.specs.Reached.{over, with_line, stores, after_step, exec_code, code_at, start_of}
 use Rattle.hera_machine.specs.declared.events.End.{End}
 use Rattle.hera_machine.specs.declared.events.Event.TheVariants.{Quiet, Out, Commit, Ended}
 use Rattle.hera_machine.specs.declared.events.Status.TheVariants.{Working}

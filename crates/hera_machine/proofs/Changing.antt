@@ -1,257 +1,125 @@
--- What instructions change of a machine that names relations, seen as the machine of the code.
-use Rattle.std.proofs.Common.{◌≡◌, ℕ, suc, ◌+◌, ◌-◌, ◌<◌, ◌≤◌, Bool, true, false, List, [], ◌∷◌, length, drop, map, Option, None, Some, refl, sym, ap, subst, ◌∙◌, add-one, arith}
-use Rattle.std.specs.Prelude.{Result, Ok, Err, OnOk, IfOk, slice_get}
-use Rattle.std.specs.List.{filter}
-use Rattle.std.specs.declared.alloc.AllocError.{AllocError}
-use Rattle.hera_sets.specs.Rows.{Row, is_past}
-use Rattle.hera_sets.proofs.Lists.{filter_past_none}
-use Rattle.hera_meaning.specs.declared.schemas.RelDecl.{RelDecl}
-use Rattle.hera_meaning.specs.declared.trees.TrapName.{TrapName}
-use Rattle.hera_meaning.specs.Deltas.{Delta, atoms, is_fail, State, rows_at, apply_of, smash_of}
-use Rattle.hera_meaning.specs.Values.{Value, table}
-use Rattle.hera_meaning.specs.Fits.{is_delta_of}
-use Rattle.hera_meaning.specs.Hosts.{Hosts}
-use Rattle.hera_meaning.specs.Run.{stopped}
-use Rattle.hera_code.specs.declared.instrs.Code.{Code}
-use Rattle.hera_code.specs.declared.instrs.Instr.{Instr}
-use Rattle.hera_code.specs.declared.instrs.Instr.TheVariants.{Walk as walk_instr}
-use Rattle.hera_code.specs.Machine.{Machine, Step, quiet, commits, ends, ended, needs, needs_that, if_step, as_delta, on_top, unless_fail, enters, applies, pushes, rows_value, after_layers, current_state, leaves_layer, opens_walk, act}
+-- What stays of a machine at work where its layers change.
+use Rattle.std.proofs.Common.{◌≡◌, ℕ, suc, ◌+◌, ◌-◌, ◌<◌, ◌≤◌, Bool, false, List, [], ◌∷◌, length, map, min, refl, sym, ap, ◌∙◌, arith, add-one}
+use Rattle.hera_meaning.specs.Deltas.{Delta, State, atoms, is_fail, apply_of}
+use Rattle.when_overlay.specs.declared.layers.Layer.{Layer}
 use Rattle.hera_frames.specs.declared.frames.Frame.{Frame}
-use Rattle.hera_frames.specs.Chained.{Reading}
-use Rattle.hera_frames.specs.Walking.{Pace, named, lowest, seen_at, settled}
-use Rattle.hera_frames.specs.Waiting.{AreKept, frames_settled}
-use Rattle.hera_frames.proofs.Chaining.{lowest_all}
-use Rattle.hera_frames.proofs.Layering.{frames_more, frames_less, leaves_more, kept_within}
-use Rattle.hera_frames.proofs.Naming.{rows_there}
-use Rattle.hera_frames.proofs.Settled.{walks_more, walks_less, walks_all, walks_stored, frames_all, frames_given, frames_stored, kept_settled}
-use Rattle.hera_machine.specs.declared.events.Told.{Told}
-use Rattle.hera_machine.specs.declared.events.Told.TheVariants.{Quiet, Out, Commit, Ended}
-use Rattle.hera_machine.specs.Working.{Parked, machine_at, Work, with_top, machine_of}
-use Rattle.hera_machine.specs.Telling.{step_at, step_of}
+use Rattle.hera_frames.specs.Branched.{Branches, pending_of, under, lowest}
+use Rattle.hera_frames.specs.Items.{operands_at, reach}
+use Rattle.hera_frames.specs.Walking.{walk_at, walks_reach}
+use Rattle.hera_frames.specs.Waiting.{frame_at, NamesNone, AreKept, IsUpheld, frame_settled}
+use Rattle.hera_frames.proofs.Branching.{pending_drop, pending_lower, under_lowest}
+use Rattle.hera_frames.proofs.Settled.{items_held, items_are_held, walks_given, walks_are_given}
+use Rattle.hera_frames.proofs.Upheld.{Agree, items_agree, walks_agree, frames_agree, agree_more, agree_lowest, agree_stored, frames_settled_at, needed}
+use Rattle.hera_machine.specs.Working.{Work, machine_at, NameNone, NamesNothing}
 
--- ---- layers
+abbrev pub branches_of : Work → Branches
+branches_of w = record { layers = w.layers; tip = w.tip }
 
-pub entered : (s : State) (p : Parked) (d : Delta) →
-    machine_at s (record p { walks = map (settled s p.pending p.layers (suc (length p.layers))) p.walks; layers = d ∷ p.layers; own = p.own + 1 }) ≡ record (machine_at s p) { layers = d ∷ p.layers; own = suc p.own }
-entered s p d = λ i. record {
-  at = p.at;
-  operands = p.operands;
-  locals = p.locals;
-  walks = walks_more s p.pending d p.layers p.walks i;
-  layers = d ∷ p.layers;
-  own = add-one p.own i;
-  callers = frames_more s p.pending d p.layers p.own p.callers i;
-  pending = p.pending;
-  turns = p.turns;
+module _ (s : State) (w : Work) (floor : ℕ) (names : Bool) where
+  abbrev pub Holds : Type 0
+  Holds = IsUpheld (branches_of w) w.own floor w.operands w.walks names w.callers
+
+  -- behind fewer layers it is the same machine of the code
+  pub released : (c : Branches) → c ≡ record { layers = lowest (needed (branches_of w) w.own floor w.operands w.walks names w.callers) w.layers; tip = w.tip } → Holds →
+      machine_at s (record w { layers = c.layers; tip = c.tip }) ≡ machine_at s w
+  released c e u =
+      let n : ℕ = needed (branches_of w) w.own floor w.operands w.walks names w.callers in
+      let ms : List Layer = lowest n w.layers in
+      let a : Agree s w.layers s ms (min n (length w.layers)) = agree_lowest s n w.layers in
+      let tip : w.tip < length w.layers = u.tip in
+      let operands : reach w.operands ≤ min n (length w.layers) = let h = u.operands in omega (arith, h) in
+      let paces : walks_reach w.walks ≤ min n (length w.layers) = let h = u.paces in omega (arith, h) in
+      let below : floor ≤ min n (length w.layers) = let h = u.below in omega (arith, h) in
+      ap (λ (x : Branches). machine_at s (record w { layers = x.layers; tip = x.tip })) e
+      ∙ (λ i. record {
+        at = w.at;
+        operands = sym (items_agree s w.layers s ms (min n (length w.layers)) a w.operands operands) i;
+        locals = w.locals;
+        walks = sym (walks_agree s w.layers s ms (min n (length w.layers)) a w.walks paces) i;
+        layers = under_lowest n w.layers w.tip (omega arith) tip i;
+        own = w.own;
+        callers = sym (frames_agree s w.layers s ms (min n (length w.layers)) a floor names w.callers below u.callers) i;
+        pending = pending_drop (length w.layers - n) w.layers (omega (arith, tip)) i;
+        turns = w.turns;
+      })
+
+  -- a layer upon the one under which it reads
+  pub entered : (c : Branches) (l : Layer) (d : Delta) → c.layers ≡ l ∷ w.layers → under c.layers c.tip ≡ d ∷ under w.layers w.tip → Holds →
+      machine_at s (record w { layers = c.layers; tip = c.tip; own = w.own + 1 }) ≡ record (machine_at s w) { layers = d ∷ under w.layers w.tip; own = suc w.own }
+  entered c l d e upon u =
+      let a : Agree s w.layers s (l ∷ w.layers) (length w.layers) = agree_more s l w.layers in
+      let tip : w.tip < length w.layers = u.tip in
+      λ i. record {
+        at = w.at;
+        operands = (ap (λ ls. operands_at s ls w.operands) e ∙ sym (items_agree s w.layers s (l ∷ w.layers) (length w.layers) a w.operands u.operands)) i;
+        locals = w.locals;
+        walks = (ap (λ ls. map (walk_at s ls) w.walks) e ∙ sym (walks_agree s w.layers s (l ∷ w.layers) (length w.layers) a w.walks u.paces)) i;
+        layers = upon i;
+        own = add-one w.own i;
+        callers = (ap (λ ls. map (frame_at s ls) w.callers) e ∙ sym (frames_agree s w.layers s (l ∷ w.layers) (length w.layers) a floor names w.callers u.below u.callers)) i;
+        pending = (ap pending_of e ∙ pending_lower l w.layers (omega (arith, tip))) i;
+        turns = w.turns;
+      }
+
+  -- a pending delta that is stored
+  pub stored : (c : Branches) (d : Delta) → d ≡ pending_of w.layers → is_fail d ≡ false → pending_of c.layers ≡ atoms [] → ((k : ℕ) → under c.layers k ≡ under w.layers k) → c.tip ≡ w.tip → Holds →
+      machine_at (apply_of s d) (record w { layers = c.layers; tip = c.tip }) ≡ record (machine_at s w) { pending = atoms [] }
+  stored c d was known none same at u =
+      let a : Agree s w.layers (apply_of s (pending_of w.layers)) c.layers (length w.layers) = agree_stored s w.layers c.layers (length w.layers) (ap is_fail (sym was) ∙ known) none same in
+      ap (λ x. machine_at (apply_of s x) (record w { layers = c.layers; tip = c.tip })) was
+      ∙ (λ i. record {
+        at = w.at;
+        operands = sym (items_agree s w.layers (apply_of s (pending_of w.layers)) c.layers (length w.layers) a w.operands u.operands) i;
+        locals = w.locals;
+        walks = sym (walks_agree s w.layers (apply_of s (pending_of w.layers)) c.layers (length w.layers) a w.walks u.paces) i;
+        layers = (same c.tip ∙ ap (under w.layers) at) i;
+        own = w.own;
+        callers = sym (frames_agree s w.layers (apply_of s (pending_of w.layers)) c.layers (length w.layers) a floor names w.callers u.below u.callers) i;
+        pending = none i;
+        turns = w.turns;
+      })
+
+-- ---- another pending delta, where nothing names a relation
+
+none_same : (s : State) (ls ms : List Layer) (fs : List Frame) → ((k : ℕ) → under ms k ≡ under ls k) → NameNone fs → map (frame_at s ms) fs ≡ map (frame_at s ls) fs
+none_same s ls ms [] same none = refl
+none_same s ls ms (f ∷ fs) same none =
+    λ i. record {
+      at = f.at;
+      operands = items_held s s ls ms f.operands.items none.0.operands i;
+      locals = f.locals;
+      walks = walks_given s s ls ms f.walks none.0.walks i;
+      layers = same f.tip i;
+      own = f.own;
+    } ∷ none_same s ls ms fs same none.1 i
+
+pub repended : (s : State) (w : Work) (c : Branches) (d : Delta) → NamesNothing w → pending_of c.layers ≡ d → ((k : ℕ) → under c.layers k ≡ under w.layers k) → c.tip ≡ w.tip →
+    machine_at s (record w { layers = c.layers; tip = c.tip }) ≡ record (machine_at s w) { pending = d }
+repended s w c d none is same at = λ i. record {
+  at = w.at;
+  operands = items_held s s w.layers c.layers w.operands none.operands i;
+  locals = w.locals;
+  walks = walks_given s s w.layers c.layers w.walks none.walks i;
+  layers = (same c.tip ∙ ap (under w.layers) at) i;
+  own = w.own;
+  callers = none_same s w.layers c.layers w.callers same none.callers i;
+  pending = is i;
+  turns = w.turns;
 }
 
-pub left_layer : (s : State) (p : Parked) (d : Delta) (ls : List Delta) → p.layers ≡ d ∷ ls → 0 < p.own →
-    quiet (machine_at s (record p { at = p.at + 1; walks = map (settled s p.pending p.layers (length p.layers)) p.walks; layers = ls; own = p.own - 1 })) ≡ leaves_layer p.own p.layers (machine_at s p)
-left_layer s p d ls e some =
-    (λ i. quiet (machine_at s (record p { at = p.at + 1; walks = map (settled s p.pending (e i) (length (e i))) p.walks; layers = ls; own = p.own - 1 })))
-    ∙ (λ i. quiet (record {
-      at = p.at + 1;
-      operands = p.operands;
-      locals = p.locals;
-      walks = walks_less s p.pending d ls p.walks i;
-      layers = ls;
-      own = p.own - 1;
-      callers = sym (frames_less s p.pending d ls p.own p.callers some) i;
-      pending = p.pending;
-      turns = p.turns;
-    }))
-    ∙ sym (leaves_more p.own d ls (machine_at s (record p { layers = d ∷ ls })) some)
-    ∙ (λ i. leaves_layer p.own (sym e i) (machine_at s (record p { layers = sym e i })))
+-- ---- frames that wait, with rows in the place of names
 
--- ---- the pending delta
+pub frames_settled_none : (s : State) (ls : List Layer) (fs : List Frame) → NameNone (map (frame_settled s ls) fs)
+frames_settled_none s ls [] = tt
+frames_settled_none s ls (f ∷ fs) =
+    (record { operands = items_are_held s ls f.operands.items; walks = walks_are_given s ls f.walks; below = refl }, frames_settled_none s ls fs)
 
--- behind walks that were given their rows, another pending delta changes nothing else
-pub settled_running : (s : State) (p : Parked) (names : Bool) (q : Delta) → names ≡ false → AreKept p.layers p.own names p.callers →
-    machine_at s (record p { walks = map (settled s p.pending p.layers 0) p.walks; pending = q }) ≡ record (machine_at s p) { pending = q }
-settled_running s p names q none kept = λ i. record {
-  at = p.at;
-  operands = p.operands;
-  locals = p.locals;
-  walks = walks_all s p.pending q p.layers p.walks i;
-  layers = p.layers;
-  own = p.own;
-  callers = frames_given s p.pending q p.layers p.own names p.callers none kept i;
-  pending = q;
-  turns = p.turns;
-}
+pub frames_settled_same : (s : State) (ls : List Layer) (fs : List Frame) → map (frame_at s ls) (map (frame_settled s ls) fs) ≡ map (frame_at s ls) fs
+frames_settled_same s ls fs = frames_settled_at s s ls ls (λ k. refl) fs
 
-pub settled_all : (s : State) (p : Parked) (q : Delta) →
-    machine_at s (record p { walks = map (settled s p.pending p.layers 0) p.walks; callers = frames_settled s p.pending (drop p.own p.layers) p.callers; pending = q }) ≡ record (machine_at s p) { pending = q }
-settled_all s p q = λ i. record {
-  at = p.at;
-  operands = p.operands;
-  locals = p.locals;
-  walks = walks_all s p.pending q p.layers p.walks i;
-  layers = p.layers;
-  own = p.own;
-  callers = frames_all s p.pending q p.layers p.own p.callers i;
-  pending = q;
-  turns = p.turns;
-}
-
-pub stored : (s : State) (p : Parked) → is_fail p.pending ≡ false →
-    machine_at (apply_of s p.pending) (record p { pending = atoms [] }) ≡ record (machine_at s p) { pending = atoms [] }
-stored s p known = λ i. record {
-  at = p.at;
-  operands = p.operands;
-  locals = p.locals;
-  walks = walks_stored s p.pending p.layers p.walks known i;
-  layers = p.layers;
-  own = p.own;
-  callers = frames_stored s p.pending p.layers p.own p.callers known i;
-  pending = atoms [];
-  turns = p.turns;
-}
-
--- ---- relations
-
--- the rows past no bound, under all layers
-pub rows_now : (s : State) (p : Delta) (ls : List Delta) (n r : ℕ) → n ≡ length ls → filter (is_past None) (rows_at (seen_at s p ls n) r) ≡ rows_at (after_layers (apply_of s p) ls) r
-rows_now s p ls n r e =
-    filter_past_none (rows_at (seen_at s p ls n) r)
-    ∙ ap (λ k. rows_at (seen_at s p ls k) r) e
-    ∙ ap (λ ds. rows_at (after_layers (apply_of s p) ds) r) (lowest_all ls)
-
--- ---- what the functions tell, from the fields p of a machine whose value is q
-
-abbrev pub reading : Delta → List Delta → Reading
-reading pending layers = record { pending = pending; layers = layers }
-
-pub committed : (s : State) (p q : Parked) (c : Reading) (d e : Delta) → d ≡ p.pending → is_fail d ≡ false → c ≡ reading e p.layers → e ≡ atoms [] → p ≡ q →
-    commits d (machine_at (apply_of s d) (record p { at = p.at + 1; layers = c.layers; pending = c.pending })) ≡ commits q.pending (record (machine_at s q) { at = q.at + 1; pending = atoms [] })
-committed s p q c d e is_pending known new none same =
-    let all : c ≡ reading (atoms []) p.layers = new ∙ ap (λ x. reading x p.layers) none in
-    (λ i. commits (is_pending i) (machine_at (apply_of s (is_pending i)) (record p { at = p.at + 1; layers = (all i).layers; pending = (all i).pending })))
-    ∙ ap (λ (m : Machine). commits p.pending (record m { at = p.at + 1 })) (stored s p (ap is_fail (sym is_pending) ∙ known))
-    ∙ ap (λ (x : Parked). commits x.pending (record (machine_at s x) { at = x.at + 1; pending = atoms [] })) same
-
-pub pushed_rel : (s : State) (p q : Parked) (ops : List Value) (rows : List Row) (n r : ℕ) → p ≡ q → n ≡ length p.layers →
-    rows ≡ filter (is_past None) (rows_at (seen_at s p.pending p.layers n) r) → ops ≡ table rows ∷ p.operands →
-    machine_at s (record p { operands = ops }) ≡ with_top s (Some r) (machine_at s q)
-pushed_rel s p q ops rows n r same count rows_are ops_are =
-    (λ i. machine_at s (record p { operands = (ops_are ∙ ap (λ xs. table xs ∷ p.operands) (rows_are ∙ rows_now s p.pending p.layers n r count)) i }))
-    ∙ ap (λ (x : Parked). with_top s (Some r) (machine_at s x)) same
-
-pub opened : (s : State) (p q : Parked) (ws : List Pace) (n r : ℕ) → p ≡ q → n ≡ length p.layers → ws ≡ record { rest = named r n; current = None; gathered = [] } ∷ p.walks →
-    quiet (machine_at s (record p { at = p.at + 1; walks = ws })) ≡ opens_walk (table (rows_at (current_state s (machine_at s q)) r)) q.operands (machine_at s q)
-opened s p q ws n r same count walks_are =
-    (λ i. quiet (machine_at s (record p { at = p.at + 1; walks = walks_are i })))
-    ∙ ap (λ rows. quiet (record (machine_at s p) { at = p.at + 1; walks = record { rows = rows; current = None; gathered = [] } ∷ (machine_at s p).walks })) (rows_now s p.pending p.layers n r count)
-    ∙ ap (λ (x : Parked). opens_walk (table (rows_at (current_state s (machine_at s x)) r)) x.operands (machine_at s x)) same
-
-pub all_settled : {A E : Type 0} (r : Result A E) (s : State) (old mid new : Parked) →
-    mid ≡ record old { walks = map (settled s old.pending old.layers 0) old.walks } →
-    OnOk r (new ≡ record mid { callers = frames_settled s mid.pending (drop mid.own mid.layers) mid.callers }) →
-    OnOk r ((d : Delta) → machine_at s (record new { pending = d }) ≡ record (machine_at s old) { pending = d })
-all_settled (Err e) s old mid new walks_are callers_are = tt
-all_settled (Ok u) s old mid new walks_are callers_are = λ d.
-    ap (λ (x : Parked). machine_at s (record x { pending = d })) callers_are
-    ∙ ap (λ (x : Parked). machine_at s (record x { callers = frames_settled s x.pending (drop x.own x.layers) x.callers; pending = d })) walks_are
-    ∙ settled_all s old d
-
--- ---- instructions that take a delta off the operands
-
--- a delta of the relations, and not `fail`
-taken_delta : (rels : List RelDecl) (name : TrapName) (at : ℕ) (v : Value) (d : Delta) (go : Delta → Step) → as_delta v ≡ Some d → is_fail d ≡ false → is_delta_of rels d ≡ true → unless_fail rels name at v go ≡ go d
-taken_delta rels name at v d go is known fits =
-    ap (λ o. needs o (λ d. if_step (is_fail d) (ends (ended (stopped name at))) (needs_that (is_delta_of rels d) (go d)))) is
-    ∙ ap (λ b. if_step b (ends (ended (stopped name at))) (needs_that (is_delta_of rels d) (go d))) known
-    ∙ ap (λ b. needs_that b (go d)) fits
-
--- the newest operand
-taken_top : (old here : Parked) (v : Value) (vs : List Value) (go : Value → List Value → Parked → Step) → here ≡ old → here.operands ≡ v ∷ vs → go v vs here ≡ on_top old.operands (λ v vs. go v vs old)
-taken_top old here v vs go same top =
-    ap (λ ops. on_top ops (λ v vs. go v vs here)) (sym top) ∙ ap (λ (p : Parked). on_top p.operands (λ v vs. go v vs p)) same
-
-pub enter_told : (s : State) (rels : List RelDecl) (at : ℕ) (old here mid : Parked) (v : Value) (vs : List Value) (d : Delta) (n : ℕ) (c : Reading) →
-    here ≡ old → here.operands ≡ v ∷ vs → as_delta v ≡ Some d → is_fail d ≡ false → is_delta_of rels d ≡ true → n ≡ length here.layers →
-    mid ≡ record here { operands = vs; walks = map (settled s here.pending here.layers (n + 1)) here.walks } → c ≡ reading mid.pending (d ∷ mid.layers) →
-    quiet (machine_at s (record mid { at = mid.at + 1; layers = c.layers; own = mid.own + 1; pending = c.pending })) ≡ on_top old.operands (λ v vs. enters rels at v vs (machine_at s old))
-enter_told s rels at old here mid v vs d n c same top is known fits count mid_is pushed =
-    let taken : Parked = record here { operands = vs } in
-    let from : n + 1 ≡ suc (length here.layers) = ap (λ k. k + 1) count ∙ add-one (length here.layers) in
-    ap (λ (x : Reading). quiet (machine_at s (record mid { at = mid.at + 1; layers = x.layers; own = mid.own + 1; pending = x.pending }))) pushed
-    ∙ ap (λ (x : Parked). quiet (machine_at s (record x { at = x.at + 1; layers = d ∷ x.layers; own = x.own + 1 }))) mid_is
-    ∙ ap (λ k. quiet (machine_at s (record taken { at = here.at + 1; walks = map (settled s here.pending here.layers k) here.walks; layers = d ∷ here.layers; own = here.own + 1 }))) from
-    ∙ ap (λ (m : Machine). quiet (record m { at = m.at + 1 })) (entered s taken d)
-    ∙ sym (taken_delta rels _ at v d (λ d. quiet (record (machine_at s here) { at = here.at + 1; operands = vs; layers = d ∷ here.layers; own = suc here.own })) is known fits)
-    ∙ taken_top old here v vs (λ v vs p. enters rels at v vs (machine_at s p)) same top
-
-pub leave_told : (s : State) (old mid : Parked) (d : Delta) (n : ℕ) (c : Reading) → 0 < old.own → n ≡ length old.layers →
-    mid ≡ record old { walks = map (settled s old.pending old.layers n) old.walks } → reading mid.pending mid.layers ≡ reading c.pending (d ∷ c.layers) →
-    quiet (machine_at s (record mid { at = mid.at + 1; layers = c.layers; own = mid.own - 1; pending = c.pending })) ≡ leaves_layer old.own old.layers (machine_at s old)
-leave_told s old mid d n c some count mid_is popped =
-    let layers_are : old.layers ≡ d ∷ c.layers = ap (λ (x : Parked). x.layers) (sym mid_is) ∙ ap (λ (x : Reading). x.layers) popped in
-    ap (λ q. quiet (machine_at s (record mid { at = mid.at + 1; layers = c.layers; own = mid.own - 1; pending = q }))) (ap (λ (x : Reading). x.pending) (sym popped))
-    ∙ ap (λ (x : Parked). quiet (machine_at s (record x { at = x.at + 1; layers = c.layers; own = x.own - 1 }))) mid_is
-    ∙ ap (λ k. quiet (machine_at s (record old { at = old.at + 1; walks = map (settled s old.pending old.layers k) old.walks; layers = c.layers; own = old.own - 1 }))) count
-    ∙ left_layer s old d c.layers layers_are some
-
-pub apply_told : (s : State) (rels : List RelDecl) (at : ℕ) (old here after mid : Parked) (v : Value) (vs : List Value) (d : Delta) (c : Reading) →
-    here ≡ old → here.operands ≡ v ∷ vs → as_delta v ≡ Some d → is_fail d ≡ false → is_delta_of rels d ≡ true →
-    mid ≡ after → after ≡ record here { operands = vs; walks = after.walks; callers = after.callers } →
-    ((e : Delta) → machine_at s (record after { pending = e }) ≡ record (machine_at s (record here { operands = vs })) { pending = e }) →
-    c ≡ reading (smash_of mid.pending d) mid.layers →
-    quiet (machine_at s (record mid { at = mid.at + 1; layers = c.layers; pending = c.pending })) ≡ on_top old.operands (λ v vs. applies rels at v vs (machine_at s old))
-apply_told s rels at old here after mid v vs d c same top is known fits mid_is rest any smashed =
-    ap (λ (x : Reading). quiet (machine_at s (record mid { at = mid.at + 1; layers = x.layers; pending = x.pending }))) smashed
-    ∙ ap (λ (x : Parked). quiet (machine_at s (record x { at = x.at + 1; pending = smash_of x.pending d }))) mid_is
-    ∙ ap (λ (m : Machine). quiet (record m { at = m.at + 1 })) (any (smash_of after.pending d))
-    ∙ ap (λ q. quiet (record (machine_at s here) { at = here.at + 1; operands = vs; pending = smash_of q d })) (ap (λ (x : Parked). x.pending) rest)
-    ∙ sym (taken_delta rels _ at v d (λ d. quiet (record (machine_at s here) { at = here.at + 1; operands = vs; pending = smash_of here.pending d })) is known fits)
-    ∙ taken_top old here v vs (λ v vs p. applies rels at v vs (machine_at s p)) same top
-
-pub rollback_told : (s : State) (old after mid : Parked) (c : Reading) (e : Delta) → mid ≡ after →
-    ((d : Delta) → machine_at s (record after { pending = d }) ≡ record (machine_at s old) { pending = d }) → c ≡ reading e mid.layers → e ≡ atoms [] →
-    quiet (machine_at s (record mid { at = mid.at + 1; layers = c.layers; pending = c.pending })) ≡ quiet (record (machine_at s old) { at = old.at + 1; pending = atoms [] })
-rollback_told s old after mid c e mid_is any new none =
-    ap (λ (x : Reading). quiet (machine_at s (record mid { at = mid.at + 1; layers = x.layers; pending = x.pending }))) (new ∙ ap (λ q. reading q mid.layers) none)
-    ∙ ap (λ (x : Parked). quiet (machine_at s (record x { at = x.at + 1; pending = atoms [] }))) mid_is
-    ∙ ap (λ (m : Machine). quiet (record m { at = m.at + 1 })) (any (atoms []))
-
--- frames of which all walks were given their rows
-pub callers_kept : (s : State) (p : Delta) (ls : List Delta) (own : ℕ) (names : Bool) (n : ℕ) (fs gs hs : List Frame) → AreKept ls own names fs → n ≡ length ls → gs ≡ fs →
-    hs ≡ frames_settled s p (lowest (n - own) ls) gs → AreKept ls own false hs
-callers_kept s p ls own names n fs gs hs kept count same settled_is =
-    let within : own ≤ length ls = kept_within ls own names fs kept in
-    let e : length ls - (n - own) ≡ own = omega (arith, within, count) in
-    subst (λ ks. AreKept ls own false ks) (sym (settled_is ∙ ap (λ ks. frames_settled s p (lowest (n - own) ls) ks) same ∙ ap (λ k. frames_settled s p (drop k ls) fs) e))
-    (kept_settled s p ls own names fs kept)
-
--- ---- a relation that is named upon the operands
-
-pub named_told : (s : State) (old : Work) (p q : Parked) (r : ℕ) → p ≡ old.parked → old.top ≡ None → q ≡ record p { at = p.at + 1 } → r < length (current_state s (machine_at s old.parked)) →
-    quiet (with_top s (Some r) (machine_at s q)) ≡ pushes (rows_value (slice_get (current_state s (machine_of s old)) r)) (machine_of s old)
-named_told s old p q r same none moved there =
-    let m = machine_at s old.parked in
-    ap (λ (x : Parked). quiet (with_top s (Some r) (machine_at s x))) (moved ∙ ap (λ (x : Parked). record x { at = x.at + 1 }) same)
-    ∙ ap (λ o. pushes (rows_value o) m) (sym (rows_there (current_state s m) r there))
-    ∙ ap (λ o. pushes (rows_value (slice_get (current_state s (with_top s o m)) r)) (with_top s o m)) (sym none)
-
-pub unnamed_told : (s : State) (told : Told) (p : Parked) → step_of s told (record { parked = p; top = None }) ≡ step_at s told p
-unnamed_told s Quiet p = refl
-unnamed_told s (Out line) p = refl
-unnamed_told s (Commit d) p = refl
-unnamed_told s (Ended end) p = refl
-
-pub walk_told : (res : Result Told AllocError) (s : State) (code : Code) (rels : List RelDecl) (hosts : Hosts) (old : Work) (i : Instr) (p new : Parked) (o u : Option ℕ) (r : ℕ) →
-    i ≡ walk_instr → record { parked = p; top = o } ≡ old → o ≡ Some r → u ≡ None →
-    IfOk res (λ told. step_at s told new ≡ opens_walk (table (rows_at (current_state s (machine_at s p)) r)) p.operands (machine_at s p)) →
-    IfOk res (λ told. step_of s told (record { parked = new; top = u }) ≡ act code rels hosts (Some i) s (machine_of s old))
-walk_told (Err e) s code rels hosts old i p new o u r it same top none h = tt
-walk_told (Ok told) s code rels hosts old i p new o u r it same top none h =
-    ap (λ t. step_of s told (record { parked = new; top = t })) none
-    ∙ unnamed_told s told new ∙ h
-    ∙ ap (λ t. act code rels hosts (Some walk_instr) s (machine_of s (record { parked = p; top = t }))) (sym top)
-    ∙ ap (λ w. act code rels hosts (Some walk_instr) s (machine_of s w)) same
-    ∙ ap (λ j. act code rels hosts (Some j) s (machine_of s old)) (sym it)
-
--- what the instruction at hand tells, by what it is
-pub told_by : (res : Result Told AllocError) (s : State) (code : Code) (rels : List RelDecl) (hosts : Hosts) (m : Machine) (new : Parked) (i j : Instr) → i ≡ j →
-    IfOk res (λ told. step_at s told new ≡ act code rels hosts (Some j) s m) → IfOk res (λ told. step_at s told new ≡ act code rels hosts (Some i) s m)
-told_by res s code rels hosts m new i j it h = subst (λ k. IfOk res (λ told. step_at s told new ≡ act code rels hosts (Some k) s m)) (sym it) h
+-- of frames that are said to name nothing
+pub kept_none : (ls : List Layer) (n : ℕ) (names : Bool) (fs : List Frame) → names ≡ false → AreKept ls n names fs → NameNone fs
+kept_none ls n names [] e kept = tt
+kept_none ls n names (f ∷ fs) e kept =
+    let none : NamesNone f = kept.2 e in
+    (none, kept_none ls f.floor f.names_below fs none.below kept.3)

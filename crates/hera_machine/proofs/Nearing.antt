@@ -1,22 +1,22 @@
 -- A step that was taken, over forward code.
-use Rattle.std.proofs.Common.{◌≡◌, ℕ, ◌+◌, ◌-◌, ◌*◌, ◌<◌, ◌≤◌, length, sym, ap, ◌∙◌, subst, refl, suc, List, [], ◌∷◌, arith}
+use Rattle.std.proofs.Common.{◌≡◌, ℕ, ◌+◌, ◌-◌, ◌*◌, ◌<◌, length, sym, ap, ◌∙◌, subst, refl, List, [], arith}
+use Rattle.std.proofs.lemmas.List.{length-map}
 use Rattle.std.specs.Prelude.{slice_get, Option, None, Some, Result, Ok, Err, IfOk}
 use Rattle.std.specs.declared.alloc.AllocError.{AllocError}
 use Rattle.std.proofs.lemmas.Option.{slice_get_within}
 use Rattle.hera_meaning.specs.declared.schemas.RelDecl.{RelDecl}
-use Rattle.hera_meaning.specs.Deltas.{State, Delta, apply_of}
+use Rattle.hera_meaning.specs.Deltas.{State, apply_of}
 use Rattle.hera_meaning.specs.Hosts.{Hosts}
 use Rattle.hera_code.specs.declared.instrs.Instr.{Instr}
 use Rattle.hera_code.specs.declared.instrs.Code.{Code}
 use Rattle.hera_code.specs.Forward.{Forward}
 use Rattle.hera_code.specs.Machine.{Machine, stuck, ends, act, code_step}
-use Rattle.hera_frames.specs.declared.frames.Frame.{Frame}
-use Rattle.hera_frames.specs.Waiting.{frames_at}
 use Rattle.hera_machine.specs.declared.events.Told.{Told}
 use Rattle.hera_machine.specs.declared.events.Told.TheVariants.{Quiet, Out, Commit, Ended}
+use Rattle.hera_frames.specs.Waiting.{frame_at}
 use Rattle.hera_machine.specs.Descends.{Descends, fewer_turns, fewer_frames, nearer_end, left, IsLower}
-use Rattle.hera_machine.specs.Working.{Parked, machine_at, Work, with_top, machine_of}
-use Rattle.hera_machine.specs.Telling.{step_of, TellsNearer}
+use Rattle.hera_machine.specs.Working.{Work, machine_at}
+use Rattle.hera_machine.specs.Telling.{step_at, TellsNearer}
 use Rattle.hera_machine.proofs.Lowered.{Lowers, step_lowers}
 
 -- ---- the committed state does not tell what is lowered
@@ -43,60 +43,44 @@ like_lower l a b c d e f h = record {
   less_left = subst (λ n. n < left l c) (like_left l b d f) (subst (λ n. left l b < n) (like_left l a c e) h.less_left);
 }
 
-frames-length : (s : State) (p : Delta) (ls : List Delta) (own : ℕ) (fs : List Frame) → length (frames_at s p ls own fs) ≡ length fs
-frames-length s p ls own [] = refl
-frames-length s p ls own (f ∷ fs) = ap suc (frames-length s p _ f.own fs)
-
-like_top : (s t : State) (o : Option ℕ) (m n : Machine) → AreLike m n → AreLike (with_top s o m) (with_top t o n)
-like_top s t None m n e = e
-like_top s t (Some r) m n e = record { at = e.at; turns = e.turns; callers = e.callers }
-
-like_over : (s t : State) (w : Work) → AreLike (machine_of s w) (machine_of t w)
-like_over s t w = like_top s t w.top (machine_at s w.parked) (machine_at t w.parked) (record {
+like_over : (s t : State) (w : Work) → AreLike (machine_at s w) (machine_at t w)
+like_over s t w = record {
   at = refl;
   turns = refl;
-  callers = frames-length s w.parked.pending w.parked.layers w.parked.own w.parked.callers ∙ sym (frames-length t w.parked.pending w.parked.layers w.parked.own w.parked.callers);
-})
+  callers = length-map w.callers (frame_at s w.layers) ∙ sym (length-map w.callers (frame_at t w.layers));
+}
 
-lower_over : (l : ℕ) (s t : State) (old new : Work) → IsLower l (machine_of s old) (machine_of t new) → IsLower l (machine_of [] old) (machine_of [] new)
-lower_over l s t old new h = like_lower l (machine_of s old) (machine_of t new) (machine_of [] old) (machine_of [] new) (like_over s [] old) (like_over t [] new) h
+lower_over : (l : ℕ) (s t : State) (old new : Work) → IsLower l (machine_at s old) (machine_at t new) → IsLower l (machine_at [] old) (machine_at [] new)
+lower_over l s t old new h = like_lower l (machine_at s old) (machine_at t new) (machine_at [] old) (machine_at [] new) (like_over s [] old) (like_over t [] new) h
 
 -- ---- a step
 
-tells_by : (l : ℕ) (s : State) (old new : Work) (told : Told) → Lowers l (machine_of s old) (step_of s told new) → TellsNearer l (machine_of [] old) (machine_of [] new) told
+tells_by : (l : ℕ) (s : State) (old new : Work) (told : Told) → Lowers l (machine_at s old) (step_at s told new) → TellsNearer l (machine_at [] old) (machine_at [] new) told
 tells_by l s old new Quiet h = lower_over l s s old new h
 tells_by l s old new (Out line) h = lower_over l s s old new h
 tells_by l s old new (Commit d) h = lower_over l s (apply_of s d) old new h
 tells_by l s old new (Ended end) h = tt
 
 tells_nearer : (code : Code) (rels : List RelDecl) (hosts : Hosts) (s : State) (old new : Work) (told : Told) → Forward code →
-    step_of s told new ≡ code_step code rels hosts s (machine_of s old) → TellsNearer (length code.instrs) (machine_of [] old) (machine_of [] new) told
+    step_at s told new ≡ code_step code rels hosts s (machine_at s old) → TellsNearer (length code.instrs) (machine_at [] old) (machine_at [] new) told
 tells_nearer code rels hosts s old new told forward e =
     tells_by (length code.instrs) s old new told
-    (subst (λ t. Lowers (length code.instrs) (machine_of s old) t) (sym e) (step_lowers code rels hosts forward (slice_get code.instrs (machine_of s old).at) s (machine_of s old) refl))
+    (subst (λ t. Lowers (length code.instrs) (machine_at s old) t) (sym e) (step_lowers code rels hosts forward (slice_get code.instrs (machine_at s old).at) s (machine_at s old) refl))
 
-pub result_nearer : (code : Code) (rels : List RelDecl) (hosts : Hosts) (s : State) (old new : Work) (r : Result Told AllocError) (o : Option Instr) → slice_get code.instrs (machine_of s old).at ≡ o →
-    IfOk r (λ told. step_of s told new ≡ act code rels hosts o s (machine_of s old)) → Forward code → IfOk r (TellsNearer (length code.instrs) (machine_of [] old) (machine_of [] new))
+pub result_nearer : (code : Code) (rels : List RelDecl) (hosts : Hosts) (s : State) (old new : Work) (r : Result Told AllocError) (o : Option Instr) → slice_get code.instrs (machine_at s old).at ≡ o →
+    IfOk r (λ told. step_at s told new ≡ act code rels hosts o s (machine_at s old)) → Forward code → IfOk r (TellsNearer (length code.instrs) (machine_at [] old) (machine_at [] new))
 result_nearer code rels hosts s old new (Ok told) o e h forward =
-    tells_nearer code rels hosts s old new told forward (h ∙ ap (λ i. act code rels hosts i s (machine_of s old)) (sym e))
+    tells_nearer code rels hosts s old new told forward (h ∙ ap (λ i. act code rels hosts i s (machine_at s old)) (sym e))
 result_nearer code rels hosts s old new (Err a) o e h forward = tt
-
--- the address is that of the machine of the code
-pub at_of : (s : State) (w : Work) → (machine_of s w).at ≡ w.parked.at
-at_of s w = by w.top
-  where
-    by : (o : Option ℕ) → (with_top s o (machine_at s w.parked)).at ≡ w.parked.at
-    by None = refl
-    by (Some r) = refl
 
 pub here_within : (code : Code) (a : ℕ) (i : Instr) → Some i ≡ slice_get code.instrs a → a < length code.instrs
 here_within code a i e = slice_get_within code.instrs a i (sym e)
 
 -- the instruction at hand is the one that is executed
-pub here_taken : (code : Code) (rels : List RelDecl) (hosts : Hosts) (s : State) (old new : Work) (r : Result Told AllocError) (i : Instr) → Some i ≡ slice_get code.instrs old.parked.at →
-    IfOk r (λ told. step_of s told new ≡ act code rels hosts (Some i) s (machine_of s old)) → IfOk r (λ told. step_of s told new ≡ code_step code rels hosts s (machine_of s old))
+pub here_taken : (code : Code) (rels : List RelDecl) (hosts : Hosts) (s : State) (old new : Work) (r : Result Told AllocError) (i : Instr) → Some i ≡ slice_get code.instrs old.at →
+    IfOk r (λ told. step_at s told new ≡ act code rels hosts (Some i) s (machine_at s old)) → IfOk r (λ told. step_at s told new ≡ code_step code rels hosts s (machine_at s old))
 here_taken code rels hosts s old new r i e h =
-    subst (λ o. IfOk r (λ told. step_of s told new ≡ act code rels hosts o s (machine_of s old))) (e ∙ ap (slice_get code.instrs) (sym (at_of s old))) h
+    subst (λ o. IfOk r (λ told. step_at s told new ≡ act code rels hosts o s (machine_at s old))) e h
 
-pub here_none : (code : Code) (rels : List RelDecl) (hosts : Hosts) (s : State) (old : Work) → None ≡ slice_get code.instrs old.parked.at → ends stuck ≡ code_step code rels hosts s (machine_of s old)
-here_none code rels hosts s old e = ap (λ o. act code rels hosts o s (machine_of s old)) (e ∙ ap (slice_get code.instrs) (sym (at_of s old)))
+pub here_none : (code : Code) (rels : List RelDecl) (hosts : Hosts) (s : State) (old : Work) → None ≡ slice_get code.instrs old.at → ends stuck ≡ code_step code rels hosts s (machine_at s old)
+here_none code rels hosts s old e = ap (λ o. act code rels hosts o s (machine_at s old)) e

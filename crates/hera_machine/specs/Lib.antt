@@ -3,4 +3,6 @@ pub mod Working
 pub mod Descends
 pub mod Standing
 pub mod Telling
-pub mod Asking
+pub mod Sparing
+pub mod Finding
+pub mod Answering

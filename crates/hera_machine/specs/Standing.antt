@@ -13,22 +13,23 @@ use Rattle.hera_machine.specs.declared.events.Event.TheVariants.{Quiet, Out, Com
 use Rattle.hera_machine.specs.declared.events.Status.{Status}
 use Rattle.hera_machine.specs.declared.events.Status.TheVariants.{Working, Over, GaveUp}
 use Rattle.hera_machine.specs.Descends.{IsLower}
-use Rattle.hera_machine.specs.Working.{Work, machine_of}
+use Rattle.hera_machine.specs.Working.{Work, machine_at}
 
 -- the code and its relations, the machine at work, whether it works, and the delta of a commit that was not
--- taken yet; and the machine for which it stands over the state without relations, which has the same
--- address, turns and number of frames as that over any other
+-- taken yet; for how many further operands the place is there; and the machine for which it stands over the
+-- state without relations, which has the same address, turns and number of frames as that over any other
 pub record Standing : Type 0 where
   pub code : Code
   pub relations : List RelDecl
   pub work : Work
   pub state : Machine
+  pub spare : ℕ
   pub status : Status
   pub waits : Option Delta
 
 -- the machine of the code for which a machine stands over a committed state
 abbrev pub machine_over : State → Standing → Machine
-machine_over s m = machine_of s m.work
+machine_over s m = machine_at s m.work
 
 -- why a run is over
 abbrev pub stop_of : End → Stop

@@ -6,20 +6,14 @@ use Rattle.hera_machine.specs.declared.events.Told.{Told}
 use Rattle.hera_machine.specs.declared.events.Told.TheVariants.{Quiet, Out, Commit, Ended}
 use Rattle.hera_machine.specs.Descends.{IsLower}
 use Rattle.hera_machine.specs.Standing.{stop_of}
-use Rattle.hera_machine.specs.Working.{Parked, machine_at, Work, machine_of}
+use Rattle.hera_machine.specs.Working.{Work, machine_at}
 
 -- the step that it and the machine behind it tell; behind a commit that stands over the state that was stored
-abbrev pub step_at : State → Told → Parked → Step
-step_at s Quiet p = quiet (machine_at s p)
-step_at s (Out line) p = says line (machine_at s p)
-step_at s (Commit d) p = commits d (machine_at (apply_of s d) p)
-step_at s (Ended end) p = ends (stop_of end)
-
-abbrev pub step_of : State → Told → Work → Step
-step_of s Quiet w = quiet (machine_of s w)
-step_of s (Out line) w = says line (machine_of s w)
-step_of s (Commit d) w = commits d (machine_of (apply_of s d) w)
-step_of s (Ended end) w = ends (stop_of end)
+abbrev pub step_at : State → Told → Work → Step
+step_at s Quiet w = quiet (machine_at s w)
+step_at s (Out line) w = says line (machine_at s w)
+step_at s (Commit d) w = commits d (machine_at (apply_of s d) w)
+step_at s (Ended end) w = ends (stop_of end)
 
 -- unless the run ended, less is left of code of this length
 abbrev pub TellsNearer : ℕ → Machine → Machine → Told → Type 0

@@ -1,45 +1,50 @@
 -- A machine at work, and the machine of the code for which it stands over a committed state.
-use Rattle.std.specs.Prelude.{ℕ, List, [], ◌∷◌, map, Option, None, Some}
-use Rattle.hera_meaning.specs.Deltas.{Delta, State, rows_at}
-use Rattle.hera_meaning.specs.Values.{Value, table}
-use Rattle.hera_code.specs.Machine.{Machine, current_state}
+use Rattle.std.specs.Prelude.{ℕ, List, [], ◌∷◌, map}
+use Rattle.hera_meaning.specs.Deltas.{State}
+use Rattle.hera_meaning.specs.Values.{Value}
+use Rattle.hera_code.specs.Machine.{Machine}
+use Rattle.when_overlay.specs.declared.layers.Layer.{Layer}
 use Rattle.hera_frames.specs.declared.frames.Frame.{Frame}
-use Rattle.hera_frames.specs.Walking.{Pace, walk_at}
-use Rattle.hera_frames.specs.Waiting.{frames_at}
+use Rattle.hera_frames.specs.Branched.{pending_of, under}
+use Rattle.hera_frames.specs.Items.{Item, operands_at, AreHeld}
+use Rattle.hera_frames.specs.Walking.{Pace, walk_at, AreGiven}
+use Rattle.hera_frames.specs.Waiting.{frame_at, NamesNone}
 
--- as the machine of the code, but walks may name a relation, and a frame that waits keeps no layers
-pub record Parked : Type 0 where
+-- as the machine of the code, but operands and walks may name a relation as it is under a layer; all layers,
+-- and the number of the one under which the running frame reads; and how many further operands have their
+-- place
+pub record Work : Type 0 where
   pub at : ℕ
-  pub operands : List Value
+  pub operands : List Item
+  pub spare : ℕ
   pub locals : List Value
   pub walks : List Pace
-  pub layers : List Delta
+  pub layers : List Layer
+  pub tip : ℕ
   pub own : ℕ
   pub callers : List Frame
-  pub pending : Delta
   pub turns : ℕ
 
-abbrev pub machine_at : State → Parked → Machine
-machine_at s p = record {
-  at = p.at;
-  operands = p.operands;
-  locals = p.locals;
-  walks = map (walk_at s p.pending p.layers) p.walks;
-  layers = p.layers;
-  own = p.own;
-  callers = frames_at s p.pending p.layers p.own p.callers;
-  pending = p.pending;
-  turns = p.turns;
+abbrev pub machine_at : State → Work → Machine
+machine_at s w = record {
+  at = w.at;
+  operands = operands_at s w.layers w.operands;
+  locals = w.locals;
+  walks = map (walk_at s w.layers) w.walks;
+  layers = under w.layers w.tip;
+  own = w.own;
+  callers = map (frame_at s w.layers) w.callers;
+  pending = pending_of w.layers;
+  turns = w.turns;
 }
 
--- the newest operand may be a relation that is named
-pub record Work : Type 0 where
-  pub parked : Parked
-  pub top : Option ℕ
+-- no frame that waits names a relation
+abbrev pub NameNone : List Frame → Type 0
+NameNone [] = Unit {0}
+NameNone (f ∷ fs) = NamesNone f × NameNone fs
 
-abbrev pub with_top : State → Option ℕ → Machine → Machine
-with_top s None m = m
-with_top s (Some r) m = record m { operands = table (rows_at (current_state s m) r) ∷ m.operands }
-
-abbrev pub machine_of : State → Work → Machine
-machine_of s w = with_top s w.top (machine_at s w.parked)
+-- nothing names a relation
+pub record NamesNothing (w : Work) : Type 0 where
+  pub operands : AreHeld w.operands
+  pub walks : AreGiven w.walks
+  pub callers : NameNone w.callers

@@ -1,13 +1,16 @@
 //! The machine: it executes code, one instruction a step, over the base's state after the commits.
 //!
 //! A commit is told as an event, and its delta is taken by the caller, who stores it. Nothing here
-//! recurses: frames that wait stand in a list, so calls may nest as deep as there are turns.
+//! recurses: frames that wait stand in a list, so calls may nest as deep as there are turns. A relation
+//! that is an operand is a number and the layer under which it is read: no row of it is copied until it is
+//! stored, passed, returned, printed, gone over by a loop of statements, or made a delta.
 #![tactic(auto)]
 
 mod events;
 mod machine;
 mod running;
-mod work;
+#[cfg(test)]
+mod tests;
 
 pub use events::{End, Event, Status};
 pub use machine::Machine;

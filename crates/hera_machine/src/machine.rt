@@ -1,15 +1,16 @@
 //! A machine that runs a program's code.
-ghost use Rattle.std.specs.Prelude.{◌≡◌, ◌≢◌, [], true, Some, None, IfOk, IsErr, length};
+ghost use Rattle.std.specs.Prelude.{◌≡◌, ◌≢◌, ◌≤◌, [], true, Some, None, IfOk, IsErr, IsOk, OnOk, OnErr, length, slice_get};
 ghost use Rattle.hera_meaning.specs.Deltas.{State};
 ghost use Rattle.hera_host.specs.Tables.{specs_of};
 ghost use Rattle.hera_code.specs.Forward.{Forward};
 ghost use Rattle.hera_code.specs.Machine.{code_step};
 ghost use Rattle.hera_code.specs.Reached.{start_of};
 ghost use Rattle.hera_machine.specs.Over.{state_over};
-ghost use Rattle.hera_machine.specs.Standing.{machine_over, event_over, status_after, WaitsBy, IsNearer};
+ghost use Rattle.hera_machine.specs.Sparing.{is_sparing};
+ghost use Rattle.hera_machine.specs.Standing.{machine_over, event_over, status_by, status_after, WaitsBy, IsNearer};
 
 use crate::events::{End, Event, Status, Told};
-use crate::work::Work;
+use crate::running::Running;
 use delta_atoms::Delta;
 use hera_code::Code;
 use hera_host::HostTable;
@@ -23,19 +24,19 @@ use std::marker::Model;
 pub struct Machine<'c> {
     code: &'c Code,
     relations: &'c [RelDecl],
-    work: Work,
+    work: Running,
     status: Status,
     waiting: Option<Delta>,
 }
 
 impl<'c> Model for Machine<'c> {
     ghost use Rattle.std.specs.Prelude.{[]};
-    ghost use Rattle.hera_machine.specs.Working.{machine_of};
+    ghost use Rattle.hera_machine.specs.Working.{machine_at};
     ghost use Rattle.hera_machine.specs.Standing.{Standing};
 
     ghost Value = { Standing };
 
-    ghost view = { λ m. record { code = m.code.now; relations = m.relations.now; work = m.work; state = machine_of [] m.work; status = m.status; waits = m.waiting } };
+    ghost view = { λ m. record { code = m.code.now; relations = m.relations.now; work = m.work; state = machine_at [] m.work; spare = m.work.spare; status = m.status; waits = m.waiting } };
 }
 
 impl<'c> Machine<'c> {
@@ -59,25 +60,42 @@ impl<'c> Machine<'c> {
         Ok(Machine {
             code,
             relations,
-            work: Work::start(alloc, slots, turns)?,
+            work: Running::start(alloc, slots, turns)?,
             status: Status::Working,
             waiting: None,
         })
     }
 
+    /// Makes the place for at least `n` further operands. The state for which the machine stands never
+    /// changes, and without memory the places stay as they are too.
+    pub fn reserve(&mut self, n: usize) -> Result<(), AllocError>
+        ensures spare { OnOk result (n ≤ self.new.spare) }
+        ensures err { OnErr result (self.new ≡ self.old) }
+        ensures over { (s : State) → machine_over s self.new ≡ machine_over s self.old }
+        ensures state { self.new.state ≡ self.old.state }
+        ensures status { self.new.status ≡ self.old.status }
+        ensures waits { self.new.waits ≡ self.old.waits }
+        ensures code { self.new.code ≡ self.old.code }
+        ensures relations { self.new.relations ≡ self.old.relations }
+    {
+        self.work.reserve(n)
+    }
+
     /// Executes one instruction, over the base's state after the commits.
     ///
     /// After an end it answers the same again, and after want of memory want of memory. Each delta of
-    /// a commit has to be taken before the next step.
+    /// a commit has to be taken before the next step. It takes no memory where it leaves a layer, counts
+    /// the tuples of a relation, or asks whether it has any or one; nor where it names a relation and
+    /// there is the place for one more operand.
     pub fn step(
         &mut self,
         base: &Base,
         commits: &[Delta],
         hosts: &HostTable,
     ) -> Result<Event, AllocError>
-        requires taken { self.old.waits ≡ None }
-        requires no_hosts { hosts.now ≡ [] }
-        ensures steps { self.old.status ≡ Status.Working → let stored = state_over base.now.state commits.now in IfOk result (λ e. event_over stored e self.new ≡ code_step self.old.code self.old.relations (specs_of hosts.now) stored (machine_over stored self.old)) }
+        requires { self.old.waits ≡ None }
+        ensures steps { self.old.status ≡ Status.Working → let stored = state_over base.now.state commits.now in IfOk result (λ e. event_over stored e self.new ≡ code_step self.old.code self.old.relations (specs_of hosts.now.names) stored (machine_over stored self.old)) }
+        ensures no_copy { self.old.status ≡ Status.Working → is_sparing self.old.spare (slice_get self.old.code.instrs self.old.state.at) ≡ true → IsOk result }
         ensures nearer { Forward self.old.code → IfOk result (IsNearer (length self.old.code.instrs) self.old.state self.new.state) }
         ensures again { (end : End) → self.old.status ≡ Status.Over end → result ≡ Ok (Event.Ended end) }
         ensures gave_up { self.old.status ≡ Status.GaveUp → IsErr result }
@@ -92,6 +110,9 @@ impl<'c> Machine<'c> {
             Status::Working => {}
         }
         let code = self.code;
+        if self.work.quick(code) {
+            return Ok(Event::Quiet);
+        }
         let relations = self.relations;
         match self.work.one(code, relations, base, commits, hosts) {
             Err(e) => {
@@ -109,6 +130,26 @@ impl<'c> Machine<'c> {
                 Ok(Event::Ended(end))
             }
         }
+    }
+
+    /// Executes one instruction as `step` does, with the place for one more operand made before it. A
+    /// refusal of the place is want of memory, behind which the machine is as it was.
+    pub fn advance(
+        &mut self,
+        base: &Base,
+        commits: &[Delta],
+        hosts: &HostTable,
+    ) -> Result<Event, AllocError>
+        requires { self.old.waits ≡ None }
+        ensures steps { self.old.status ≡ Status.Working → let stored = state_over base.now.state commits.now in IfOk result (λ e. event_over stored e self.new ≡ code_step self.old.code self.old.relations (specs_of hosts.now.names) stored (machine_over stored self.old)) }
+        ensures nearer { Forward self.old.code → IfOk result (IsNearer (length self.old.code.instrs) self.old.state self.new.state) }
+        ensures status { IfOk result (λ e. self.new.status ≡ status_by e) }
+        ensures waits { IfOk result (WaitsBy self.new.waits) }
+        ensures code { self.new.code ≡ self.old.code }
+        ensures relations { self.new.relations ≡ self.old.relations }
+    {
+        self.reserve(1)?;
+        self.step(base, commits, hosts)
     }
 
     /// The delta of the commit that waits, which is taken. It takes no memory.

@@ -8,3 +8,4 @@ pub mod Choices
 pub mod Levels
 pub mod OneFault
 pub mod Joined
+mod Numbered

@@ -1,3 +1,5 @@
 pub mod Reading
 pub mod Pieces
 pub mod Beginnings
+pub mod Parts
+pub mod Numbers

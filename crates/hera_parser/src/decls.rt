@@ -6,7 +6,7 @@ ghost use Rattle.hera_syntax.specs.Grammar as phrases;
 ghost use Rattle.hera_syntax.specs.Programs.{attr_outline, attrs_outline, kind_outline, param_outline, params_outline, schema_outline, some_params_outline, type_outline};
 ghost use Rattle.hera_parser.specs.Reading.{Tells, Gives, Sticks};
 
-use crate::parser::{Items, Parser, Stop, joined};
+use crate::parser::{Items, Parser, Stop};
 use crate::terminals::{
     CLOSE_PAREN, COMMA, DELTA, KIND_WORDS, NAME, PAREN, REL, TUPLE, TYPE_STARTS,
 };
@@ -43,12 +43,9 @@ impl<'a> Parser<'a> {
     {
         let first = self.attr()?;
         let mut items = Items::new(alloc, first);
-        'rest: while self.next_is(&[COMMA]) {
-            let before = self.ended_by(items, COMMA)?;
+        'rest: while self.takes(COMMA) {
             let item = self.attr();
-            let both = joined(before, item)?;
-            let (before, item) = both;
-            items = before.with(item)?;
+            items = items.with(item)?;
         }
         let Items { first, rest } = items;
         Ok(Attrs::new(first, rest))
@@ -66,8 +63,7 @@ impl<'a> Parser<'a> {
         }
         let bracket = self.keep(PAREN)?;
         let attrs = self.attrs(alloc);
-        let part = joined(bracket, attrs)?;
-        let part = self.ended_by(part, CLOSE_PAREN)?;
+        let part = self.joined_until(bracket, attrs, CLOSE_PAREN)?;
         let (bracket, attrs) = part;
         Ok(SchemaTree::written(bracket, attrs))
     }
@@ -156,12 +152,9 @@ impl<'a> Parser<'a> {
     {
         let first = self.param(alloc)?;
         let mut items = Items::new(alloc, first);
-        'rest: while self.next_is(&[COMMA]) {
-            let before = self.ended_by(items, COMMA)?;
+        'rest: while self.takes(COMMA) {
             let item = self.param(alloc);
-            let both = joined(before, item)?;
-            let (before, item) = both;
-            items = before.with(item)?;
+            items = items.with(item)?;
         }
         let Items { first, rest } = items;
         Ok(Params::new(first, rest))

@@ -1,18 +1,18 @@
 // Expressions.
 
-ghost use Rattle.std.specs.Prelude.{◌≡◌, ◌<◌, ◌≤◌, [], ◌∷◌, ◌++◌, length, take, IfOk, OnOk, IsErrOf};
-ghost use Rattle.hera_syntax.specs.Grammar.{alternatives, keep, leave, phrase};
+ghost use Rattle.std.specs.Prelude.{◌≡◌, ◌<◌, ◌≤◌, [], ◌∷◌, ◌++◌, length, IfOk, OnOk, IsErrOf};
+ghost use Rattle.hera_syntax.specs.Grammar.{keep, leave, phrase};
 ghost use Rattle.hera_syntax.specs.Grammar as phrases;
 ghost use Rattle.hera_syntax.specs.Operators.{operand_of, operators_of};
 ghost use Rattle.hera_syntax.specs.Outline.{args_outline, atom_outline, atoms_outline, binding_outline, bindings_outline, expr_outline, hold, line_outline, lines_outline, operand_outline, post_outline, prefix_outline, prime_outline, production_of, skip, some_args_outline, tail_outline};
-ghost use Rattle.hera_parser.specs.Reading.{BeginsNone, Tells, Gives, Sticks};
+ghost use Rattle.hera_parser.specs.Reading.{Tells, Gives, Sticks};
 
-use crate::parser::{Items, Parser, Stop, joined, joined_box};
+use crate::forms::PrimeForm;
+use crate::parser::{Items, Parser, Stop, joined};
 use crate::terminals::{
-    BRACE, BULK, BY, CLOSE_BRACE, CLOSE_PAREN, CLOSE_SQUARE, CMP_OPS, COLON, COMMA, EQUALS,
-    EXPR_STARTS, FAIL, FALSE, FOLD_WORDS, GROUP, IN, INT, MEASURE_WORDS, NAME, PAIR_WORDS, PAREN,
-    PART_WORDS, PREFIX_OPS, PROJECT, RENAME, ROWS, SEMICOLON, SIGNS, SQUARE, TEXT, TRUE,
-    WALK_WORDS,
+    BRACE, BY, CLOSE_BRACE, CLOSE_PAREN, CLOSE_SQUARE, CMP_OPS, COLON, COMMA, EQUALS, EXPR_STARTS,
+    FOLD_WORDS, GROUP, IN, MEASURE_WORDS, NAME, PAIR_WORDS, PAREN, PART_WORDS, PREFIX_OPS, PROJECT,
+    RENAME, SEMICOLON, SIGNS, SQUARE, WALK_WORDS,
 };
 use hera_syntax::{
     Args, Atom, Atoms, Binding, Bindings, Expr, Level, Line, Lines, Operand, Post, Prefix, Prime,
@@ -55,9 +55,7 @@ impl<'a> Parser<'a> {
         let mut items = Items::new(alloc, first);
         'rest: while self.next_is(level.operators()) {
             let tail = self.tail(alloc, level);
-            let both = joined(items, tail)?;
-            let (before, tail) = both;
-            items = before.with(tail)?;
+            items = items.with(tail)?;
         }
         let Items { first, rest } = items;
         Ok(Expr::chain(level, first, rest))
@@ -75,8 +73,6 @@ impl<'a> Parser<'a> {
             return Ok(Expr::comparison(first, Vec::new(alloc)));
         }
         let tail = self.tail(alloc, Level::Comparisons);
-        let both = joined(first, tail)?;
-        let (first, tail) = both;
         let alone = Items::new(alloc, first);
         let items = alone.with(tail)?;
         let Items { first, rest } = items;
@@ -150,8 +146,7 @@ impl<'a> Parser<'a> {
     {
         let bracket = self.keep(PAREN)?;
         let inner = self.level(alloc, Level::Whens);
-        let part = joined_box(alloc, bracket, inner)?;
-        let part = self.ended_by(part, CLOSE_PAREN)?;
+        let part = self.boxed_until(alloc, bracket, inner, CLOSE_PAREN)?;
         let (bracket, inner) = part;
         Ok(Prime::paren(bracket, inner))
     }
@@ -166,8 +161,7 @@ impl<'a> Parser<'a> {
     {
         let bracket = self.keep(SQUARE)?;
         let bindings = self.bindings(alloc);
-        let part = joined_box(alloc, bracket, bindings)?;
-        let part = self.ended_by(part, CLOSE_SQUARE)?;
+        let part = self.boxed_until(alloc, bracket, bindings, CLOSE_SQUARE)?;
         let (bracket, bindings) = part;
         Ok(Prime::row(bracket, bindings))
     }
@@ -186,8 +180,7 @@ impl<'a> Parser<'a> {
             return Ok(Prime::empty_delta(empty));
         }
         let atoms = self.atoms(alloc);
-        let part = joined_box(alloc, bracket, atoms)?;
-        let part = self.ended_by(part, CLOSE_BRACE)?;
+        let part = self.boxed_until(alloc, bracket, atoms, CLOSE_BRACE)?;
         let (bracket, atoms) = part;
         Ok(Prime::delta(bracket, atoms))
     }
@@ -200,16 +193,14 @@ impl<'a> Parser<'a> {
         ensures sticks { IsErrOf result Stop.Syntax → Sticks (phrase phrases.prime ∷ []) self.old self.new }
         ensures shorter { OnOk result (length self.new < length self.old) }
     {
-        let named = self.naming(ROWS, CLOSE_PAREN)?;
-        let head = self.kept_behind(named, BRACE)?;
+        let head = self.rows_head()?;
         if !self.next_is(PAREN) {
             let empty = self.ended_by(head, CLOSE_BRACE)?;
             let (((word, bracket), name), brace) = empty;
             return Ok(Prime::empty_rows(word, bracket, name, brace));
         }
         let lines = self.lines(alloc);
-        let part = joined_box(alloc, head, lines)?;
-        let part = self.ended_by(part, CLOSE_BRACE)?;
+        let part = self.boxed_until(alloc, head, lines, CLOSE_BRACE)?;
         let ((((word, bracket), name), brace), lines) = part;
         Ok(Prime::rows(word, bracket, name, brace, lines))
     }
@@ -224,11 +215,9 @@ impl<'a> Parser<'a> {
     {
         let head = self.naming(WALK_WORDS, IN)?;
         let over = self.level(alloc, Level::Whens);
-        let part = joined_box(alloc, head, over)?;
-        let part = self.ended_by(part, COLON)?;
+        let part = self.boxed_until(alloc, head, over, COLON)?;
         let body = self.level(alloc, Level::Whens);
-        let part = joined_box(alloc, part, body)?;
-        let part = self.ended_by(part, CLOSE_PAREN)?;
+        let part = self.boxed_until(alloc, part, body, CLOSE_PAREN)?;
         let ((((word, bracket), name), over), body) = part;
         Ok(Prime::walk(word, bracket, name, over, body))
     }
@@ -245,11 +234,9 @@ impl<'a> Parser<'a> {
         ensures sticks { IsErrOf result Stop.Syntax → Sticks (keep words.now ∷ keep phrases.paren ∷ phrase phrases.expr ∷ leave end ∷ []) self.old self.new }
         ensures shorter { OnOk result (length self.new < length self.old) }
     {
-        let word = self.keep(words)?;
-        let head = self.kept_behind(word, PAREN)?;
+        let head = self.bracketed(words)?;
         let over = self.level(alloc, Level::Whens);
-        let part = joined_box(alloc, head, over)?;
-        let part = self.ended_by(part, end)?;
+        let part = self.boxed_until(alloc, head, over, end)?;
         Ok(part)
     }
 
@@ -263,8 +250,7 @@ impl<'a> Parser<'a> {
     {
         let part = self.opened(alloc, PROJECT, SEMICOLON)?;
         let names = self.names(alloc);
-        let part = joined(part, names)?;
-        let part = self.ended_by(part, CLOSE_PAREN)?;
+        let part = self.joined_until(part, names, CLOSE_PAREN)?;
         let (((word, bracket), over), names) = part;
         Ok(Prime::project(word, bracket, over, names))
     }
@@ -279,8 +265,7 @@ impl<'a> Parser<'a> {
     {
         let part = self.opened(alloc, RENAME, SEMICOLON)?;
         let renamings = self.renamings(alloc);
-        let part = joined(part, renamings)?;
-        let part = self.ended_by(part, CLOSE_PAREN)?;
+        let part = self.joined_until(part, renamings, CLOSE_PAREN)?;
         let (((word, bracket), over), renamings) = part;
         Ok(Prime::rename(word, bracket, over, renamings))
     }
@@ -295,8 +280,7 @@ impl<'a> Parser<'a> {
     {
         let part = self.opened(alloc, PAIR_WORDS, COMMA)?;
         let right = self.level(alloc, Level::Whens);
-        let part = joined_box(alloc, part, right)?;
-        let part = self.ended_by(part, CLOSE_PAREN)?;
+        let part = self.boxed_until(alloc, part, right, CLOSE_PAREN)?;
         let (((word, bracket), left), right) = part;
         Ok(Prime::pair(word, bracket, left, right))
     }
@@ -312,11 +296,9 @@ impl<'a> Parser<'a> {
         let part = self.opened(alloc, GROUP, SEMICOLON)?;
         let part = self.ended_by(part, BY)?;
         let names = self.names(alloc);
-        let part = joined(part, names)?;
-        let part = self.ended_by(part, SEMICOLON)?;
+        let part = self.joined_until(part, names, SEMICOLON)?;
         let aggs = self.aggs(alloc);
-        let part = joined(part, aggs)?;
-        let part = self.ended_by(part, CLOSE_PAREN)?;
+        let part = self.joined_until(part, aggs, CLOSE_PAREN)?;
         let ((((word, bracket), over), names), aggs) = part;
         Ok(Prime::group(word, bracket, over, names, aggs))
     }
@@ -357,14 +339,9 @@ impl<'a> Parser<'a> {
         ensures sticks { IsErrOf result Stop.Syntax → Sticks (phrase phrases.prime ∷ []) self.old self.new }
         ensures shorter { OnOk result (length self.new < length self.old) }
     {
-        let word = self.keep(BULK)?;
-        let head = self.kept_behind(word, PAREN)?;
-        let head = self.kept_behind(head, SIGNS)?;
-        let head = self.kept_behind(head, NAME)?;
-        let head = self.ended_by(head, COMMA)?;
+        let head = self.bulk_head()?;
         let over = self.level(alloc, Level::Whens);
-        let part = joined_box(alloc, head, over)?;
-        let part = self.ended_by(part, CLOSE_PAREN)?;
+        let part = self.boxed_until(alloc, head, over, CLOSE_PAREN)?;
         let ((((word, bracket), sign), name), over) = part;
         Ok(Prime::bulk(word, bracket, sign, name, over))
     }
@@ -379,8 +356,7 @@ impl<'a> Parser<'a> {
     {
         let head = self.naming(PART_WORDS, COMMA)?;
         let over = self.level(alloc, Level::Whens);
-        let part = joined_box(alloc, head, over)?;
-        let part = self.ended_by(part, CLOSE_PAREN)?;
+        let part = self.boxed_until(alloc, head, over, CLOSE_PAREN)?;
         let (((word, bracket), name), over) = part;
         Ok(Prime::part(word, bracket, name, over))
     }
@@ -404,8 +380,7 @@ impl<'a> Parser<'a> {
             return Ok(Prime::empty_call(name, bracket));
         }
         let args = self.args(alloc);
-        let part = joined_box(alloc, head, args)?;
-        let part = self.ended_by(part, CLOSE_PAREN)?;
+        let part = self.boxed_until(alloc, head, args, CLOSE_PAREN)?;
         let ((name, bracket), args) = part;
         Ok(Prime::call(name, bracket, args))
     }
@@ -417,72 +392,27 @@ impl<'a> Parser<'a> {
         ensures sticks { IsErrOf result Stop.Syntax → Sticks (phrase phrases.prime ∷ []) self.old self.new }
         ensures shorter { OnOk result (length self.new < length self.old) }
     {
-        if self.next_is(INT) {
-            return self.int();
+        match self.prime_form() {
+            PrimeForm::Int => self.int(),
+            PrimeForm::Text => self.text(),
+            PrimeForm::True => self.true_word(),
+            PrimeForm::False => self.false_word(),
+            PrimeForm::Fail => self.fail_word(),
+            PrimeForm::Name => self.name_or_call(alloc),
+            PrimeForm::Paren => self.paren(alloc),
+            PrimeForm::Row => self.row(alloc),
+            PrimeForm::Delta => self.delta(alloc),
+            PrimeForm::Rows => self.rows(alloc),
+            PrimeForm::Walk => self.walk(alloc),
+            PrimeForm::Project => self.project(alloc),
+            PrimeForm::Rename => self.rename(alloc),
+            PrimeForm::Pair => self.pair(alloc),
+            PrimeForm::Group => self.group(alloc),
+            PrimeForm::Measure => self.measure(alloc),
+            PrimeForm::Fold => self.fold(alloc),
+            PrimeForm::Bulk => self.bulk(alloc),
+            PrimeForm::Part => self.part(alloc),
         }
-        if self.next_is(TEXT) {
-            return self.text();
-        }
-        if self.next_is(TRUE) {
-            return self.true_word();
-        }
-        if self.next_is(FALSE) {
-            return self.false_word();
-        }
-        if self.next_is(FAIL) {
-            return self.fail_word();
-        }
-        if self.next_is(NAME) {
-            return self.name_or_call(alloc);
-        }
-        if self.next_is(PAREN) {
-            return self.paren(alloc);
-        }
-        if self.next_is(SQUARE) {
-            return self.row(alloc);
-        }
-        if self.next_is(BRACE) {
-            return self.delta(alloc);
-        }
-        self.word_form(alloc)
-    }
-
-    /// An expression that begins with a keyword and a bracket.
-    #[cycle(expr)]
-    fn word_form(&mut self, alloc: Global) -> Result<Prime, Stop>
-        requires { BeginsNone (take 9 (alternatives phrases.prime)) self.old }
-        ensures reads { IfOk result (λ tree. Gives (phrase phrases.prime ∷ []) self.old (prime_outline tree) [] self.new) }
-        ensures sticks { IsErrOf result Stop.Syntax → Sticks (phrase phrases.prime ∷ []) self.old self.new }
-        ensures shorter { OnOk result (length self.new < length self.old) }
-    {
-        if self.next_is(ROWS) {
-            return self.rows(alloc);
-        }
-        if self.next_is(WALK_WORDS) {
-            return self.walk(alloc);
-        }
-        if self.next_is(PROJECT) {
-            return self.project(alloc);
-        }
-        if self.next_is(RENAME) {
-            return self.rename(alloc);
-        }
-        if self.next_is(PAIR_WORDS) {
-            return self.pair(alloc);
-        }
-        if self.next_is(GROUP) {
-            return self.group(alloc);
-        }
-        if self.next_is(MEASURE_WORDS) {
-            return self.measure(alloc);
-        }
-        if self.next_is(FOLD_WORDS) {
-            return self.fold(alloc);
-        }
-        if self.next_is(BULK) {
-            return self.bulk(alloc);
-        }
-        self.part(alloc)
     }
 
     /// `expr (',' expr)*`
@@ -494,12 +424,9 @@ impl<'a> Parser<'a> {
     {
         let first = self.level(alloc, Level::Whens)?;
         let mut items = Items::new(alloc, first);
-        'rest: while self.next_is(&[COMMA]) {
-            let before = self.ended_by(items, COMMA)?;
+        'rest: while self.takes(COMMA) {
             let item = self.level(alloc, Level::Whens);
-            let both = joined(before, item)?;
-            let (before, item) = both;
-            items = before.with(item)?;
+            items = items.with(item)?;
         }
         let Items { first, rest } = items;
         Ok(Args::new(first, rest))
@@ -514,12 +441,9 @@ impl<'a> Parser<'a> {
     {
         let first = self.binding(alloc)?;
         let mut items = Items::new(alloc, first);
-        'rest: while self.next_is(&[COMMA]) {
-            let before = self.ended_by(items, COMMA)?;
+        'rest: while self.takes(COMMA) {
             let item = self.binding(alloc);
-            let both = joined(before, item)?;
-            let (before, item) = both;
-            items = before.with(item)?;
+            items = items.with(item)?;
         }
         let Items { first, rest } = items;
         Ok(Bindings::new(first, rest))
@@ -534,12 +458,9 @@ impl<'a> Parser<'a> {
     {
         let first = self.atom(alloc)?;
         let mut items = Items::new(alloc, first);
-        'rest: while self.next_is(&[COMMA]) {
-            let before = self.ended_by(items, COMMA)?;
+        'rest: while self.takes(COMMA) {
             let item = self.atom(alloc);
-            let both = joined(before, item)?;
-            let (before, item) = both;
-            items = before.with(item)?;
+            items = items.with(item)?;
         }
         let Items { first, rest } = items;
         Ok(Atoms::new(first, rest))
@@ -554,12 +475,9 @@ impl<'a> Parser<'a> {
     {
         let first = self.line(alloc)?;
         let mut items = Items::new(alloc, first);
-        'rest: while self.next_is(&[COMMA]) {
-            let before = self.ended_by(items, COMMA)?;
+        'rest: while self.takes(COMMA) {
             let item = self.line(alloc);
-            let both = joined(before, item)?;
-            let (before, item) = both;
-            items = before.with(item)?;
+            items = items.with(item)?;
         }
         let Items { first, rest } = items;
         Ok(Lines::new(first, rest))
@@ -572,8 +490,7 @@ impl<'a> Parser<'a> {
         ensures sticks { IsErrOf result Stop.Syntax → Sticks (phrase phrases.binding ∷ []) self.old self.new }
         ensures shorter { OnOk result (length self.new < length self.old) }
     {
-        let name = self.keep(NAME)?;
-        let head = self.ended_by(name, EQUALS)?;
+        let head = self.name_before(EQUALS)?;
         let value = self.level(alloc, Level::Whens);
         let part = joined(head, value)?;
         let (name, value) = part;
@@ -587,12 +504,9 @@ impl<'a> Parser<'a> {
         ensures sticks { IsErrOf result Stop.Syntax → Sticks (phrase phrases.atom ∷ []) self.old self.new }
         ensures shorter { OnOk result (length self.new < length self.old) }
     {
-        let sign = self.keep(SIGNS)?;
-        let head = self.kept_behind(sign, NAME)?;
-        let head = self.kept_behind(head, PAREN)?;
+        let head = self.atom_head()?;
         let args = self.args(alloc);
-        let part = joined(head, args)?;
-        let part = self.ended_by(part, CLOSE_PAREN)?;
+        let part = self.joined_until(head, args, CLOSE_PAREN)?;
         let (((sign, name), bracket), args) = part;
         Ok(Atom::new(sign, name, bracket, args))
     }
@@ -606,8 +520,7 @@ impl<'a> Parser<'a> {
     {
         let bracket = self.keep(PAREN)?;
         let args = self.args(alloc);
-        let part = joined(bracket, args)?;
-        let part = self.ended_by(part, CLOSE_PAREN)?;
+        let part = self.joined_until(bracket, args, CLOSE_PAREN)?;
         let (bracket, args) = part;
         Ok(Line::new(bracket, args))
     }

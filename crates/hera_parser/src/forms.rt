@@ -1,16 +1,197 @@
-// Literals.
+// The forms of an expression that no operator splits, and literals.
 
-ghost use Rattle.std.specs.Prelude.{◌<◌, [], ◌∷◌, length, IfOk, OnOk, IsErrOf};
-ghost use Rattle.hera_syntax.specs.Grammar.{phrase};
+ghost use Rattle.std.specs.Prelude.{◌<◌, [], ◌∷◌, length, take, IfOk, OnOk, IsErrOf};
+ghost use Rattle.hera_syntax.specs.Grammar.{alternatives, phrase};
 ghost use Rattle.hera_syntax.specs.Grammar as phrases;
 ghost use Rattle.hera_syntax.specs.Outline.{prime_outline};
-ghost use Rattle.hera_parser.specs.Reading.{Tells, Gives, Sticks};
+ghost use Rattle.hera_parser.specs.Numbers.{prime_number, stmt_number};
+ghost use Rattle.hera_parser.specs.Reading.{BeginsNone, Tells, Gives, Sticks};
 
 use crate::parser::{Parser, Stop};
-use crate::terminals::{FAIL, FALSE, INT, TEXT, TRUE};
+use crate::terminals::{
+    APPLY, ASSERT, BRACE, BULK, COMMIT, FAIL, FALSE, FOLD_WORDS, FOREACH, GROUP, IF, INT,
+    MEASURE_WORDS, NAME, PAIR_WORDS, PAREN, PRINT, PROJECT, RENAME, ROLLBACK, ROWS, SQUARE, TEXT,
+    TRUE, TYPE_STARTS, WALK_WORDS, WHILE,
+};
 use hera_syntax::Prime;
 
+/// The form of an expression that no operator splits.
+#[derive(Clone, Copy)]
+pub enum PrimeForm {
+    /// An int literal.
+    Int,
+    /// A text literal.
+    Text,
+    /// `true`
+    True,
+    /// `false`
+    False,
+    /// `fail`
+    Fail,
+    /// A name or a call.
+    Name,
+    /// An expression in brackets.
+    Paren,
+    /// A tuple literal.
+    Row,
+    /// A delta literal.
+    Delta,
+    /// A relation literal.
+    Rows,
+    /// A `select` or `map`.
+    Walk,
+    /// A projection.
+    Project,
+    /// A renaming.
+    Rename,
+    /// A `union`, `minus`, `inter` or `join`.
+    Pair,
+    /// A grouping.
+    Group,
+    /// A `count`, `empty` or `isfail`.
+    Measure,
+    /// A `sum`, `min` or `max`.
+    Fold,
+    /// A `bulk`.
+    Bulk,
+    /// An `ins` or `del`.
+    Part,
+}
+
+/// The form of a statement.
+#[derive(Clone, Copy)]
+pub enum StmtForm {
+    /// A declaration of a local.
+    Declare,
+    /// An assignment or a call.
+    Named,
+    /// `if`
+    If,
+    /// `while`
+    While,
+    /// `foreach`
+    Foreach,
+    /// `print`
+    Print,
+    /// `apply`
+    Apply,
+    /// `assert`
+    Assert,
+    /// `commit`
+    Commit,
+    /// `rollback`
+    Rollback,
+    /// `return`
+    Return,
+}
+
 impl<'a> Parser<'a> {
+    /// The form that the next token tells. It is the last one where the token begins none.
+    pub fn prime_form(&self) -> PrimeForm
+        ensures { Tells phrases.prime (prime_number result) self.now }
+    {
+        if self.next_is(INT) {
+            return PrimeForm::Int;
+        }
+        if self.next_is(TEXT) {
+            return PrimeForm::Text;
+        }
+        if self.next_is(TRUE) {
+            return PrimeForm::True;
+        }
+        if self.next_is(FALSE) {
+            return PrimeForm::False;
+        }
+        if self.next_is(FAIL) {
+            return PrimeForm::Fail;
+        }
+        if self.next_is(NAME) {
+            return PrimeForm::Name;
+        }
+        if self.next_is(PAREN) {
+            return PrimeForm::Paren;
+        }
+        if self.next_is(SQUARE) {
+            return PrimeForm::Row;
+        }
+        if self.next_is(BRACE) {
+            return PrimeForm::Delta;
+        }
+        self.keyword_form()
+    }
+
+    /// The form that the next token tells, where it is none of the first nine.
+    fn keyword_form(&self) -> PrimeForm
+        requires { BeginsNone (take 9 (alternatives phrases.prime)) self.now }
+        ensures { Tells phrases.prime (prime_number result) self.now }
+    {
+        if self.next_is(ROWS) {
+            return PrimeForm::Rows;
+        }
+        if self.next_is(WALK_WORDS) {
+            return PrimeForm::Walk;
+        }
+        if self.next_is(PROJECT) {
+            return PrimeForm::Project;
+        }
+        if self.next_is(RENAME) {
+            return PrimeForm::Rename;
+        }
+        if self.next_is(PAIR_WORDS) {
+            return PrimeForm::Pair;
+        }
+        if self.next_is(GROUP) {
+            return PrimeForm::Group;
+        }
+        if self.next_is(MEASURE_WORDS) {
+            return PrimeForm::Measure;
+        }
+        if self.next_is(FOLD_WORDS) {
+            return PrimeForm::Fold;
+        }
+        if self.next_is(BULK) {
+            return PrimeForm::Bulk;
+        }
+        PrimeForm::Part
+    }
+
+    /// The form that the next token tells. It is the last one where the token begins none.
+    pub fn stmt_form(&self) -> StmtForm
+        ensures { Tells phrases.stmt (stmt_number result) self.now }
+    {
+        if self.next_is(TYPE_STARTS) {
+            return StmtForm::Declare;
+        }
+        if self.next_is(NAME) {
+            return StmtForm::Named;
+        }
+        if self.next_is(IF) {
+            return StmtForm::If;
+        }
+        if self.next_is(WHILE) {
+            return StmtForm::While;
+        }
+        if self.next_is(FOREACH) {
+            return StmtForm::Foreach;
+        }
+        if self.next_is(PRINT) {
+            return StmtForm::Print;
+        }
+        if self.next_is(APPLY) {
+            return StmtForm::Apply;
+        }
+        if self.next_is(ASSERT) {
+            return StmtForm::Assert;
+        }
+        if self.next_is(COMMIT) {
+            return StmtForm::Commit;
+        }
+        if self.next_is(ROLLBACK) {
+            return StmtForm::Rollback;
+        }
+        StmtForm::Return
+    }
+
     /// An int literal.
     pub fn int(&mut self) -> Result<Prime, Stop>
         requires { Tells phrases.prime 0 self.old }

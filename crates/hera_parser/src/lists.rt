@@ -1,13 +1,15 @@
 // Names, renamings and aggregates.
 
 ghost use Rattle.std.specs.Prelude.{◌≡◌, ◌<◌, ◌≤◌, [], ◌∷◌, ◌++◌, length, IfOk, OnOk, IsErrOf};
-ghost use Rattle.hera_syntax.specs.Grammar.{keep, leave, phrase};
+ghost use Rattle.hera_syntax.specs.Grammar.{keep, leave, phrase, word};
 ghost use Rattle.hera_syntax.specs.Grammar as phrases;
 ghost use Rattle.hera_syntax.specs.Outline.{agg_outline, aggs_outline, field_outline, hold, named_agg_outline, names_outline, renaming_outline, renamings_outline, skip};
 ghost use Rattle.hera_parser.specs.Reading.{Gives, Sticks};
 
 use crate::parser::{Items, Parser, Stop, joined};
-use crate::terminals::{CLOSE_PAREN, COMMA, COUNT, DOT, EQUALS, FOLD_WORDS, NAME, PAREN};
+use crate::terminals::{
+    BRACE, BULK, CLOSE_PAREN, COMMA, COUNT, DOT, EQUALS, FOLD_WORDS, NAME, PAREN, ROWS, SIGNS,
+};
 use hera_syntax::{AggTree, NamedAgg, NamedAggs, Names, Renaming, Renamings, Terminal, Token};
 use std::alloc::Global;
 
@@ -20,12 +22,69 @@ impl<'a> Parser<'a> {
     {
         let first = self.keep(NAME)?;
         let mut rest = Vec::new(alloc);
-        'rest: while self.next_is(&[COMMA]) {
-            self.skip(COMMA)?;
+        'rest: while self.takes(COMMA) {
             let item = self.keep(NAME)?;
             rest.push(item)?;
         }
         Ok(Names::new(first, rest))
+    }
+
+    /// A keyword and a bracket.
+    pub fn bracketed(&mut self, words: &[Terminal]) -> Result<(Token, Token), Stop>
+        ensures reads { IfOk result (λ head. Gives (keep words.now ∷ keep phrases.paren ∷ []) self.old (hold head.0 ++ hold head.1) [] self.new) }
+        ensures sticks { IsErrOf result Stop.Syntax → Sticks (keep words.now ∷ keep phrases.paren ∷ []) self.old self.new }
+        ensures shorter { OnOk result (length self.new < length self.old) }
+    {
+        let word = self.keep(words)?;
+        let head = self.kept_behind(word, PAREN)?;
+        Ok(head)
+    }
+
+    /// A name and the terminal that stands behind it.
+    pub fn name_before(&mut self, end: Terminal) -> Result<Token, Stop>
+        ensures reads { IfOk result (λ name. Gives (keep phrases.name ∷ leave end ∷ []) self.old (hold name ++ skip end) [] self.new) }
+        ensures sticks { IsErrOf result Stop.Syntax → Sticks (keep phrases.name ∷ leave end ∷ []) self.old self.new }
+        ensures shorter { OnOk result (length self.new < length self.old) }
+    {
+        let name = self.keep(NAME)?;
+        let name = self.ended_by(name, end)?;
+        Ok(name)
+    }
+
+    /// A sign, a name and a bracket.
+    pub fn atom_head(&mut self) -> Result<((Token, Token), Token), Stop>
+        ensures reads { IfOk result (λ head. Gives (keep phrases.signs ∷ keep phrases.name ∷ keep phrases.paren ∷ []) self.old (hold head.0.0 ++ hold head.0.1 ++ hold head.1) [] self.new) }
+        ensures sticks { IsErrOf result Stop.Syntax → Sticks (keep phrases.signs ∷ keep phrases.name ∷ keep phrases.paren ∷ []) self.old self.new }
+        ensures shorter { OnOk result (length self.new < length self.old) }
+    {
+        let sign = self.keep(SIGNS)?;
+        let head = self.kept_behind(sign, NAME)?;
+        let head = self.kept_behind(head, PAREN)?;
+        Ok(head)
+    }
+
+    /// `'bulk' '(' ('+' | '-') name ','`
+    pub fn bulk_head(&mut self) -> Result<(((Token, Token), Token), Token), Stop>
+        ensures reads { IfOk result (λ head. Gives (keep (word 42 ∷ []) ∷ keep phrases.paren ∷ keep phrases.signs ∷ keep phrases.name ∷ leave phrases.comma ∷ []) self.old (hold head.0.0.0 ++ hold head.0.0.1 ++ hold head.0.1 ++ hold head.1 ++ skip phrases.comma) [] self.new) }
+        ensures sticks { IsErrOf result Stop.Syntax → Sticks (keep (word 42 ∷ []) ∷ keep phrases.paren ∷ keep phrases.signs ∷ keep phrases.name ∷ leave phrases.comma ∷ []) self.old self.new }
+        ensures shorter { OnOk result (length self.new < length self.old) }
+    {
+        let head = self.bracketed(BULK)?;
+        let head = self.kept_behind(head, SIGNS)?;
+        let head = self.kept_behind(head, NAME)?;
+        let head = self.ended_by(head, COMMA)?;
+        Ok(head)
+    }
+
+    /// `'rows' '(' name ')' '{'`
+    pub fn rows_head(&mut self) -> Result<(((Token, Token), Token), Token), Stop>
+        ensures reads { IfOk result (λ head. Gives (keep (word 25 ∷ []) ∷ keep phrases.paren ∷ keep phrases.name ∷ leave phrases.close_paren ∷ keep phrases.brace ∷ []) self.old (hold head.0.0.0 ++ hold head.0.0.1 ++ hold head.0.1 ++ skip phrases.close_paren ++ hold head.1) [] self.new) }
+        ensures sticks { IsErrOf result Stop.Syntax → Sticks (keep (word 25 ∷ []) ∷ keep phrases.paren ∷ keep phrases.name ∷ leave phrases.close_paren ∷ keep phrases.brace ∷ []) self.old self.new }
+        ensures shorter { OnOk result (length self.new < length self.old) }
+    {
+        let named = self.naming(ROWS, CLOSE_PAREN)?;
+        let head = self.kept_behind(named, BRACE)?;
+        Ok(head)
     }
 
     /// A keyword, a bracket, a name and the terminal that stands behind it.
@@ -65,12 +124,9 @@ impl<'a> Parser<'a> {
     {
         let first = self.renaming()?;
         let mut items = Items::new(alloc, first);
-        'rest: while self.next_is(&[COMMA]) {
-            let before = self.ended_by(items, COMMA)?;
+        'rest: while self.takes(COMMA) {
             let item = self.renaming();
-            let both = joined(before, item)?;
-            let (before, item) = both;
-            items = before.with(item)?;
+            items = items.with(item)?;
         }
         let Items { first, rest } = items;
         Ok(Renamings::new(first, rest))
@@ -100,8 +156,7 @@ impl<'a> Parser<'a> {
         ensures sticks { IsErrOf result Stop.Syntax → Sticks (phrase phrases.named_agg ∷ []) self.old self.new }
         ensures shorter { OnOk result (length self.new < length self.old) }
     {
-        let name = self.keep(NAME)?;
-        let head = self.ended_by(name, EQUALS)?;
+        let head = self.name_before(EQUALS)?;
         let agg = self.agg();
         let both = joined(head, agg)?;
         let (name, agg) = both;
@@ -116,12 +171,9 @@ impl<'a> Parser<'a> {
     {
         let first = self.named_agg()?;
         let mut items = Items::new(alloc, first);
-        'rest: while self.next_is(&[COMMA]) {
-            let before = self.ended_by(items, COMMA)?;
+        'rest: while self.takes(COMMA) {
             let item = self.named_agg();
-            let both = joined(before, item)?;
-            let (before, item) = both;
-            items = before.with(item)?;
+            items = items.with(item)?;
         }
         let Items { first, rest } = items;
         Ok(NamedAggs::new(first, rest))

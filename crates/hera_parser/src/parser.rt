@@ -1,8 +1,9 @@
-ghost use Rattle.std.specs.Prelude.{◌≡◌, ◌≤◌, ◌<◌, [], ◌∷◌, ◌++◌, length, List, drop, IfOk, OnOk, IsErrOf, Ok};
+ghost use Rattle.std.specs.Prelude.{◌≡◌, ◌≤◌, ◌<◌, [], ◌∷◌, ◌++◌, length, List, drop, true, false, IfOk, OnOk, IsErrOf, Ok};
 ghost use Rattle.hera_syntax.specs.Grammar.{keep, leave};
 ghost use Rattle.hera_syntax.specs.Outline.{hold, skip};
 ghost use Rattle.hera_syntax.specs.declared.token.Token.{Token};
 ghost use Rattle.hera_parser.specs.Reading.{stands, next_terminal, Gives, Sticks};
+ghost use Rattle.hera_parser.specs.Parts.{Grown, StopsInOrAt};
 
 use hera_syntax::{Terminal, Token};
 use std::alloc::{AllocError, AllocFailed, Global};
@@ -63,21 +64,25 @@ impl<A: Drop, T: Drop> Items<A, T> {
         }
     }
 
-    /// With one item more. The error is want of memory.
-    pub fn with(self, item: T) -> Result<Items<A, T>, AllocError>
+    /// With what was read as one item more. The error is that of the reading, or want of memory.
+    pub fn with(self, read: Result<T, Stop>) -> Result<Items<A, T>, Stop>
         ensures first { IfOk result (λ items. items.first ≡ self.first) }
-        ensures one_more { IfOk result (λ items. items.rest.items ≡ self.rest.items ++ item ∷ []) }
+        ensures one_more { IfOk result (λ items. Grown read self.rest.items items.rest.items) }
+        ensures stops { IsErrOf result Stop.Syntax → IsErrOf read Stop.Syntax }
     {
+        let item = read?;
         let Items { first, mut rest } = self;
         rest.push(item)?;
         Ok(Items { first, rest })
     }
 }
 
-/// A list with one item more. The error is want of memory.
-pub fn pushed<T: Drop>(list: Vec<T>, item: T) -> Result<Vec<T>, AllocError>
-    ensures { IfOk result (λ longer. longer.items ≡ list.items ++ item ∷ []) }
+/// A list with what was read as one item more. The error is that of the reading, or want of memory.
+pub fn pushed<T: Drop>(list: Vec<T>, read: Result<T, Stop>) -> Result<Vec<T>, Stop>
+    ensures one_more { IfOk result (λ longer. Grown read list.items longer.items) }
+    ensures stops { IsErrOf result Stop.Syntax → IsErrOf read Stop.Syntax }
 {
+    let item = read?;
     let mut longer = list;
     longer.push(item)?;
     Ok(longer)
@@ -91,22 +96,6 @@ pub fn joined<A: Drop, T: Drop>(before: A, read: Result<T, Stop>) -> Result<(A, 
 {
     let part = read?;
     Ok((before, part))
-}
-
-/// The part that stands before, beside what was read behind it in a box. The error is that of the
-/// reading, or want of memory.
-pub fn joined_box<A: Drop, T: Drop>(
-    alloc: Global,
-    before: A,
-    read: Result<T, Stop>,
-) -> Result<(A, Box<T>), Stop>
-    ensures same { IfOk result (λ both. both.0 ≡ before) }
-    ensures read { IfOk result (λ both. read ≡ Ok both.1.value) }
-    ensures stops { IsErrOf result Stop.Syntax → IsErrOf read Stop.Syntax }
-{
-    let part = read?;
-    let given = Box::new(alloc, part)?;
-    Ok((before, given))
 }
 
 impl<'a> Model for Parser<'a> {
@@ -179,6 +168,20 @@ impl<'a> Parser<'a> {
         Ok(())
     }
 
+    /// Passes over the next token if it is this one, and tells whether it was.
+    pub fn takes(&mut self, terminal: Terminal) -> bool
+        ensures told { result ≡ stands (terminal ∷ []) (next_terminal self.old) }
+        ensures reads { result ≡ true → Gives (leave terminal ∷ []) self.old (skip terminal) [] self.new }
+        ensures shorter { result ≡ true → length self.new < length self.old }
+        ensures stays { result ≡ false → self.new ≡ self.old }
+    {
+        if !self.next_is(&[terminal]) {
+            return false;
+        }
+        self.at += 1;
+        true
+    }
+
     /// Passes over the next token, which has to be this one, and hands back the part that it ends.
     pub fn ended_by<T: Drop>(&mut self, part: T, terminal: Terminal) -> Result<T, Stop>
         ensures same { IfOk result (λ given. given ≡ part) }
@@ -188,6 +191,46 @@ impl<'a> Parser<'a> {
     {
         self.skip(terminal)?;
         Ok(part)
+    }
+
+    /// The part that stands before, beside what was read behind it, once the terminal that has to end
+    /// them is passed over.
+    pub fn joined_until<A: Drop, T: Drop>(
+        &mut self,
+        before: A,
+        read: Result<T, Stop>,
+        end: Terminal,
+    ) -> Result<(A, T), Stop>
+        ensures same { IfOk result (λ both. both.0 ≡ before) }
+        ensures read { IfOk result (λ both. read ≡ Ok both.1) }
+        ensures reads { OnOk result (Gives (leave end ∷ []) self.old (skip end) [] self.new) }
+        ensures sticks { IsErrOf result Stop.Syntax → StopsInOrAt read Stop.Syntax end self.old self.new }
+        ensures shorter { OnOk result (length self.new < length self.old) }
+    {
+        let part = read?;
+        self.skip(end)?;
+        Ok((before, part))
+    }
+
+    /// The part that stands before, beside what was read behind it in a box, once the terminal that
+    /// has to end them is passed over.
+    pub fn boxed_until<A: Drop, T: Drop>(
+        &mut self,
+        alloc: Global,
+        before: A,
+        read: Result<T, Stop>,
+        end: Terminal,
+    ) -> Result<(A, Box<T>), Stop>
+        ensures same { IfOk result (λ both. both.0 ≡ before) }
+        ensures read { IfOk result (λ both. read ≡ Ok both.1.value) }
+        ensures reads { OnOk result (Gives (leave end ∷ []) self.old (skip end) [] self.new) }
+        ensures sticks { IsErrOf result Stop.Syntax → StopsInOrAt read Stop.Syntax end self.old self.new }
+        ensures shorter { OnOk result (length self.new < length self.old) }
+    {
+        let part = read?;
+        let given = Box::new(alloc, part)?;
+        self.skip(end)?;
+        Ok((before, given))
     }
 
     /// A copy of the next token, which has to be one of these and is taken, beside the part that stands

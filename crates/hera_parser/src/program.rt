@@ -24,8 +24,7 @@ impl<'a> Parser<'a> {
         let head = self.kept_behind(word, NAME)?;
         let head = self.kept_behind(head, PAREN)?;
         let attrs = self.attrs(alloc);
-        let part = joined(head, attrs)?;
-        let part = self.ended_by(part, CLOSE_PAREN)?;
+        let part = self.joined_until(head, attrs, CLOSE_PAREN)?;
         let part = self.ended_by(part, SEMICOLON)?;
         let (((word, name), bracket), attrs) = part;
         Ok(Relation::new(word, name, bracket, attrs))
@@ -43,8 +42,7 @@ impl<'a> Parser<'a> {
         let head = self.kept_behind(head, NAME)?;
         let head = self.kept_behind(head, PAREN)?;
         let params = self.some_params(alloc);
-        let part = joined(head, params)?;
-        let part = self.ended_by(part, CLOSE_PAREN)?;
+        let part = self.joined_until(head, params, CLOSE_PAREN)?;
         let block = self.block(alloc);
         let part = joined(part, block)?;
         let (((((word, type_tree), name), bracket), params), block) = part;
@@ -61,8 +59,7 @@ impl<'a> Parser<'a> {
         let head = self.kept_behind(word, NAME)?;
         let head = self.kept_behind(head, PAREN)?;
         let params = self.some_params(alloc);
-        let part = joined(head, params)?;
-        let part = self.ended_by(part, CLOSE_PAREN)?;
+        let part = self.joined_until(head, params, CLOSE_PAREN)?;
         let block = self.block(alloc);
         let part = joined(part, block)?;
         let ((((word, name), bracket), params), block) = part;
@@ -102,9 +99,7 @@ impl<'a> Parser<'a> {
         let mut all = Vec::new(alloc);
         'all: while self.next_is(RELATION) {
             let item = self.relation(alloc);
-            let both = joined(all, item)?;
-            let (before, item) = both;
-            all = pushed(before, item)?;
+            all = pushed(all, item)?;
         }
         Ok(all)
     }
@@ -118,9 +113,7 @@ impl<'a> Parser<'a> {
         let mut all = Vec::new(alloc);
         'all: while self.next_is(FUNC) {
             let item = self.func(alloc);
-            let both = joined(all, item)?;
-            let (before, item) = both;
-            all = pushed(before, item)?;
+            all = pushed(all, item)?;
         }
         Ok(all)
     }
@@ -134,9 +127,7 @@ impl<'a> Parser<'a> {
         let mut all = Vec::new(alloc);
         'all: while self.next_is(PROC) {
             let item = self.procedure(alloc);
-            let both = joined(all, item)?;
-            let (before, item) = both;
-            all = pushed(before, item)?;
+            all = pushed(all, item)?;
         }
         Ok(all)
     }

@@ -6,7 +6,7 @@ ghost use Rattle.hera_syntax.specs.Grammar as phrases;
 ghost use Rattle.hera_syntax.specs.Programs.{some_value_outline, stmt_outline};
 ghost use Rattle.hera_parser.specs.Reading.{Tells, Gives, Sticks};
 
-use crate::parser::{Parser, Stop, joined};
+use crate::parser::{Parser, Stop};
 use crate::terminals::{
     APPLY, ASSERT, CLOSE_PAREN, COMMIT, EQUALS, EXPR_STARTS, NAME, PAREN, PRINT, RETURN, ROLLBACK,
     SEMICOLON,
@@ -26,8 +26,7 @@ impl<'a> Parser<'a> {
         let head = self.kept_behind(type_tree, NAME)?;
         let head = self.ended_by(head, EQUALS)?;
         let value = self.expr(alloc);
-        let part = joined(head, value)?;
-        let part = self.ended_by(part, SEMICOLON)?;
+        let part = self.joined_until(head, value, SEMICOLON)?;
         let ((type_tree, name), value) = part;
         Ok(StmtTree::declare(type_tree, name, value))
     }
@@ -41,8 +40,7 @@ impl<'a> Parser<'a> {
     {
         let word = self.keep(PRINT)?;
         let value = self.expr(alloc);
-        let part = joined(word, value)?;
-        let part = self.ended_by(part, SEMICOLON)?;
+        let part = self.joined_until(word, value, SEMICOLON)?;
         let (word, value) = part;
         Ok(StmtTree::print(word, value))
     }
@@ -56,8 +54,7 @@ impl<'a> Parser<'a> {
     {
         let word = self.keep(APPLY)?;
         let value = self.expr(alloc);
-        let part = joined(word, value)?;
-        let part = self.ended_by(part, SEMICOLON)?;
+        let part = self.joined_until(word, value, SEMICOLON)?;
         let (word, value) = part;
         Ok(StmtTree::apply(word, value))
     }
@@ -71,8 +68,7 @@ impl<'a> Parser<'a> {
     {
         let word = self.keep(ASSERT)?;
         let value = self.expr(alloc);
-        let part = joined(word, value)?;
-        let part = self.ended_by(part, SEMICOLON)?;
+        let part = self.joined_until(word, value, SEMICOLON)?;
         let (word, value) = part;
         Ok(StmtTree::assert(word, value))
     }
@@ -110,8 +106,7 @@ impl<'a> Parser<'a> {
     {
         let word = self.keep(RETURN)?;
         let value = self.some_value(alloc);
-        let part = joined(word, value)?;
-        let part = self.ended_by(part, SEMICOLON)?;
+        let part = self.joined_until(word, value, SEMICOLON)?;
         let (word, value) = part;
         Ok(StmtTree::give_back(word, value))
     }
@@ -140,15 +135,13 @@ impl<'a> Parser<'a> {
         if self.next_is(&[EQUALS]) {
             let target = self.ended_by(name, EQUALS)?;
             let value = self.expr(alloc);
-            let assigned = joined(target, value)?;
-            let assigned = self.ended_by(assigned, SEMICOLON)?;
+            let assigned = self.joined_until(target, value, SEMICOLON)?;
             let (name, value) = assigned;
             return Ok(StmtTree::assign(name, value));
         }
         let head = self.kept_behind(name, PAREN)?;
         let args = self.some_args(alloc);
-        let part = joined(head, args)?;
-        let part = self.ended_by(part, CLOSE_PAREN)?;
+        let part = self.joined_until(head, args, CLOSE_PAREN)?;
         let part = self.ended_by(part, SEMICOLON)?;
         let ((name, bracket), args) = part;
         Ok(StmtTree::call(name, bracket, args))

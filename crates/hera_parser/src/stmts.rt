@@ -8,10 +8,10 @@ ghost use Rattle.std.specs.List.{flat_map};
 ghost use Rattle.hera_parser.specs.Pieces.{else_if_rest};
 ghost use Rattle.hera_parser.specs.Reading.{Tells, Gives, Sticks};
 
+use crate::forms::StmtForm;
 use crate::parser::{Items, Parser, Stop, joined, pushed};
 use crate::terminals::{
-    APPLY, ASSERT, BRACE, CLOSE_BRACE, CLOSE_PAREN, COMMIT, ELSE, FOREACH, IF, IN, NAME, PAREN,
-    PRINT, ROLLBACK, STMT_STARTS, TYPE_STARTS, WHILE,
+    BRACE, CLOSE_BRACE, CLOSE_PAREN, ELSE, FOREACH, IF, IN, STMT_STARTS, WHILE,
 };
 use hera_syntax::{Block, ElseIf, StmtTree, Terminal};
 use std::alloc::Global;
@@ -28,9 +28,7 @@ impl<'a> Parser<'a> {
         let mut items = Items::new(alloc, bracket);
         'stmts: while self.next_is(STMT_STARTS) {
             let stmt = self.stmt(alloc);
-            let both = joined(items, stmt)?;
-            let (before, stmt) = both;
-            items = before.with(stmt)?;
+            items = items.with(stmt)?;
         }
         let all = self.ended_by(items, CLOSE_BRACE)?;
         let Items { first, rest } = all;
@@ -44,37 +42,19 @@ impl<'a> Parser<'a> {
         ensures sticks { IsErrOf result Stop.Syntax → Sticks (phrase phrases.stmt ∷ []) self.old self.new }
         ensures shorter { OnOk result (length self.new < length self.old) }
     {
-        if self.next_is(TYPE_STARTS) {
-            return self.declare(alloc);
+        match self.stmt_form() {
+            StmtForm::Declare => self.declare(alloc),
+            StmtForm::Named => self.named(alloc),
+            StmtForm::If => self.branch(alloc),
+            StmtForm::While => self.repeat(alloc),
+            StmtForm::Foreach => self.foreach(alloc),
+            StmtForm::Print => self.print(alloc),
+            StmtForm::Apply => self.apply(alloc),
+            StmtForm::Assert => self.assert(alloc),
+            StmtForm::Commit => self.commit(),
+            StmtForm::Rollback => self.rollback(),
+            StmtForm::Return => self.give_back(alloc),
         }
-        if self.next_is(NAME) {
-            return self.named(alloc);
-        }
-        if self.next_is(IF) {
-            return self.branch(alloc);
-        }
-        if self.next_is(WHILE) {
-            return self.repeat(alloc);
-        }
-        if self.next_is(FOREACH) {
-            return self.foreach(alloc);
-        }
-        if self.next_is(PRINT) {
-            return self.print(alloc);
-        }
-        if self.next_is(APPLY) {
-            return self.apply(alloc);
-        }
-        if self.next_is(ASSERT) {
-            return self.assert(alloc);
-        }
-        if self.next_is(COMMIT) {
-            return self.commit();
-        }
-        if self.next_is(ROLLBACK) {
-            return self.rollback();
-        }
-        self.give_back(alloc)
     }
 
     /// A keyword, a condition and a block.
@@ -84,11 +64,9 @@ impl<'a> Parser<'a> {
         ensures sticks { IsErrOf result Stop.Syntax → Sticks (keep words.now ∷ keep phrases.paren ∷ phrase phrases.expr ∷ leave phrases.close_paren ∷ phrase phrases.block ∷ []) self.old self.new }
         ensures shorter { OnOk result (length self.new < length self.old) }
     {
-        let word = self.keep(words)?;
-        let head = self.kept_behind(word, PAREN)?;
+        let head = self.bracketed(words)?;
         let condition = self.expr(alloc);
-        let part = joined(head, condition)?;
-        let part = self.ended_by(part, CLOSE_PAREN)?;
+        let part = self.joined_until(head, condition, CLOSE_PAREN)?;
         let block = self.block(alloc);
         let part = joined(part, block)?;
         let (((word, bracket), condition), block) = part;
@@ -121,13 +99,9 @@ impl<'a> Parser<'a> {
         ensures sticks { IsErrOf result Stop.Syntax → Sticks (phrase phrases.stmt ∷ []) self.old self.new }
         ensures shorter { OnOk result (length self.new < length self.old) }
     {
-        let word = self.keep(FOREACH)?;
-        let head = self.kept_behind(word, PAREN)?;
-        let head = self.kept_behind(head, NAME)?;
-        let head = self.ended_by(head, IN)?;
+        let head = self.naming(FOREACH, IN)?;
         let over = self.expr(alloc);
-        let part = joined(head, over)?;
-        let part = self.ended_by(part, CLOSE_PAREN)?;
+        let part = self.joined_until(head, over, CLOSE_PAREN)?;
         let block = self.block(alloc);
         let part = joined(part, block)?;
         let ((((word, bracket), name), over), block) = part;
@@ -142,18 +116,15 @@ impl<'a> Parser<'a> {
         ensures no_longer { OnOk result (length self.new ≤ length self.old) }
     {
         let mut items = Vec::new(alloc);
-        'elses: while self.next_is(&[ELSE]) {
-            let before = self.ended_by(items, ELSE)?;
+        'elses: while self.takes(ELSE) {
             if !self.next_is(IF) {
                 let last = self.block(alloc);
-                let end = joined(before, last)?;
-                let (before, last) = end;
-                return Ok((before, Some(last)));
+                let end = joined(items, last)?;
+                let (items, last) = end;
+                return Ok((items, Some(last)));
             }
             let item = self.guarded(alloc, IF);
-            let both = joined(before, item)?;
-            let (before, item) = both;
-            items = pushed(before, item)?;
+            items = pushed(items, item)?;
         }
         Ok((items, None))
     }

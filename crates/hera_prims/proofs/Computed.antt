@@ -1,21 +1,21 @@
 -- What is computed of the rows of a relation.
-use Rattle.std.proofs.Common.{◌≡◌, ℕ, zero, suc, ◌<◌, Bool, true, false, cond, ◌&&◌, List, [], ◌∷◌, length, refl, sym, ap, ◌∙◌, subst, arith, ℤ}
-use Rattle.std.specs.Prelude.{slice_index_or, All}
-use Rattle.std.specs.List.{list_all}
-use Rattle.std.proofs.lemmas.Bool.{and_parts, ltb-true}
+use Rattle.std.proofs.Common.{◌≡◌, ℕ, zero, suc, ◌<◌, Bool, true, false, cond, ◌&&◌, List, [], ◌∷◌, length, refl, sym, ap, ◌∙◌, arith, ℤ, pos, None, Some}
+use Rattle.std.specs.Prelude.{slice_index_or, All, nat_eq}
+use Rattle.std.specs.List.{list_all, find}
+use Rattle.std.proofs.lemmas.Bool.{and_parts, ltb-true, ne_eqb}
 use Rattle.std.proofs.lemmas.List.Sums.{AllPass-from_list_all}
-use Rattle.hera_sets.specs.Rows.{Row}
+use Rattle.hera_sets.specs.Rows.{Row, is_past}
 use Rattle.hera_meaning.specs.declared.scalars.Scalar.{Scalar}
 use Rattle.hera_meaning.specs.declared.schemas.Attr.{Attr}
 use Rattle.hera_meaning.specs.declared.schemas.Agg.{Agg}
 use Rattle.hera_meaning.specs.declared.schemas.Agg.TheVariants.{Count, Sum, Min, Max}
 use Rattle.hera_meaning.specs.declared.trees.TrapName.TheVariants.{Overflow, EmptyMin}
-use Rattle.hera_meaning.specs.Scalars.{fits_int, is_same_kind}
+use Rattle.hera_meaning.specs.Scalars.{fits_int}
 use Rattle.hera_meaning.specs.Rows.{IsRow, is_row}
-use Rattle.hera_meaning.specs.Values.{Value, scalar, tuple, table, delta, int_value, rows_in, operand}
+use Rattle.hera_meaning.specs.Values.{scalar, table, int_value}
 use Rattle.hera_meaning.specs.Aggregates.{is_few, column}
-use Rattle.hera_meaning.specs.Fits.{a_table_of, meets, all_meet, is_place, is_int_at, is_good_agg, fits_of}
-use Rattle.hera_meaning.specs.Primitives.{Answer, gives, refuses, in_range, end_of_fields}
+use Rattle.hera_meaning.specs.Fits.{is_place, is_int_at, is_good_agg, fits_of}
+use Rattle.hera_meaning.specs.Primitives.{gives, refuses, in_range, end_of_fields}
 use Rattle.hera_meaning.proofs.RowsRead.{is_row-true}
 use Rattle.hera_aggregate.specs.Extremes.{HasRows}
 use Rattle.hera_aggregate.specs.Groups.{IsAggWithin}
@@ -69,38 +69,51 @@ pub ruleset ends = (all_rows, end_some, end_none)
 
 pub ruleset groups = (all_rows, all_within, group_fits, group_over)
 
--- ---- operands that fit
+-- ---- relations that fit
 
-table_met : (schema : List Attr) (vs : List Value) → all_meet (a_table_of schema ∷ []) vs ≡ true → list_all (is_row schema) (rows_in (operand vs 0)) ≡ true
-table_met schema [] h = cc
-table_met schema (scalar s ∷ vs) h = cc
-table_met schema (tuple r ∷ vs) h = cc
-table_met schema (delta d ∷ vs) h = cc
-table_met schema (table rows ∷ []) h = (and_parts (list_all (is_row schema) rows) true h).0
-table_met schema (table rows ∷ v ∷ vs) h = (and_parts (list_all (is_row schema) rows) _ h).0
+pub sum_rows : (schema : List Attr) (i : ℕ) (xs : List Row) → fits_of (ops.Sum schema i) (table xs ∷ []) ≡ true → list_all (is_row schema) xs ≡ true
+sum_rows schema i xs h = (and_parts (list_all (is_row schema) xs) true (and_parts (is_int_at schema i) _ h).1).0
 
-pub sum_rows : (schema : List Attr) (i : ℕ) (vs : List Value) → fits_of (ops.Sum schema i) vs ≡ true → list_all (is_row schema) (rows_in (operand vs 0)) ≡ true
-sum_rows schema i vs h = table_met schema vs (and_parts (is_int_at schema i) _ h).1
+pub sum_place : (schema : List Attr) (i : ℕ) (xs : List Row) → fits_of (ops.Sum schema i) (table xs ∷ []) ≡ true → i < length schema
+sum_place schema i xs h = int_place schema i (and_parts (is_int_at schema i) _ h).0
 
-pub sum_place : (schema : List Attr) (i : ℕ) (vs : List Value) → fits_of (ops.Sum schema i) vs ≡ true → i < length schema
-sum_place schema i vs h = int_place schema i (and_parts (is_int_at schema i) _ h).0
+pub min_rows : (schema : List Attr) (i : ℕ) (xs : List Row) → fits_of (ops.Min schema i) (table xs ∷ []) ≡ true → list_all (is_row schema) xs ≡ true
+min_rows schema i xs h = (and_parts (list_all (is_row schema) xs) true (and_parts (is_place schema i) _ h).1).0
 
-pub min_rows : (schema : List Attr) (i : ℕ) (vs : List Value) → fits_of (ops.Min schema i) vs ≡ true → list_all (is_row schema) (rows_in (operand vs 0)) ≡ true
-min_rows schema i vs h = table_met schema vs (and_parts (is_place schema i) _ h).1
+pub min_place : (schema : List Attr) (i : ℕ) (xs : List Row) → fits_of (ops.Min schema i) (table xs ∷ []) ≡ true → i < length schema
+min_place schema i xs h = ltb-true i (length schema) (and_parts (is_place schema i) _ h).0
 
-pub min_place : (schema : List Attr) (i : ℕ) (vs : List Value) → fits_of (ops.Min schema i) vs ≡ true → i < length schema
-min_place schema i vs h = ltb-true i (length schema) (and_parts (is_place schema i) _ h).0
+pub max_rows : (schema : List Attr) (i : ℕ) (xs : List Row) → fits_of (ops.Max schema i) (table xs ∷ []) ≡ true → list_all (is_row schema) xs ≡ true
+max_rows schema i xs h = (and_parts (list_all (is_row schema) xs) true (and_parts (is_place schema i) _ h).1).0
 
-pub max_rows : (schema : List Attr) (i : ℕ) (vs : List Value) → fits_of (ops.Max schema i) vs ≡ true → list_all (is_row schema) (rows_in (operand vs 0)) ≡ true
-max_rows schema i vs h = table_met schema vs (and_parts (is_place schema i) _ h).1
+pub max_place : (schema : List Attr) (i : ℕ) (xs : List Row) → fits_of (ops.Max schema i) (table xs ∷ []) ≡ true → i < length schema
+max_place schema i xs h = ltb-true i (length schema) (and_parts (is_place schema i) _ h).0
 
-pub max_place : (schema : List Attr) (i : ℕ) (vs : List Value) → fits_of (ops.Max schema i) vs ≡ true → i < length schema
-max_place schema i vs h = ltb-true i (length schema) (and_parts (is_place schema i) _ h).0
+pub group_rows : (schema : List Attr) (by : List ℕ) (aggs : List Agg) (xs : List Row) → fits_of (ops.Group schema by aggs) (table xs ∷ []) ≡ true → list_all (is_row schema) xs ≡ true
+group_rows schema by aggs xs h = (and_parts (list_all (is_row schema) xs) true (and_parts (list_all (is_place schema) by && list_all (is_good_agg schema) aggs) _ h).1).0
 
-pub group_rows : (schema : List Attr) (by : List ℕ) (aggs : List Agg) (vs : List Value) → fits_of (ops.Group schema by aggs) vs ≡ true → list_all (is_row schema) (rows_in (operand vs 0)) ≡ true
-group_rows schema by aggs vs h = table_met schema vs (and_parts (list_all (is_place schema) by && list_all (is_good_agg schema) aggs) _ h).1
-
-pub group_aggs : (schema : List Attr) (by : List ℕ) (aggs : List Agg) (vs : List Value) → fits_of (ops.Group schema by aggs) vs ≡ true → list_all (is_good_agg schema) aggs ≡ true
-group_aggs schema by aggs vs h = (and_parts (list_all (is_place schema) by) _ (and_parts (list_all (is_place schema) by && list_all (is_good_agg schema) aggs) _ h).0).1
+pub group_aggs : (schema : List Attr) (by : List ℕ) (aggs : List Agg) (xs : List Row) → fits_of (ops.Group schema by aggs) (table xs ∷ []) ≡ true → list_all (is_good_agg schema) aggs ≡ true
+group_aggs schema by aggs xs h = (and_parts (list_all (is_place schema) by) _ (and_parts (list_all (is_place schema) by && list_all (is_good_agg schema) aggs) _ h).0).1
 
 pub ruleset computed = (sum_rows, sum_place, min_rows, min_place, max_rows, max_place, group_rows, group_aggs)
+
+-- ---- how many rows there are
+
+pub few_counted : (rows : List Row) (n : ℤ) → is_few rows ≡ true → n ≡ pos (length rows) → in_range (pos (length rows)) ≡ gives (int_value n)
+few_counted rows n h e = ap (λ b. cond b (gives (int_value (pos (length rows)))) (refuses Overflow)) h ∙ ap (λ z. gives (int_value z)) (sym e)
+
+pub many_refused : (rows : List Row) → is_few rows ≡ false → in_range (pos (length rows)) ≡ refuses Overflow
+many_refused rows h = ap (λ b. cond b (gives (int_value (pos (length rows)))) (refuses Overflow)) h
+
+pub ruleset counts = (few_counted, many_refused)
+
+-- there is a first row exactly where there are rows
+pub no_first : (rows : List Row) → None ≡ find (is_past None) rows → true ≡ nat_eq (length rows) 0
+no_first [] h = refl
+no_first (x ∷ rows) h = cc
+
+pub some_first : (rows : List Row) (first : Row) → Some first ≡ find (is_past None) rows → false ≡ nat_eq (length rows) 0
+some_first [] first h = cc
+some_first (x ∷ rows) first h = sym (ne_eqb (suc (length rows)) 0 (λ e. omega (arith, e)))
+
+pub ruleset firsts = (no_first, some_first)

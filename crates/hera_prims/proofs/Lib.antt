@@ -8,3 +8,5 @@ pub mod PlaceTests
 pub mod Fitted
 pub mod Tuples
 pub mod Computed
+pub mod Sparing
+pub mod Named

@@ -1,4 +1,5 @@
 pub mod Newest
 pub mod Wanted
+pub mod Tables
 pub mod Answered
 pub mod Joins

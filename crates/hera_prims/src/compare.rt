@@ -5,7 +5,7 @@ ghost use Rattle.hera_meaning.specs.Values.{operand, int_value, same_value, same
 ghost use Rattle.hera_meaning.specs.Primitives.{given, is_less, is_greater};
 ghost use Rattle.hera_row.specs.Fields.{told};
 ghost use Rattle.delta_atoms.specs.Plain.{value_of};
-ghost use Rattle.hera_prims.specs.Answered.{IsAnswer};
+ghost use Rattle.hera_prims.specs.Answered.{IsAnswer, IsSparing};
 
 use crate::values::{has_row_at, row_at, scalar_at, truth, truth_at};
 use crate::{Args, PrimEnd};
@@ -158,7 +158,8 @@ pub(crate) fn ge(args: &Args) -> Result<Value, PrimEnd>
 
 /// Whether a tuple is one of a relation.
 pub(crate) fn is_in(args: &Args) -> Result<Value, PrimEnd>
-    ensures { IsAnswer result (given Op.In args.now) }
+    ensures given { IsAnswer result (given Op.In args.now) }
+    ensures spared { IsSparing Op.In result }
 {
     Ok(truth(has_row_at(args, 1, row_at(args, 0))))
 }

@@ -2,11 +2,15 @@
 ghost use Rattle.std.specs.Prelude.{◌≡◌, true};
 ghost use Rattle.hera_meaning.specs.Fits.{fits_of};
 ghost use Rattle.hera_meaning.specs.Primitives.{given, prim_of};
-ghost use Rattle.hera_prims.specs.Answered.{IsAnswer};
+ghost use Rattle.hera_prims.specs.Answered.{IsAnswer, IsSparing};
+ghost use Rattle.hera_prims.specs.Tables.{asks_relations};
 
-use crate::{Args, PrimEnd, aggs, compare, deltas, ints, rows, sets};
+use crate::related::prim_rel;
+use crate::sets::rows_at;
+use crate::{Args, PrimEnd, compare, deltas, ints, rows, sets};
 use delta_atoms::Value;
 use hera_meaning::Op;
+use hera_rows::RowSet;
 use std::alloc::Global;
 
 /// What the operation gives of operands that fit: its value, its trap, or `Memory` for want of memory.
@@ -14,19 +18,21 @@ use std::alloc::Global;
 /// Arithmetic traps Overflow where the exact result is out of range, and division by 0 traps DivZero.
 /// A count, a sum and a group trap Overflow where there are more than 2^63-1 tuples or an exact sum is
 /// out of range; the least and the greatest of no tuples trap EmptyMin; and to read `fail` traps
-/// ReadFail.
+/// ReadFail. A count, a test for no tuples and `in` take no memory.
 pub fn prim(alloc: Global, op: &Op, args: Args) -> Result<Value, PrimEnd>
     requires { fits_of op.now args ≡ true }
-    ensures { IsAnswer result (prim_of op.now args) }
+    ensures given { IsAnswer result (prim_of op.now args) }
+    ensures spared { IsSparing op.now result }
 {
     answer(alloc, op, args)
 }
 
 /// One function an operation.
-#[tactic(auto, using(crate::proofs::Fitted::fitting, crate::proofs::Computed::computed))]
+#[tactic(auto, using(crate::proofs::Fitted::fitting, crate::proofs::Sparing::sparing))]
 fn answer(alloc: Global, op: &Op, args: Args) -> Result<Value, PrimEnd>
     requires { fits_of op.now args ≡ true }
-    ensures { IsAnswer result (given op.now args) }
+    ensures given { IsAnswer result (given op.now args) }
+    ensures spared { IsSparing op.now result }
 {
     match op {
         Op::Neg => ints::neg(&args),
@@ -46,17 +52,8 @@ fn answer(alloc: Global, op: &Op, args: Args) -> Result<Value, PrimEnd>
         Op::Field(schema, i) => rows::field_of(alloc, schema, *i, &args),
         Op::MakeRow(schema) => rows::make_row(alloc, schema, args),
         Op::MakeRel(n) => sets::make_rel(alloc, *n, &args),
-        Op::Project(schema, places) => sets::project(alloc, schema, places, &args),
-        Op::Union => sets::union(alloc, &args),
-        Op::Minus => sets::minus(alloc, &args),
-        Op::Inter => sets::inter(alloc, &args),
-        Op::Join(left, right) => sets::join(alloc, left, right, &args),
-        Op::Group(schema, by, aggregates) => aggs::group(alloc, schema, by, aggregates, &args),
-        Op::Count => rows::count(&args),
-        Op::Empty => rows::empty(&args),
-        Op::Sum(schema, i) => aggs::sum(alloc, schema, *i, &args),
-        Op::Min(schema, i) => aggs::min(alloc, schema, *i, &args),
-        Op::Max(schema, i) => aggs::max(alloc, schema, *i, &args),
+        Op::Count => rows::held_count(&args),
+        Op::Empty => rows::held_empty(&args),
         Op::Atom(sign, rel) => deltas::atom(alloc, *sign, *rel, &args),
         Op::Bulk(sign, rel) => sets::bulk(alloc, *sign, *rel, &args),
         Op::Ins(rel) => sets::ins(*rel, &args),
@@ -64,5 +61,22 @@ fn answer(alloc: Global, op: &Op, args: Args) -> Result<Value, PrimEnd>
         Op::IsFail => deltas::is_fail(&args),
         Op::Smash => deltas::smash(alloc, &args),
         Op::Merge => deltas::merge(alloc, &args),
+        Op::Project(_, _) => of_held(alloc, op, &args),
+        Op::Union | Op::Minus | Op::Inter => of_held(alloc, op, &args),
+        Op::Join(_, _) => of_held(alloc, op, &args),
+        Op::Group(_, _, _) => of_held(alloc, op, &args),
+        Op::Sum(_, _) => of_held(alloc, op, &args),
+        Op::Min(_, _) => of_held(alloc, op, &args),
+        Op::Max(_, _) => of_held(alloc, op, &args),
     }
+}
+
+/// What the operation gives of relations that are held.
+fn of_held(alloc: Global, op: &Op, args: &Args) -> Result<Value, PrimEnd>
+    requires asks { asks_relations op.now ≡ true }
+    requires fits { fits_of op.now args.now ≡ true }
+    ensures { IsAnswer result (given op.now args.now) }
+{
+    let none = RowSet::new(alloc);
+    prim_rel(alloc, op, rows_at(args, 0, &none), rows_at(args, 1, &none))
 }

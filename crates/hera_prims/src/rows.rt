@@ -8,7 +8,7 @@ ghost use Rattle.hera_meaning.specs.Fits.{fits_of};
 ghost use Rattle.hera_meaning.specs.Primitives.{given};
 ghost use Rattle.hera_row.specs.Fields.{told, have_kinds};
 ghost use Rattle.delta_atoms.specs.Plain.{value_of};
-ghost use Rattle.hera_prims.specs.Answered.{IsAnswer};
+ghost use Rattle.hera_prims.specs.Answered.{IsAnswer, IsSparing};
 
 use crate::values::{int, row_at, rows_len_at, truth};
 use crate::{Args, PrimEnd};
@@ -90,10 +90,11 @@ pub(crate) fn make_row(alloc: Global, schema: &Schema, args: Args) -> Result<Val
     Ok(Value::Row(encode(alloc, schema, &fields)?))
 }
 
-/// How many tuples there are.
+/// How many tuples there are in a relation that is held: it knows their number.
 #[tactic(auto, using(crate::proofs::Ranges::ranges))]
-pub(crate) fn count(args: &Args) -> Result<Value, PrimEnd>
-    ensures { IsAnswer result (given Op.Count args.now) }
+pub(crate) fn held_count(args: &Args) -> Result<Value, PrimEnd>
+    ensures given { IsAnswer result (given Op.Count args.now) }
+    ensures spared { IsSparing Op.Count result }
 {
     let n = rows_len_at(args, 0);
     if n < 1 << 63 {
@@ -103,9 +104,10 @@ pub(crate) fn count(args: &Args) -> Result<Value, PrimEnd>
     }
 }
 
-/// Whether there are no tuples.
-pub(crate) fn empty(args: &Args) -> Result<Value, PrimEnd>
-    ensures { IsAnswer result (given Op.Empty args.now) }
+/// Whether there are no tuples in a relation that is held.
+pub(crate) fn held_empty(args: &Args) -> Result<Value, PrimEnd>
+    ensures given { IsAnswer result (given Op.Empty args.now) }
+    ensures spared { IsSparing Op.Empty result }
 {
     Ok(truth(rows_len_at(args, 0) == 0))
 }

@@ -1,7 +1,9 @@
 //! Operations that give relations, and those that read or make deltas of many rows.
 ghost use Rattle.std.specs.Prelude.{◌≡◌, []};
-ghost use Rattle.hera_meaning.specs.Values.{rows_in, delta_in, operand};
-ghost use Rattle.hera_meaning.specs.Primitives.{given, read_delta};
+ghost use Rattle.hera_sets.specs.Sets.{union_of, minus_of, inter_of};
+ghost use Rattle.hera_meaning.specs.Relations.{project_of, join_of};
+ghost use Rattle.hera_meaning.specs.Values.{rows_in, delta_in, operand, table};
+ghost use Rattle.hera_meaning.specs.Primitives.{gives, given, read_delta};
 ghost use Rattle.delta_atoms.specs.Atoms.{signed};
 ghost use Rattle.delta_atoms.specs.Plain.{value_of};
 ghost use Rattle.hera_prims.specs.Answered.{IsAnswer};
@@ -10,7 +12,7 @@ use crate::values::row_at;
 use crate::{Args, PrimEnd};
 use delta_atoms::{Delta, Value};
 use hera_meaning::{Op, Places, RelId, Schema, Sign, TrapName};
-use hera_rows::RowSet;
+use hera_rows::{RowSet, Sorted};
 use std::alloc::Global;
 
 /// The rows, those of `none` where the value is no relation.
@@ -51,58 +53,53 @@ pub(crate) fn make_rel(alloc: Global, n: u32, args: &Args) -> Result<Value, Prim
 }
 
 /// The rows of the fields at some places.
-pub(crate) fn project(
+pub(crate) fn project<A: Sorted>(
     alloc: Global,
     schema: &Schema,
     places: &Places,
-    args: &Args,
+    a: &A,
 ) -> Result<Value, PrimEnd>
-    ensures { IsAnswer result (given (Op.Project schema.now places.now) args.now) }
+    ensures { IsAnswer result (gives (table (project_of schema.now places.now (A.rows a.now)))) }
 {
-    let none = RowSet::new(alloc);
-    let rows = rel_algebra::project(alloc, schema, places.items(), rows_at(args, 0, &none))?;
+    let rows = rel_algebra::project(alloc, schema, places.items(), a)?;
     Ok(Value::Rel(rows))
 }
 
 /// The rows of either relation.
-pub(crate) fn union(alloc: Global, args: &Args) -> Result<Value, PrimEnd>
-    ensures { IsAnswer result (given Op.Union args.now) }
+pub(crate) fn union<A: Sorted, B: Sorted>(alloc: Global, a: &A, b: &B) -> Result<Value, PrimEnd>
+    ensures { IsAnswer result (gives (table (union_of (A.rows a.now) (B.rows b.now)))) }
 {
-    let none = RowSet::new(alloc);
-    let rows = rel_algebra::union(alloc, rows_at(args, 0, &none), rows_at(args, 1, &none))?;
+    let rows = rel_algebra::union(alloc, a, b)?;
     Ok(Value::Rel(rows))
 }
 
 /// The rows of the first relation that the second lacks.
-pub(crate) fn minus(alloc: Global, args: &Args) -> Result<Value, PrimEnd>
-    ensures { IsAnswer result (given Op.Minus args.now) }
+pub(crate) fn minus<A: Sorted, B: Sorted>(alloc: Global, a: &A, b: &B) -> Result<Value, PrimEnd>
+    ensures { IsAnswer result (gives (table (minus_of (A.rows a.now) (B.rows b.now)))) }
 {
-    let none = RowSet::new(alloc);
-    let rows = rel_algebra::minus(alloc, rows_at(args, 0, &none), rows_at(args, 1, &none))?;
+    let rows = rel_algebra::minus(alloc, a, b)?;
     Ok(Value::Rel(rows))
 }
 
 /// The rows of both relations.
-pub(crate) fn inter(alloc: Global, args: &Args) -> Result<Value, PrimEnd>
-    ensures { IsAnswer result (given Op.Inter args.now) }
+pub(crate) fn inter<A: Sorted, B: Sorted>(alloc: Global, a: &A, b: &B) -> Result<Value, PrimEnd>
+    ensures { IsAnswer result (gives (table (inter_of (A.rows a.now) (B.rows b.now)))) }
 {
-    let none = RowSet::new(alloc);
-    let rows = rel_algebra::inter(alloc, rows_at(args, 0, &none), rows_at(args, 1, &none))?;
+    let rows = rel_algebra::inter(alloc, a, b)?;
     Ok(Value::Rel(rows))
 }
 
 /// The natural join of two relations.
-pub(crate) fn join(
+pub(crate) fn join<A: Sorted, B: Sorted>(
     alloc: Global,
     left: &Schema,
     right: &Schema,
-    args: &Args,
+    a: &A,
+    b: &B,
 ) -> Result<Value, PrimEnd>
-    ensures { IsAnswer result (given (Op.Join left.now right.now) args.now) }
+    ensures { IsAnswer result (gives (table (join_of left.now right.now (A.rows a.now) (B.rows b.now)))) }
 {
-    let none = RowSet::new(alloc);
-    let first = rows_at(args, 0, &none);
-    let rows = join_exec::join(alloc, left, right, first, rows_at(args, 1, &none))?;
+    let rows = join_exec::join(alloc, left, right, a, b)?;
     Ok(Value::Rel(rows))
 }
 

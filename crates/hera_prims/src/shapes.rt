@@ -10,7 +10,7 @@ ghost use Rattle.delta_atoms.specs.Refs.{atom_in};
 use delta_atoms::{AtomRef, Delta, Value};
 use hera_meaning::{RelDecl, RelId, Scalar, Schema, Shape};
 use hera_row::check_row;
-use hera_rows::RowSet;
+use hera_rows::{RowSet, Sorted};
 
 /// Whether the bytes are a row of the schema.
 pub(crate) fn is_row(schema: &Schema, bytes: &[u8]) -> bool
@@ -27,6 +27,20 @@ pub(crate) fn are_rows(schema: &Schema, rows: &RowSet) -> bool
         if !is_row(schema, rows.row(i)) {
             return false;
         }
+    }
+    true
+}
+
+/// Whether each row of a sorted set is a row of the schema.
+pub(crate) fn has_kinds<A: Sorted>(schema: &Schema, a: &A) -> bool
+    ensures { result ≡ list_all (is_row schema.now) (A.rows a.now) }
+{
+    let mut last: Option<&[u8]> = None;
+    while let Some(row) = a.above(last) {
+        if !is_row(schema, row) {
+            return false;
+        }
+        last = Some(row);
     }
     true
 }

@@ -7,7 +7,7 @@ ghost use Rattle.hera_sets.specs.Rows.{is_same};
 ghost use Rattle.hera_rules.specs.Environments.{relation_named};
 
 use crate::words::Joint;
-use hera_host::HostTable;
+use hera_host::HostNames;
 use hera_meaning::{Core, Name, RelDecl, RelId, Schema, Shape};
 use hera_sets::is_same;
 use std::alloc::{AllocError, Global};
@@ -76,7 +76,7 @@ pub struct Globals<'a> {
     pub relations: Relations,
     pub funcs: Vec<FuncSig>,
     pub procs: Vec<ProcSig>,
-    pub hosts: &'a HostTable,
+    pub hosts: &'a HostNames,
 }
 
 /// The visible locals, and the first slot that is free.

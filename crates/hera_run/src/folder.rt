@@ -54,15 +54,14 @@ fn run_bound<W: Outside>(
     outside: &mut W,
     hosts: &HostTable,
 ) -> RunStatus
-    requires sound { Sound (program_of program.now) (specs_of hosts.now) }
+    requires sound { Sound (program_of program.now) (specs_of hosts.now.names) }
     requires relations { (program_of program.now).relations ≡ store.old.base.catalogue }
-    requires no_hosts { hosts.now ≡ [] }
     requires open { store.old.closed ≡ false }
     requires stands { W.told → StandsFor (W.disk outside.old) store.old }
     requires state { IsState store.old.base.catalogue (database_of store.old).state }
-    ensures said { IsSaid (outcome_from (database_of store.old) store.old.end (run_of (program_of program.now) (database_of store.old).state (specs_of hosts.now) turns)) result (passage W.told W.disk W.emitted W.moment W.left_since outside.old outside.new) }
+    ensures said { IsSaid (outcome_from (database_of store.old) store.old.end (run_of (program_of program.now) (database_of store.old).state (specs_of hosts.now.names) turns)) result (passage W.told W.disk W.emitted W.moment W.left_since outside.old outside.new) }
     ensures any_moment { W.told → LeavesOnly W.moment W.left_since outside.old outside.new
-        (IsCut (events_of (outcome_from (database_of store.old) store.old.end (run_of (program_of program.now) (database_of store.old).state (specs_of hosts.now) turns))) (database_of store.old) (W.emitted outside.old)) }
+        (IsCut (events_of (outcome_from (database_of store.old) store.old.end (run_of (program_of program.now) (database_of store.old).state (specs_of hosts.now.names) turns))) (database_of store.old) (W.emitted outside.old)) }
     ensures device { result ≡ RunStatus.Device → Rose (W.device_faults outside.old) (W.device_faults outside.new) }
     ensures device_still { result ≢ RunStatus.Device → W.device_faults outside.new ≡ W.device_faults outside.old }
     ensures device_later { W.device_faults outside.old ≤ W.device_faults outside.new }
@@ -100,12 +99,11 @@ fn run_store<W: Outside>(
     outside: &mut W,
     hosts: &HostTable,
 ) -> RunStatus
-    requires sound { Sound (program_of program) (specs_of hosts.now) }
-    requires no_hosts { hosts.now ≡ [] }
+    requires sound { Sound (program_of program) (specs_of hosts.now.names) }
     requires open { store.closed ≡ false }
     requires stands { W.told → StandsFor (W.disk outside.old) store }
     requires state { IsState store.base.catalogue (database_of store).state }
-    ensures continues { Continues hosts.now turns (program_of program) (database_of store) store.end result (passage W.told W.disk W.emitted W.moment W.left_since outside.old outside.new) }
+    ensures continues { Continues hosts.now.names turns (program_of program) (database_of store) store.end result (passage W.told W.disk W.emitted W.moment W.left_since outside.old outside.new) }
     ensures device { result ≡ RunStatus.Device → Rose (W.device_faults outside.old) (W.device_faults outside.new) }
     ensures device_still { result ≢ RunStatus.Device → W.device_faults outside.new ≡ W.device_faults outside.old }
     ensures device_later { W.device_faults outside.old ≤ W.device_faults outside.new }
@@ -141,9 +139,8 @@ pub fn run_in_folder<W: Outside>(
     outside: &mut W,
     hosts: &HostTable,
 ) -> RunStatus
-    requires sound { Sound (program_of program) (specs_of hosts.now) }
-    requires no_hosts { hosts.now ≡ [] }
-    ensures answers { Answers hosts.now turns (program_of program) result (passage W.told W.disk W.emitted W.moment W.left_since outside.old outside.new) }
+    requires sound { Sound (program_of program) (specs_of hosts.now.names) }
+    ensures answers { Answers hosts.now.names turns (program_of program) result (passage W.told W.disk W.emitted W.moment W.left_since outside.old outside.new) }
     // Faults are counted, and no answer but these two comes of one.
     ensures device { result ≡ RunStatus.Device → Rose (W.device_faults outside.old) (W.device_faults outside.new) }
     ensures device_still { result ≢ RunStatus.Device → W.device_faults outside.new ≡ W.device_faults outside.old }

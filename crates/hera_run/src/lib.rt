@@ -14,6 +14,6 @@ pub use carry::{Action, carry_out};
 pub use fault::RunFault;
 pub use folder::run_in_folder;
 pub use lines::{commit_line, last_line};
-pub use refusal::FolderRefusal;
+pub use refusal::{FolderRefusal, refusal_line};
 pub use run::run_code;
 pub use status::RunStatus;

@@ -30,7 +30,7 @@ fn label(file: FileId) -> &'static str
 }
 
 /// The line of a refusal.
-pub(crate) fn refusal_line(alloc: Global, refusal: &FolderRefusal) -> Result<Line, AllocError>
+pub fn refusal_line(alloc: Global, refusal: &FolderRefusal) -> Result<Line, AllocError>
     ensures { IfOk result (λ line. line ≡ line_of refusal.now) }
 {
     match refusal {

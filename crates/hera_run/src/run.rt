@@ -100,19 +100,18 @@ pub fn run_code<W: Outside>(
     hosts: &HostTable,
 ) -> Result<End, RunFault>
     requires forward { Forward code.now }
-    requires no_hosts { hosts.now ≡ [] }
     requires open { store.old.closed ≡ false }
     requires stands { W.told → StandsFor (W.disk outside.old) store.old }
-    requires proper { (k : ℕ) → AreStoresOf store.old.base.catalogue (events_in (code_at code.now relations.now (database_of store.old).state (specs_of hosts.now) turns k)) }
+    requires proper { (k : ℕ) → AreStoresOf store.old.base.catalogue (events_in (code_at code.now relations.now (database_of store.old).state (specs_of hosts.now.names) turns k)) }
     // After an end all events were carried out; after `Full` those before the commit that does not fit.
-    ensures whole { IfOk result (λ end. IsAllDone code.now relations.now (specs_of hosts.now) (database_of store.old) store.old.end turns (W.emitted outside.old) (W.emitted outside.new) (database_of store.new) end) }
-    ensures full { result ≡ Err RunFault.Full → IsDoneUpToFull code.now relations.now (specs_of hosts.now) (database_of store.old) store.old.end turns (W.emitted outside.old) (W.emitted outside.new) (database_of store.new) }
-    ensures cut { OnErr result (IsPartDone code.now relations.now (specs_of hosts.now) (database_of store.old) store.old.end turns (W.emitted outside.old) (W.emitted outside.new)) }
+    ensures whole { IfOk result (λ end. IsAllDone code.now relations.now (specs_of hosts.now.names) (database_of store.old) store.old.end turns (W.emitted outside.old) (W.emitted outside.new) (database_of store.new) end) }
+    ensures full { result ≡ Err RunFault.Full → IsDoneUpToFull code.now relations.now (specs_of hosts.now.names) (database_of store.old) store.old.end turns (W.emitted outside.old) (W.emitted outside.new) (database_of store.new) }
+    ensures cut { OnErr result (IsPartDone code.now relations.now (specs_of hosts.now.names) (database_of store.old) store.old.end turns (W.emitted outside.old) (W.emitted outside.new)) }
     ensures stands { W.told → OnOk result (StandsFor (W.disk outside.new) store.new) }
     ensures full_stands { W.told → result ≡ Err RunFault.Full → StandsFor (W.disk outside.new) store.new }
     // At each moment.
     ensures any_moment { W.told → LeavesOnly W.moment W.left_since outside.old outside.new
-        (IsCodeCut code.now relations.now (specs_of hosts.now) (database_of store.old) store.old.end turns (W.emitted outside.old)) }
+        (IsCodeCut code.now relations.now (specs_of hosts.now.names) (database_of store.old) store.old.end turns (W.emitted outside.old)) }
     // Faults are counted, and no answer but these two comes of one.
     ensures device { result ≡ Err RunFault.Device → Rose (W.device_faults outside.old) (W.device_faults outside.new) }
     ensures device_still { result ≢ Err RunFault.Device → W.device_faults outside.new ≡ W.device_faults outside.old }
@@ -124,7 +123,7 @@ pub fn run_code<W: Outside>(
     let mut machine = Machine::new(alloc, code, relations, turns)?;
     let opened = store.commits().len();
     'steps: loop {
-        match machine.step(store.base(), store.commits(), hosts)? {
+        match machine.advance(store.base(), store.commits(), hosts)? {
             Event::Quiet => {}
             Event::Out(line) => carry_out(outside, store, Action::Say(line))?,
             Event::Commit => {

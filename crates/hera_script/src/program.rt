@@ -104,9 +104,9 @@ fn tree_of(alloc: Global, tokens: &Tokens) -> Result<Tree, ScriptFault>
 /// TooDeep and Syntax are looked for in this order, and then the first fault of types in the order of checking.
 pub fn read_program(alloc: Global, script: &[u8], hosts: &HostTable) -> Result<Program, ScriptFault>
     requires { length script.now ≤ script_limit }
-    ensures accepted { IfOk result (λ program. Accepted script.now hosts.now (program_of program)) }
-    ensures sound { IfOk result (λ program. Sound (program_of program) (specs_of hosts.now)) }
-    ensures refused { (cause : Cause) (at : ℕ) → result ≡ Err (ScriptFault.Refused cause at) → IsRefused hosts.now script.now cause at }
+    ensures accepted { IfOk result (λ program. Accepted script.now hosts.now.names (program_of program)) }
+    ensures sound { IfOk result (λ program. Sound (program_of program) (specs_of hosts.now.names)) }
+    ensures refused { (cause : Cause) (at : ℕ) → result ≡ Err (ScriptFault.Refused cause at) → IsRefused hosts.now.names script.now cause at }
 {
     let tokens = lex(alloc, script)?;
     let tree = tree_of(alloc, &tokens)?;

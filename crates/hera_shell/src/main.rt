@@ -1,7 +1,7 @@
 //! The program `hera`: its words, real files and standard output.
 //!
 //! `hera check FILE` says whether the script in the file is accepted, `hera list FILE` lists its code, and
-//! `hera eval TURNS FILE` runs it. `hera init DIR FILE` makes a database of its relations in a folder, `hera dump DIR`
+//! `hera eval TURNS FILE` runs it, and `hera drill N` runs a script made from a number. `hera init DIR FILE` makes a database of its relations in a folder, `hera dump DIR`
 //! prints it, and `hera checkpoint DIR` writes it anew.
 #![tactic(auto)]
 
@@ -15,8 +15,9 @@ mod standard_output;
 use file_outside::FileOutside;
 use file_source::FileSource;
 use folder::Paths;
-use hera_host::HostTable;
+use hera_meaning::Scalar;
 use hera_top::{files_of, folder_of, hera};
+use program_hosts::{band, bucket, clamp, is_sku, program_hosts};
 use std::alloc::{AllocError, Global};
 use std::fs::Files;
 use std::io;
@@ -70,12 +71,19 @@ fn status<R: Env + Files + Print + AllocGlobal + Drop>(rt: &R) -> Result<u8, All
     let (first, last) = files_of(&words);
     let mut sources = sources_of(rt.alloc(), rt, &words[first..last])?;
     let paths = paths_of(rt.alloc(), &words)?;
+    let hosts = program_hosts(
+        rt.alloc(),
+        Box::new(rt.alloc(), |arg: &Scalar| band(arg))?,
+        Box::new(rt.alloc(), |arg: &Scalar| bucket(arg))?,
+        Box::new(rt.alloc(), |arg: &Scalar| is_sku(arg))?,
+        Box::new(rt.alloc(), |arg: &Scalar| clamp(arg))?,
+    )?;
     Ok(hera(
         rt.alloc(),
         &words,
         &mut sources,
         &mut FileOutside::new(rt, paths),
-        &HostTable::new(rt.alloc()),
+        &hosts,
     ))
 }
 

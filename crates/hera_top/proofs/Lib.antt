@@ -1,3 +1,4 @@
+mod Drilled
 mod Saying
 mod Outcomes
 mod Running
@@ -13,3 +14,6 @@ mod Making
 mod Answering
 mod Ran
 mod Wording
+mod OneRun
+mod OneFolder
+mod Complete

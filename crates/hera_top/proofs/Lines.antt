@@ -1,22 +1,15 @@
--- The last lines of runs.
-use Rattle.std.proofs.Common.{◌≡◌, ℕ, List, ◌++◌, take, codes, Option, sym, ap, ◌∙◌, subst, append-nil}
+-- What was said of equal texts.
+use Rattle.std.proofs.Common.{◌≡◌, ℕ, List, take, Option, Result, Ok, Err, sym, ◌∙◌, subst}
+use Rattle.std.specs.Prelude.{IfOk}
 use Rattle.std.specs.Io.KnownBytes.{Appends}
-use Rattle.hera_meaning.specs.declared.trees.TrapName.{TrapName}
-use Rattle.hera_meaning.specs.Printed.{trap_name, trap_line, end_text, spent_line}
-use Rattle.hera_machine.specs.declared.events.End.{End}
-use Rattle.hera_machine.specs.declared.events.End.TheVariants.{Trap, Spent}
-use Rattle.hera_top.specs.Running.{last_text}
-
-pub trap_text : (end : End) (name : TrapName) (at : ℕ) (bytes : List ℕ) → end ≡ Trap name at → bytes ≡ end_text (codes "trap " ++ trap_name name) at → bytes ≡ last_text end
-unfolding trap_line
-trap_text end name at bytes e is = is ∙ sym (append-nil (trap_line name at)) ∙ ap last_text (sym e)
-
-pub spent_text : (end : End) (bytes : List ℕ) → end ≡ Spent → bytes ≡ codes "turns spent\n" → bytes ≡ last_text end
-unfolding spent_line
-spent_text end bytes e is = is ∙ sym (append-nil spent_line) ∙ ap last_text (sym e)
 
 pub same_said : (before now : Option (List ℕ)) (bytes text : List ℕ) → bytes ≡ text → Appends before now bytes → Appends before now text
 same_said before now bytes text is said = subst (λ (l : List ℕ). Appends before now l) is said
 
 pub same_part : (before now : Option (List ℕ)) (bytes text : List ℕ) → bytes ≡ text → ((n : ℕ) × Appends before now (take n bytes)) → (n : ℕ) × Appends before now (take n text)
 same_part before now bytes text is (n, said) = (n, subst (λ (l : List ℕ). Appends before now (take n l)) is said)
+
+-- a text is a line for which there was memory
+pub line_or_none : {E : Type 0} (made : Result (List ℕ) E) (text line : List ℕ) → text ≡ line → IfOk made (λ bytes. bytes ≡ line) → IfOk made (λ bytes. text ≡ bytes)
+line_or_none (Ok bytes) text line is same = is ∙ sym same
+line_or_none (Err e) text line is same = tt

@@ -11,13 +11,13 @@ use Rattle.hera_top.specs.declared.words.ScriptCommand.{ScriptCommand}
 use Rattle.hera_top.specs.declared.words.ScriptCommand.TheVariants.{Check}
 use Rattle.hera_top.specs.Outcome.{Outcome, refused, prints, outcome_of, ComesTo, refuses, performs}
 
-abbrev OneRefusal : Type 0
+abbrev pub OneRefusal : Type 0
 OneRefusal = (hosts : List Host) (script : List ℕ) (c d : Cause) (a b : ℕ) → IsRefused hosts script c a → IsRefused hosts script d b → (c ≡ d) × (a ≡ b)
 
-abbrev NeverBoth : Type 0
+abbrev pub NeverBoth : Type 0
 NeverBoth = (hosts : List Host) (script : List ℕ) (p : Program_tree) (c : Cause) (a : ℕ) → length script ≤ script_limit → Accepted script hosts p → IsRefused hosts script c a → ⊥
 
-abbrev OneProgram : Type 0
+abbrev pub OneProgram : Type 0
 OneProgram = (hosts : List Host) (script : List ℕ) (p q : Program_tree) → Accepted script hosts p → Accepted script hosts q → p ≡ q
 
 same_refusal : (c d : Cause) (a b : ℕ) → (c ≡ d) × (a ≡ b) → refused (Script c a) ≡ refused (Script d b)

@@ -10,8 +10,9 @@ use Rattle.hera_store.specs.Databases.{Database}
 use Rattle.hera_store.specs.Moments.{IsUntouched}
 use Rattle.hera_top.specs.declared.refusal.Refusal.{Refusal}
 use Rattle.hera_top.specs.Outcome.{Outcome, refused, prints, line_of, text_of_outcome, status_of_outcome, IsWhole, IsCut, IsSaid}
-use Rattle.hera_top.specs.Folder.{FolderOutcome, turned_away, dumped, tables_text, text_in_folder, status_in_folder, ReadsAsBefore, FilesAfter, FilesMidway, IsDone, IsCause, IsCutShort, IsSaidOf, IsGivenUp}
-use Rattle.hera_top.specs.Passages.{Passage, passage, KeepsFiles}
+use Rattle.hera_top.specs.Folder.{FolderOutcome, turned_away, dumped, tables_text, text_in_folder, status_in_folder, FilesAfter, FilesMidway, IsDone, IsCause, IsCutShort, IsSaidOf, IsGivenUp}
+use Rattle.hera_run.specs.Passages.{ReadsAsBefore}
+use Rattle.hera_top.specs.Passages.{Passage, passage, KeepsFiles, run_passage}
 
 pub kept_none : (start : Option (List ℕ)) (bytes text : List ℕ) → Keeps start (Some bytes) → (n : ℕ) × Appends start (Some bytes) (take n text)
 kept_none start bytes text kept = (0, Appends-kept start start (Some bytes) [] (Appends-nil start) kept)
@@ -85,7 +86,7 @@ module _ {D : Type 0} (told : Type 0) (disk : D → FileId → Disk) (emitted : 
     }
 
     module _ (u : told → IsUntouched disk emitted moment left_since a b) where
-      reads_behind : KeepsFiles (over b c) → told → ReadsAsBefore (over a c)
+      reads_behind : KeepsFiles (over b c) → told → ReadsAsBefore (run_passage (over a c))
       reads_behind keeps t = λ f. ap (λ (d : Disk). d.bytes) (keeps.files t f) ∙ (u t).reads f
 
       pub turned_behind : (refusal : Refusal) (status : ℕ) → IsSaid (refused refusal) status (over b c) → IsSaidOf (turned_away refusal) status (over a c)

@@ -1,5 +1,5 @@
 -- A source that tells what it has left tells the script.
-use Rattle.std.proofs.Common.{◌≡◌, ℕ, ◌<◌, ⊎_elim, List, [], ◌++◌, length, Option, Some, None, sym, ap, ◌∙◌, subst, arith, length-append, append-nil}
+use Rattle.std.proofs.Common.{◌≡◌, ℕ, ◌<◌, ◌≤◌, ⊎_elim, List, [], ◌++◌, length, Option, Some, None, sym, ap, ◌∙◌, subst, arith, length-append, append-nil}
 use Rattle.hera_host.specs.Tables.{Host}
 use Rattle.hera_top.specs.declared.words.ScriptCommand.{ScriptCommand}
 use Rattle.hera_script.specs.Refusing.{IsRefused, too_long, bad_utf8, bad_token, too_deep, syntax, types}
@@ -26,3 +26,19 @@ told_outcome hosts command script bytes (Some left) outcome read comes =
     ⊎_elim
     (λ (at_end : left ≡ []). subst (λ (l : List ℕ). ComesTo hosts command l outcome) (sym (read.consumed ∙ ap (λ (l : List ℕ). bytes ++ l) at_end ∙ append-nil bytes)) comes)
     (λ (long : script_limit < length bytes). too_long_whole hosts command script bytes left outcome read.consumed long comes) read.ended
+
+-- what came of a told script is refused as the script is
+pub refused_whole : (hosts : List Host) (script bytes : List ℕ) (left : Option (List ℕ)) (cause : Cause) (at : ℕ) → IsRead (Some script) left bytes → IsRefused hosts bytes cause at → IsRefused hosts script cause at
+refused_whole hosts script bytes None cause at read refused = absurd read.consumed
+refused_whole hosts script bytes (Some left) cause at read refused =
+    ⊎_elim
+    (λ (at_end : left ≡ []). subst (λ (l : List ℕ). IsRefused hosts l cause at) (sym (read.consumed ∙ ap (λ (l : List ℕ). bytes ++ l) at_end ∙ append-nil bytes)) refused)
+    (λ (long : script_limit < length bytes). beyond_refused hosts script bytes left cause at read.consumed long refused) read.ended
+
+-- what came of a told script, and is no longer than a script, is the script
+pub given_whole : (script bytes : List ℕ) (left : Option (List ℕ)) → IsRead (Some script) left bytes → length bytes ≤ script_limit → bytes ≡ script
+given_whole script bytes None read short = absurd read.consumed
+given_whole script bytes (Some left) read short =
+    ⊎_elim
+    (λ (at_end : left ≡ []). sym (read.consumed ∙ ap (λ (l : List ℕ). bytes ++ l) at_end ∙ append-nil bytes))
+    (λ (long : script_limit < length bytes). absurd (omega arith)) read.ended

@@ -19,7 +19,7 @@ use Rattle.hera_store.specs.Faults.{half_with}
 use Rattle.hera_store.specs.Moments.{IsUntouched, IsStill}
 use Rattle.hera_store.specs.Standing.{Standing, StandsFor, database_of, other_half, select_byte}
 use Rattle.hera_top.specs.Outcome.{prints, IsSaid}
-use Rattle.hera_top.specs.Folder.{FolderOutcome, renewed, too_long, Stores, IsRenewed, IsRenewing, FilesAfter, FilesMidway, IsDone, IsCutShort, IsSaidOf}
+use Rattle.hera_top.specs.Folder.{FolderOutcome, renewed, too_long, IsRenewed, IsRenewing, FilesAfter, FilesMidway, IsDone, IsCutShort, IsSaidOf}
 use Rattle.hera_run.specs.Passages.{LeavesOnceOpened}
 use Rattle.hera_top.specs.Passages.{Passage, passage, KeepsFiles}
 use Rattle.hera_top.proofs.Opening.{over, kept_none, appends_same, whole_behind, cut_behind}

@@ -31,7 +31,8 @@ use Rattle.hera_volume.specs.Time.{Image, IsImageAmid}
 use Rattle.hera_volume.specs.declared.file_id.FileId.{FileId}
 use Rattle.hera_top.specs.Outcome.{ran, status_of_finish, IsWhole, SaysPart}
 use Rattle.hera_top.specs.Passages.{Passage}
-use Rattle.hera_top.specs.Running.{last_text, EndsSaid, PartSaid, IsRunImage}
+use Rattle.hera_run.specs.Running.{last_text}
+use Rattle.hera_top.specs.Running.{EndsSaid, PartSaid, IsRunImage}
 
 -- a prefix of the first of two lists is one of both
 front_of_both : (n : ℕ) (xs ys : List ℕ) → (m : ℕ) × (take n xs ≡ take m (xs ++ ys))

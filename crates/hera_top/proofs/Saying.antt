@@ -70,6 +70,10 @@ keeps_device hosts command before now status v (says script outcome read fine co
 keeps_device hosts command before now status v (unread script came short rose said) = said.keeps.device
 keeps_device hosts command before now status v (no_memory nine fine still) = still.keeps.device
 
+-- nor does what was said of a script that is at hand
+pub says_device : (hosts : List Host) (command : ScriptCommand) (script : List ℕ) (status : ℕ) (v : Passage) → SaysOutcome hosts command script status v → v.device_now ≡ v.device_before
+says_device hosts command script status v said = ⊎_elim (λ (outcome, comes, done). done.keeps.device) (λ (nine, still). still.keeps.device) said
+
 -- ---- the first source
 
 pub seen_first : {S : Type 0} (left : S → Option (List ℕ)) (faults : S → ℕ) (items : List S) (source : S) → 0 < length items → source ≡ get_or items 0 source

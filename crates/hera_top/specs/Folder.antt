@@ -6,7 +6,6 @@ use Rattle.hera_meaning.specs.declared.schemas.RelDecl.{RelDecl}
 use Rattle.hera_meaning.specs.Deltas.{State}
 use Rattle.hera_meaning.specs.Printed.{decl_text, table_text}
 use Rattle.hera_meaning.specs.Trees.{Program_tree}
-use Rattle.hera_volume.specs.Disk.{IsSettled}
 use Rattle.hera_volume.specs.Time.{Image, IsImageOf, IsImageAmid}
 use Rattle.hera_volume.specs.declared.file_id.FileId.{FileId}
 use Rattle.hera_volume.specs.declared.file_id.FileId.TheVariants.{Select}
@@ -18,6 +17,7 @@ use Rattle.rel_format.specs.Journal.{half_limit}
 use Rattle.hera_host.specs.Tables.{Host}
 use Rattle.hera_rules.specs.Accepted.{Accepted}
 use Rattle.hera_run.specs.Outcome as run
+use Rattle.hera_run.specs.Passages.{ReadsAsBefore, Stores}
 use Rattle.hera_run.specs.Outcome.{RunOutcome, text_of_outcome, status_of_outcome, EndsAt, RunsTo}
 use Rattle.hera_run.specs.declared.status.RunStatus.{RunStatus}
 use Rattle.hera_run.specs.declared.status.RunStatus.TheVariants.{Done, Trapped, Spent, Refused, Device, Output, Memory, Full}
@@ -80,15 +80,6 @@ status_in_folder (ran outcome) = number_of_run (status_of_outcome outcome)
 
 -- ---- the files
 
--- a read gives what it gave before
-abbrev pub ReadsAsBefore : Passage → Type 0
-ReadsAsBefore v = (f : FileId) → (v.disks_now f).bytes ≡ (v.disks_before f).bytes
-
--- the files hold this database, as a read gives them and after any crash
-pub record Stores (db : Database) (v : Passage) : Type 0 where
-  pub settled : (f : FileId) → IsSettled (v.disks_now f)
-  pub holds : Holds (λ f. (v.disks_now f).bytes) db
-
 -- `select` names the other half than before, and that half is this database in its pages
 pub record IsRenewed (db : Database) (before now : FileId → List ℕ) : Type 0 where
   pub half : FileId
@@ -98,20 +89,20 @@ pub record IsRenewed (db : Database) (before now : FileId → List ℕ) : Type 0
 
 -- the files after the whole of it
 abbrev pub FilesAfter : FolderOutcome → Passage → Type 0
-FilesAfter (turned_away refusal) v = ReadsAsBefore v
-FilesAfter (made rels) v = Stores (empty_database rels) v
-FilesAfter (dumped db) v = ReadsAsBefore v
-FilesAfter (renewed db) v = Stores db v × IsRenewed db (λ f. (v.disks_before f).bytes) (λ f. (v.disks_now f).bytes)
-FilesAfter (too_long db) v = ReadsAsBefore v
+FilesAfter (turned_away refusal) v = ReadsAsBefore (run_passage v)
+FilesAfter (made rels) v = Stores (empty_database rels) (run_passage v)
+FilesAfter (dumped db) v = ReadsAsBefore (run_passage v)
+FilesAfter (renewed db) v = Stores db (run_passage v) × IsRenewed db (λ f. (v.disks_before f).bytes) (λ f. (v.disks_now f).bytes)
+FilesAfter (too_long db) v = ReadsAsBefore (run_passage v)
 FilesAfter (ran outcome) v = run.FilesAfter outcome (run_passage v)
 
 -- where the output failed, all is done but the printing; where there was no memory, nothing
 abbrev pub FilesMidway : FolderOutcome → ℕ → Passage → Type 0
-FilesMidway (turned_away refusal) status v = ReadsAsBefore v
-FilesMidway (made rels) status v = (status ≡ 8 → FilesAfter (made rels) v) × (status ≡ 9 → ReadsAsBefore v)
-FilesMidway (dumped db) status v = ReadsAsBefore v
-FilesMidway (renewed db) status v = (status ≡ 8 → FilesAfter (renewed db) v) × (status ≡ 9 → ReadsAsBefore v)
-FilesMidway (too_long db) status v = ReadsAsBefore v
+FilesMidway (turned_away refusal) status v = ReadsAsBefore (run_passage v)
+FilesMidway (made rels) status v = (status ≡ 8 → FilesAfter (made rels) v) × (status ≡ 9 → ReadsAsBefore (run_passage v))
+FilesMidway (dumped db) status v = ReadsAsBefore (run_passage v)
+FilesMidway (renewed db) status v = (status ≡ 8 → FilesAfter (renewed db) v) × (status ≡ 9 → ReadsAsBefore (run_passage v))
+FilesMidway (too_long db) status v = ReadsAsBefore (run_passage v)
 FilesMidway (ran outcome) status v = run.KeepsFiles outcome (run_passage v)
 
 -- ---- what a stop leaves
@@ -165,7 +156,7 @@ pub record IsGivenUp (status : ℕ) (v : Passage) : Type 0 where
   pub cause : (status ≡ 6) ⊎ ((status ≡ 9) × (v.device_now ≡ v.device_before))
   pub emitted : Keeps v.emitted_before v.emitted_now
   pub output : v.output_now ≡ v.output_before
-  pub files : v.told → ReadsAsBefore v
+  pub files : v.told → ReadsAsBefore (run_passage v)
   pub moments : v.told → v.leaves_only (IsImageOf v.disks_before v.emitted_before)
 
 -- ---- what a command comes to

@@ -7,3 +7,5 @@ pub mod Said
 pub mod Running
 pub mod Folder
 pub mod Dumping
+pub mod Drill
+pub mod Told

@@ -1,10 +1,8 @@
 -- What a call of the program comes to, and what it says of that.
-use Rattle.std.specs.Prelude.{◌≡◌, ℕ, ◌<◌, ◌≤◌, ◌⊎◌, List, ◌++◌, take, length, codes, Option}
+use Rattle.std.specs.Prelude.{◌≡◌, ℕ, ◌<◌, ◌≤◌, ◌⊎◌, List, take, length, codes, Option}
 use Rattle.std.specs.Io.KnownBytes.{Appends, Consumes, IsAtEnd}
 use Rattle.hera_causes.specs.Causes.{Rose}
 use Rattle.hera_volume.specs.Time.{IsImageAmid}
-use Rattle.hera_volume.specs.declared.file_id.FileId.{FileId}
-use Rattle.hera_volume.specs.declared.file_id.FileId.TheVariants.{Select, Left, Right}
 use Rattle.hera_meaning.specs.Printed.{end_text}
 use Rattle.hera_meaning.specs.Trees.{Program_tree}
 use Rattle.hera_meaning.specs.Run.{Report, Finish, finished, stopped, out_of_turns, output_of, run_of}
@@ -17,6 +15,8 @@ use Rattle.hera_script.specs.declared.cause.Cause.{Cause}
 use Rattle.hera_script.specs.Labels.{label_of}
 use Rattle.hera_script.specs.Refusing.{IsRefused}
 use Rattle.hera_syntax.specs.Tokens.{script_limit}
+use Rattle.hera_run.specs.Outcome as folder
+use Rattle.hera_run.specs.declared.refusal.FolderRefusal.TheVariants as folder_refusals
 use Rattle.hera_top.specs.declared.refusal.Refusal.{Refusal}
 use Rattle.hera_top.specs.declared.refusal.Refusal.TheVariants.{Usage, Unread, Script, Exists, NoDatabase, Damaged}
 use Rattle.hera_top.specs.declared.words.ScriptCommand.{ScriptCommand}
@@ -32,18 +32,13 @@ pub data Outcome : Type 0 where
   prints : List ℕ → Outcome
   ran : Report → Outcome
 
-abbrev pub file_name : FileId → List ℕ
-file_name Select = codes "select"
-file_name Left = codes "left"
-file_name Right = codes "right"
-
 abbrev pub line_of : Refusal → List ℕ
 line_of Usage = codes "usage\n"
 line_of Unread = codes "script unread\n"
 line_of (Script cause at) = end_text (label_of cause) at
 line_of Exists = codes "database exists\n"
-line_of NoDatabase = codes "no database\n"
-line_of (Damaged file at) = end_text (codes "damaged " ++ file_name file) at
+line_of NoDatabase = folder.line_of folder_refusals.NoDatabase
+line_of (Damaged file at) = folder.line_of (folder_refusals.Damaged file at)
 
 abbrev pub status_of_refusal : Refusal → ℕ
 status_of_refusal Usage = 2

@@ -1,5 +1,5 @@
 -- How far the run of some code was told.
-use Rattle.std.specs.Prelude.{◌≡◌, ℕ, List, [], take, Option, Some}
+use Rattle.std.specs.Prelude.{◌≡◌, ℕ, List, take, Option, Some}
 use Rattle.std.specs.Io.KnownBytes.{Appends}
 use Rattle.hera_meaning.specs.declared.schemas.RelDecl.{RelDecl}
 use Rattle.hera_meaning.specs.Deltas.{State}
@@ -7,17 +7,13 @@ use Rattle.hera_meaning.specs.Hosts.{Hosts}
 use Rattle.hera_meaning.specs.Worlds.{Event}
 use Rattle.hera_meaning.specs.Run.{printed}
 use Rattle.hera_code.specs.declared.instrs.Code.{Code}
-use Rattle.hera_code.specs.Reached.{over, code_at, with_line}
+use Rattle.hera_code.specs.Reached.{over, code_at}
 use Rattle.hera_codegen.specs.Correct.{events_in}
 use Rattle.hera_machine.specs.declared.events.End.{End}
 use Rattle.hera_machine.specs.Standing.{stop_of}
 use Rattle.hera_volume.specs.Disk.{Disk, IsImage}
 use Rattle.hera_volume.specs.Time.{Image}
 use Rattle.hera_volume.specs.declared.file_id.FileId.{FileId}
-
--- the last line of a run that ends so, nothing at its own end
-abbrev pub last_text : End → List ℕ
-last_text end = printed (with_line [] (stop_of end))
 
 -- the code ends so, and all that its events print was said
 pub record EndsSaid (code : Code) (rels : List RelDecl) (hosts : Hosts) (s : State) (turns : ℕ) (before now : Option (List ℕ)) (end : End) : Type 0 where

@@ -5,7 +5,7 @@ use Rattle.std.specs.Char.{is_ascii_digit}
 use Rattle.std.specs.Str.Parse.{digits_value}
 use Rattle.std.specs.declared.alloc.Global.{Global}
 use Rattle.hera_top.specs.declared.words.Command.{Command}
-use Rattle.hera_top.specs.declared.words.Command.TheVariants.{Script, Folder}
+use Rattle.hera_top.specs.declared.words.Command.TheVariants.{Script, Folder, Drill}
 use Rattle.hera_top.specs.declared.words.ScriptCommand.{ScriptCommand}
 use Rattle.hera_top.specs.declared.words.ScriptCommand.TheVariants.{Check, List as list_command, Eval}
 use Rattle.hera_top.specs.declared.words.FolderCommand.{FolderCommand}
@@ -41,6 +41,19 @@ making_command name = if bytes_eq name (codes "init") then Some Init else None
 abbrev pub storing_command : List ℕ → List ℕ → Option FolderCommand
 storing_command name turns = if bytes_eq name (codes "run") then option_map Run (turns_of turns) else None
 
+-- `drill N`, N from 1 to 1000
+abbrev pub rows_of : Option ℕ → Option ℕ
+rows_of None = None
+rows_of (Some n) = if nat_le 1 n && nat_le n 1000 then Some n else None
+
+abbrev pub drilling_command : List ℕ → List ℕ → Option ℕ
+drilling_command name count = if bytes_eq name (codes "drill") then rows_of (turns_of count) else None
+
+-- the drill where there is one, else another command
+abbrev pub drill_or : Option ℕ → Option Command → Option Command
+drill_or (Some n) other = Some (Drill n)
+drill_or None other = other
+
 -- a command with a folder where there is one, else one without
 abbrev pub either_command : Option FolderCommand → Option ScriptCommand → Option Command
 either_command (Some command) other = Some (Folder command)
@@ -48,7 +61,7 @@ either_command None other = option_map Script other
 
 -- the command of the words, where they are a listed form
 abbrev pub command_of : List (List ℕ) → Option Command
-command_of (name ∷ word ∷ []) = either_command (opening_command name) (reading_command name)
+command_of (name ∷ word ∷ []) = drill_or (drilling_command name word) (either_command (opening_command name) (reading_command name))
 command_of (name ∷ word ∷ file ∷ []) = either_command (making_command name) (running_command name word)
 command_of (name ∷ word ∷ turns ∷ file ∷ []) = option_map Folder (storing_command name turns)
 command_of _ = None
@@ -59,6 +72,7 @@ files_in None = (0, 0)
 files_in (Some (Script (Eval turns))) = (2, 3)
 files_in (Some (Script Check)) = (1, 2)
 files_in (Some (Script list_command)) = (1, 2)
+files_in (Some (Drill n)) = (0, 0)
 files_in (Some (Folder Init)) = (2, 3)
 files_in (Some (Folder (Run turns))) = (3, 4)
 files_in (Some (Folder Dump)) = (0, 0)
@@ -68,4 +82,5 @@ files_in (Some (Folder Checkpoint)) = (0, 0)
 abbrev pub folder_in : Option Command → Option ℕ
 folder_in None = None
 folder_in (Some (Script command)) = None
+folder_in (Some (Drill n)) = None
 folder_in (Some (Folder command)) = Some 1

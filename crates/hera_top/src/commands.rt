@@ -29,8 +29,8 @@ fn list<W: Outside>(
     outside: &mut W,
     hosts: &HostTable,
 ) -> ExitStatus
-    requires { Sound (program_of program.now) (specs_of hosts.now) }
-    ensures said { IsSaid (outcome_of hosts.now ScriptCommand.List (program_of program.now)) (number_of result) (passage W.told W.disk W.emitted W.output_faults W.device_faults W.moment W.left_since outside.old outside.new) }
+    requires { Sound (program_of program.now) (specs_of hosts.now.names) }
+    ensures said { IsSaid (outcome_of hosts.now.names ScriptCommand.List (program_of program.now)) (number_of result) (passage W.told W.disk W.emitted W.output_faults W.device_faults W.moment W.left_since outside.old outside.new) }
     ensures later { W.output_faults outside.old ≤ W.output_faults outside.new }
     ensures output { result ≡ ExitStatus.OutputFailed → Rose (W.output_faults outside.old) (W.output_faults outside.new) }
     ensures status { (result ≡ ExitStatus.Done) ⊎ (result ≡ ExitStatus.OutputFailed) ⊎ (result ≡ ExitStatus.NoMemory) }
@@ -54,9 +54,8 @@ fn perform<W: Outside>(
     outside: &mut W,
     hosts: &HostTable,
 ) -> ExitStatus
-    requires sound { Sound (program_of program.now) (specs_of hosts.now) }
-    requires no_hosts { (turns : ℕ) → command ≡ ScriptCommand.Eval turns → hosts.now ≡ [] }
-    ensures said { IsSaid (outcome_of hosts.now command (program_of program.now)) (number_of result) (passage W.told W.disk W.emitted W.output_faults W.device_faults W.moment W.left_since outside.old outside.new) }
+    requires sound { Sound (program_of program.now) (specs_of hosts.now.names) }
+    ensures said { IsSaid (outcome_of hosts.now.names command (program_of program.now)) (number_of result) (passage W.told W.disk W.emitted W.output_faults W.device_faults W.moment W.left_since outside.old outside.new) }
     ensures later { W.output_faults outside.old ≤ W.output_faults outside.new }
     ensures output { result ≡ ExitStatus.OutputFailed → Rose (W.output_faults outside.old) (W.output_faults outside.new) }
     ensures read { result ≢ ExitStatus.Unread }
@@ -79,8 +78,7 @@ pub(crate) fn answer_script<W: Outside>(
     hosts: &HostTable,
 ) -> ExitStatus
     requires short { length script.now ≤ script_limit }
-    requires no_hosts { (turns : ℕ) → command ≡ ScriptCommand.Eval turns → hosts.now ≡ [] }
-    ensures said { SaysOutcome hosts.now command script.now (number_of result) (passage W.told W.disk W.emitted W.output_faults W.device_faults W.moment W.left_since outside.old outside.new) }
+    ensures said { SaysOutcome hosts.now.names command script.now (number_of result) (passage W.told W.disk W.emitted W.output_faults W.device_faults W.moment W.left_since outside.old outside.new) }
     ensures later { W.output_faults outside.old ≤ W.output_faults outside.new }
     ensures output { result ≡ ExitStatus.OutputFailed → Rose (W.output_faults outside.old) (W.output_faults outside.new) }
     ensures read { result ≢ ExitStatus.Unread }
@@ -108,9 +106,8 @@ fn eval<W: Outside>(
     outside: &mut W,
     hosts: &HostTable,
 ) -> ExitStatus
-    requires sound { Sound (program_of program.now) (specs_of hosts.now) }
-    requires no_hosts { hosts.now ≡ [] }
-    ensures said { IsSaid (outcome_of hosts.now (ScriptCommand.Eval turns) (program_of program.now)) (number_of result) (passage W.told W.disk W.emitted W.output_faults W.device_faults W.moment W.left_since outside.old outside.new) }
+    requires sound { Sound (program_of program.now) (specs_of hosts.now.names) }
+    ensures said { IsSaid (outcome_of hosts.now.names (ScriptCommand.Eval turns) (program_of program.now)) (number_of result) (passage W.told W.disk W.emitted W.output_faults W.device_faults W.moment W.left_since outside.old outside.new) }
     ensures later { W.output_faults outside.old ≤ W.output_faults outside.new }
     ensures output { result ≡ ExitStatus.OutputFailed → Rose (W.output_faults outside.old) (W.output_faults outside.new) }
     ensures read { result ≢ ExitStatus.Unread }

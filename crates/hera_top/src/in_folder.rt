@@ -156,9 +156,8 @@ fn run_program<W: Outside>(
     outside: &mut W,
     hosts: &HostTable,
 ) -> ExitStatus
-    requires sound { Sound (program_of program) (specs_of hosts.now) }
-    requires no_hosts { hosts.now ≡ [] }
-    ensures says { SaysDone hosts.now (program_of program) (FolderCommand.Run turns) (number_of result) (passage W.told W.disk W.emitted W.output_faults W.device_faults W.moment W.left_since outside.old outside.new) }
+    requires sound { Sound (program_of program) (specs_of hosts.now.names) }
+    ensures says { SaysDone hosts.now.names (program_of program) (FolderCommand.Run turns) (number_of result) (passage W.told W.disk W.emitted W.output_faults W.device_faults W.moment W.left_since outside.old outside.new) }
     ensures later { W.output_faults outside.old ≤ W.output_faults outside.new }
     ensures device_later { W.device_faults outside.old ≤ W.device_faults outside.new }
     ensures output { result ≡ ExitStatus.OutputFailed → Rose (W.output_faults outside.old) (W.output_faults outside.new) }
@@ -179,9 +178,8 @@ fn perform_in_folder<W: Outside>(
     hosts: &HostTable,
 ) -> ExitStatus
     requires reads { ReadsScript command }
-    requires sound { Sound (program_of program) (specs_of hosts.now) }
-    requires no_hosts { (turns : ℕ) → command ≡ FolderCommand.Run turns → hosts.now ≡ [] }
-    ensures says { SaysDone hosts.now (program_of program) command (number_of result) (passage W.told W.disk W.emitted W.output_faults W.device_faults W.moment W.left_since outside.old outside.new) }
+    requires sound { Sound (program_of program) (specs_of hosts.now.names) }
+    ensures says { SaysDone hosts.now.names (program_of program) command (number_of result) (passage W.told W.disk W.emitted W.output_faults W.device_faults W.moment W.left_since outside.old outside.new) }
     ensures later { W.output_faults outside.old ≤ W.output_faults outside.new }
     ensures device_later { W.device_faults outside.old ≤ W.device_faults outside.new }
     ensures output { result ≡ ExitStatus.OutputFailed → Rose (W.output_faults outside.old) (W.output_faults outside.new) }
@@ -210,8 +208,7 @@ fn answer_script_in_folder<W: Outside>(
 ) -> ExitStatus
     requires reads { ReadsScript command }
     requires short { length script.now ≤ script_limit }
-    requires no_hosts { (turns : ℕ) → command ≡ FolderCommand.Run turns → hosts.now ≡ [] }
-    ensures says { SaysIn hosts.now command script.now (number_of result) (passage W.told W.disk W.emitted W.output_faults W.device_faults W.moment W.left_since outside.old outside.new) }
+    ensures says { SaysIn hosts.now.names command script.now (number_of result) (passage W.told W.disk W.emitted W.output_faults W.device_faults W.moment W.left_since outside.old outside.new) }
     ensures later { W.output_faults outside.old ≤ W.output_faults outside.new }
     ensures device_later { W.device_faults outside.old ≤ W.device_faults outside.new }
     ensures output { result ≡ ExitStatus.OutputFailed → Rose (W.output_faults outside.old) (W.output_faults outside.new) }
@@ -237,8 +234,7 @@ pub(crate) fn answer_with_script<S: Source, W: Outside>(
     hosts: &HostTable,
 ) -> ExitStatus
     requires reads { ReadsScript command }
-    requires no_hosts { (turns : ℕ) → command ≡ FolderCommand.Run turns → hosts.now ≡ [] }
-    ensures answers { AnswersIn hosts.now command (record { left = S.left source.old; faults = S.faults source.old }) (record { left = S.left source.new; faults = S.faults source.new }) (number_of result) (passage W.told W.disk W.emitted W.output_faults W.device_faults W.moment W.left_since outside.old outside.new) }
+    ensures answers { AnswersIn hosts.now.names command (record { left = S.left source.old; faults = S.faults source.old }) (record { left = S.left source.new; faults = S.faults source.new }) (number_of result) (passage W.told W.disk W.emitted W.output_faults W.device_faults W.moment W.left_since outside.old outside.new) }
     ensures sources { S.faults source.old ≤ S.faults source.new }
     ensures unread { result ≡ ExitStatus.Unread → Rose (S.faults source.old) (S.faults source.new) }
     ensures later { W.output_faults outside.old ≤ W.output_faults outside.new }

@@ -3,6 +3,7 @@
 
 mod catalogue;
 mod commands;
+mod drill;
 mod dumping;
 mod in_folder;
 pub mod laws;

@@ -1,9 +1,8 @@
-ghost use Rattle.std.specs.Prelude.{◌≡◌, ◌≢◌, ℕ, ◌≤◌, ◌⊎◌, [], take, None, IfOk, OnOk, OnErr, string_bytes, codes, ◌++◌};
+ghost use Rattle.std.specs.Prelude.{◌≡◌, ◌≢◌, ◌≤◌, ◌⊎◌, [], None, IfOk, OnErr};
 ghost use Rattle.hera_causes.specs.Causes.{Rose};
 ghost use Rattle.hera_volume.specs.Time.{IsImageAmid, LeavesOnly};
 ghost use Rattle.hera_meaning.specs.Deltas.{State};
 ghost use Rattle.hera_meaning.specs.Plain.{program_of};
-ghost use Rattle.hera_meaning.specs.Printed.{trap_name, commit_text};
 ghost use Rattle.hera_meaning.specs.Sound.{Sound};
 ghost use Rattle.hera_code.specs.Forward.{Forward};
 ghost use Rattle.hera_code.specs.Reached.{start_of};
@@ -14,7 +13,7 @@ ghost use Rattle.hera_machine.specs.declared.events.Status.{Status};
 ghost use Rattle.hera_machine.specs.declared.events.Status.TheVariants.{Working};
 ghost use Rattle.hera_top.specs.Outcome.{outcome_of, text_of_outcome, IsWhole, SaysPart};
 ghost use Rattle.hera_top.specs.Passages.{passage, KeepsFiles};
-ghost use Rattle.hera_top.specs.Running.{last_text, EndsSaid, PartSaid, IsRunImage};
+ghost use Rattle.hera_top.specs.Running.{EndsSaid, PartSaid, IsRunImage};
 ghost use Rattle.hera_top.specs.Statuses.{number_of};
 ghost use Rattle.hera_top.specs.declared.words.ScriptCommand.{ScriptCommand};
 
@@ -27,8 +26,8 @@ use hera_code::Code;
 use hera_codegen::code_does_what_the_program_means;
 use hera_host::HostTable;
 use hera_machine::{End, Event, Machine};
-use hera_meaning::{Line, Program, RelDecl, TrapName};
-use hera_print::end_line;
+use hera_meaning::{Program, RelDecl};
+use hera_run::{commit_line, last_line};
 use hera_volume::Outside;
 use rel_pages::Base;
 use std::alloc::{AllocError, AllocFailed, Global};
@@ -87,39 +86,6 @@ impl<T: Drop> From<AllocFailed<T>> for RunFault {
     }
 }
 
-/// The beginning of a trap's line.
-fn trap_label(name: TrapName) -> &'static str
-    ensures { result.now ≡ codes "trap " ++ trap_name name }
-{
-    match name {
-        TrapName::DivZero => "trap DivZero",
-        TrapName::Overflow => "trap Overflow",
-        TrapName::EmptyMin => "trap EmptyMin",
-        TrapName::ApplyFail => "trap ApplyFail",
-        TrapName::WhenFail => "trap WhenFail",
-        TrapName::ReadFail => "trap ReadFail",
-        TrapName::Assert => "trap Assert",
-    }
-}
-
-/// The line of the commit of this number.
-fn commit_line(alloc: Global, number: usize) -> Result<String, AllocError>
-    ensures { IfOk result (λ line. string_bytes line ≡ commit_text number) }
-{
-    format!(in alloc; "commit {number}\n")
-}
-
-/// The last line of a run that ends so. That of a run that is done is empty.
-fn last_line(alloc: Global, end: End) -> Result<Line, AllocError>
-    ensures { IfOk result (λ line. line ≡ last_text end) }
-{
-    match end {
-        End::Done | End::Stuck => Ok(Line::new(Vec::new(alloc))),
-        End::Trap(name, at) => Ok(end_line(alloc, trap_label(name), u64::from(at))?),
-        End::Spent => Ok(Line::new(b"turns spent\n".to_vec(alloc)?)),
-    }
-}
-
 /// Moves a machine that is at its start, over the state of a base, until it ends; emits what it prints, and gives its end.
 /// The code, its relations and the turns are the machine's: the contract speaks of them.
 fn steps<W: Outside>(
@@ -134,28 +100,28 @@ fn steps<W: Outside>(
     hosts: &HostTable,
 ) -> Result<End, RunFault>
     requires forward { Forward code.now }
-    requires no_hosts { hosts.now ≡ [] }
     requires code { machine.old.code ≡ code.now }
     requires relations { machine.old.relations ≡ relations.now }
     requires start { (s : State) → machine_over s machine.old ≡ start_of code.now turns }
     requires works { machine.old.status ≡ Working }
     requires nothing_waits { machine.old.waits ≡ None }
     requires no_commits { commits.old.items ≡ [] }
-    ensures whole { IfOk result (λ end. EndsSaid code.now relations.now (specs_of hosts.now) base.now.state turns (W.emitted outside.old) (W.emitted outside.new) end) }
-    ensures cut { OnErr result (PartSaid code.now relations.now (specs_of hosts.now) base.now.state turns (W.emitted outside.old) (W.emitted outside.new)) }
+    ensures whole { IfOk result (λ end. EndsSaid code.now relations.now (specs_of hosts.now.names) base.now.state turns (W.emitted outside.old) (W.emitted outside.new) end) }
+    ensures cut { OnErr result (PartSaid code.now relations.now (specs_of hosts.now.names) base.now.state turns (W.emitted outside.old) (W.emitted outside.new)) }
     ensures keeps { KeepsFiles (passage W.told W.disk W.emitted W.output_faults W.device_faults W.moment W.left_since outside.old outside.new) }
-    ensures any_moment { W.told → LeavesOnly W.moment W.left_since outside.old outside.new (IsRunImage code.now relations.now (specs_of hosts.now) base.now.state turns (W.disk outside.old) (W.emitted outside.old)) }
+    ensures any_moment { W.told → LeavesOnly W.moment W.left_since outside.old outside.new (IsRunImage code.now relations.now (specs_of hosts.now.names) base.now.state turns (W.disk outside.old) (W.emitted outside.old)) }
     ensures later { W.output_faults outside.old ≤ W.output_faults outside.new }
     ensures still { result ≢ Err RunFault.Output → W.output_faults outside.new ≡ W.output_faults outside.old }
     ensures output { result ≡ Err RunFault.Output → Rose (W.output_faults outside.old) (W.output_faults outside.new) }
 {
     'steps: loop {
-        match machine.step(base, commits, hosts)? {
+        match machine.advance(base, commits, hosts)? {
             Event::Quiet => {}
             Event::Out(line) => say(outside, line.bytes())?,
             Event::Commit => {
                 commits.push(machine.take_pending())?;
-                say(outside, commit_line(alloc, commits.len())?.as_bytes())?;
+                let line = commit_line(alloc, commits.len())?;
+                say(outside, line.bytes())?;
             }
             Event::Ended(end) => {
                 let line = last_line(alloc, end)?;
@@ -177,11 +143,10 @@ fn run_code<W: Outside>(
     hosts: &HostTable,
 ) -> Result<End, RunFault>
     requires forward { Forward code.now }
-    requires no_hosts { hosts.now ≡ [] }
-    ensures whole { IfOk result (λ end. EndsSaid code.now relations.now (specs_of hosts.now) base.now.state turns (W.emitted outside.old) (W.emitted outside.new) end) }
-    ensures cut { OnErr result (PartSaid code.now relations.now (specs_of hosts.now) base.now.state turns (W.emitted outside.old) (W.emitted outside.new)) }
+    ensures whole { IfOk result (λ end. EndsSaid code.now relations.now (specs_of hosts.now.names) base.now.state turns (W.emitted outside.old) (W.emitted outside.new) end) }
+    ensures cut { OnErr result (PartSaid code.now relations.now (specs_of hosts.now.names) base.now.state turns (W.emitted outside.old) (W.emitted outside.new)) }
     ensures keeps { KeepsFiles (passage W.told W.disk W.emitted W.output_faults W.device_faults W.moment W.left_since outside.old outside.new) }
-    ensures any_moment { W.told → LeavesOnly W.moment W.left_since outside.old outside.new (IsRunImage code.now relations.now (specs_of hosts.now) base.now.state turns (W.disk outside.old) (W.emitted outside.old)) }
+    ensures any_moment { W.told → LeavesOnly W.moment W.left_since outside.old outside.new (IsRunImage code.now relations.now (specs_of hosts.now.names) base.now.state turns (W.disk outside.old) (W.emitted outside.old)) }
     ensures later { W.output_faults outside.old ≤ W.output_faults outside.new }
     ensures still { result ≢ Err RunFault.Output → W.output_faults outside.new ≡ W.output_faults outside.old }
     ensures output { result ≡ Err RunFault.Output → Rose (W.output_faults outside.old) (W.output_faults outside.new) }
@@ -214,14 +179,13 @@ pub(crate) fn run<W: Outside>(
     outside: &mut W,
     hosts: &HostTable,
 ) -> Result<ExitStatus, RunFault>
-    requires sound { Sound (program_of program.now) (specs_of hosts.now) }
-    requires no_hosts { hosts.now ≡ [] }
+    requires sound { Sound (program_of program.now) (specs_of hosts.now.names) }
     requires code { code.now ≡ code_of (program_of program.now) }
     requires forward { Forward code.now }
-    ensures whole { IfOk result (λ status. IsWhole (outcome_of hosts.now (ScriptCommand.Eval turns) (program_of program.now)) (number_of status) (passage W.told W.disk W.emitted W.output_faults W.device_faults W.moment W.left_since outside.old outside.new)) }
-    ensures cut { OnErr result (SaysPart (outcome_of hosts.now (ScriptCommand.Eval turns) (program_of program.now)) (W.emitted outside.old) (W.emitted outside.new)) }
+    ensures whole { IfOk result (λ status. IsWhole (outcome_of hosts.now.names (ScriptCommand.Eval turns) (program_of program.now)) (number_of status) (passage W.told W.disk W.emitted W.output_faults W.device_faults W.moment W.left_since outside.old outside.new)) }
+    ensures cut { OnErr result (SaysPart (outcome_of hosts.now.names (ScriptCommand.Eval turns) (program_of program.now)) (W.emitted outside.old) (W.emitted outside.new)) }
     ensures keeps { KeepsFiles (passage W.told W.disk W.emitted W.output_faults W.device_faults W.moment W.left_since outside.old outside.new) }
-    ensures any_moment { W.told → LeavesOnly W.moment W.left_since outside.old outside.new (IsImageAmid (W.disk outside.old) (W.emitted outside.old) (text_of_outcome (outcome_of hosts.now (ScriptCommand.Eval turns) (program_of program.now)))) }
+    ensures any_moment { W.told → LeavesOnly W.moment W.left_since outside.old outside.new (IsImageAmid (W.disk outside.old) (W.emitted outside.old) (text_of_outcome (outcome_of hosts.now.names (ScriptCommand.Eval turns) (program_of program.now)))) }
     ensures later { W.output_faults outside.old ≤ W.output_faults outside.new }
     ensures still { result ≢ Err RunFault.Output → W.output_faults outside.new ≡ W.output_faults outside.old }
     ensures output { result ≡ Err RunFault.Output → Rose (W.output_faults outside.old) (W.output_faults outside.new) }

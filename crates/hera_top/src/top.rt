@@ -1,13 +1,16 @@
 ghost use Rattle.std.specs.Prelude.{ℕ, ◌≡◌, ◌≤◌, ◌+◌, [], length, Some, None, ◌≢◌};
 ghost use Rattle.hera_causes.specs.Causes.{Rose};
+ghost use Rattle.hera_top.specs.Drill.{drill_text, drill_turns};
 ghost use Rattle.hera_top.specs.Folder.{AnswersIn};
 ghost use Rattle.hera_top.specs.Outcome.{refused, IsSaid, Answers};
 ghost use Rattle.hera_top.specs.Passages.{passage};
+ghost use Rattle.hera_top.specs.Said.{SaysOutcome};
 ghost use Rattle.hera_top.specs.Sources.{first_seen};
 ghost use Rattle.hera_top.specs.Statuses.{number_of};
 ghost use Rattle.hera_top.specs.Words.{words_of, command_of, files_in, folder_in};
 
 use crate::commands::answer_script;
+use crate::drill::drill;
 use crate::in_folder::{answer_with_script, checkpoint, dump};
 use crate::refusal::Refusal;
 use crate::say::refuse;
@@ -30,8 +33,7 @@ fn answer<S: Source, W: Outside>(
     outside: &mut W,
     hosts: &HostTable,
 ) -> ExitStatus
-    requires no_hosts { (turns : ℕ) → command ≡ ScriptCommand.Eval turns → hosts.now ≡ [] }
-    ensures answers { Answers hosts.now command (record { left = S.left source.old; faults = S.faults source.old }) (record { left = S.left source.new; faults = S.faults source.new }) (number_of result) (passage W.told W.disk W.emitted W.output_faults W.device_faults W.moment W.left_since outside.old outside.new) }
+    ensures answers { Answers hosts.now.names command (record { left = S.left source.old; faults = S.faults source.old }) (record { left = S.left source.new; faults = S.faults source.new }) (number_of result) (passage W.told W.disk W.emitted W.output_faults W.device_faults W.moment W.left_since outside.old outside.new) }
     ensures sources { S.faults source.old ≤ S.faults source.new }
     ensures later { W.output_faults outside.old ≤ W.output_faults outside.new }
     ensures output { result ≡ ExitStatus.OutputFailed → Rose (W.output_faults outside.old) (W.output_faults outside.new) }
@@ -62,9 +64,8 @@ fn answer_in_folder<S: Source, W: Outside>(
     outside: &mut W,
     hosts: &HostTable,
 ) -> ExitStatus
-    requires no_hosts { (turns : ℕ) → command ≡ FolderCommand.Run turns → hosts.now ≡ [] }
     requires sources { length sources.old.items + (files_in (Some (Command.Folder command))).0 ≡ (files_in (Some (Command.Folder command))).1 }
-    ensures answers { AnswersIn hosts.now command (first_seen S.left S.faults sources.old.items) (first_seen S.left S.faults sources.new.items) (number_of result) (passage W.told W.disk W.emitted W.output_faults W.device_faults W.moment W.left_since outside.old outside.new) }
+    ensures answers { AnswersIn hosts.now.names command (first_seen S.left S.faults sources.old.items) (first_seen S.left S.faults sources.new.items) (number_of result) (passage W.told W.disk W.emitted W.output_faults W.device_faults W.moment W.left_since outside.old outside.new) }
     ensures sources { (first_seen S.left S.faults sources.old.items).faults ≤ (first_seen S.left S.faults sources.new.items).faults }
     ensures unread { result ≡ ExitStatus.Unread → Rose (first_seen S.left S.faults sources.old.items).faults (first_seen S.left S.faults sources.new.items).faults }
     ensures later { W.output_faults outside.old ≤ W.output_faults outside.new }
@@ -90,12 +91,13 @@ fn answer_in_folder<S: Source, W: Outside>(
 /// - `check FILE` prints `accepted` where the script of the first source is accepted.
 /// - `list FILE` prints the listing of its code.
 /// - `eval TURNS FILE` runs it on an empty database with at most TURNS turns.
+/// - `drill N` runs with at most 1,000,000 turns the script `drill_text` of N, from 1 to 1000, and reads none.
 /// - `init DIR FILE` makes the database of its relations, without rows, in the folder, and prints `created`.
 /// - `run DIR TURNS FILE` runs it on the database in the folder with at most TURNS turns, and stores what it commits.
 /// - `dump DIR` prints every relation of the database in the folder.
 /// - `checkpoint DIR` writes the other half of the folder anew, selects it, and prints `checkpointed`.
 ///
-/// A script may call the hosts of the table. For `eval` and `run` the table has to be empty, since the machine asks no host yet.
+/// A script may call the hosts of the table.
 ///
 /// The statuses: 0 the command or the run is done, 1 the run ended in a trap, 2 the words are no listed form, 3 the
 /// script is refused, 4 the turns were spent, 5 there is a database and there should be none, or none, or it is damaged or lacks a relation,
@@ -110,10 +112,6 @@ pub fn hera<S: Source, W: Outside>(
     hosts: &HostTable,
 ) -> u8
     requires sources { length sources.old.items + (files_in (command_of (words_of words.now.items))).0 ≡ (files_in (command_of (words_of words.now.items))).1 }
-    requires no_hosts { (turns : ℕ) → command_of (words_of words.now.items) ≡ Some (Command.Script (ScriptCommand.Eval turns)) → hosts.now ≡ [] }
-
-    requires no_hosts_in { (turns : ℕ) → command_of (words_of words.now.items) ≡ Some (Command.Folder (FolderCommand.Run turns)) → hosts.now ≡ [] }
-
     // Words that are no listed form.
     ensures usage { command_of (words_of words.now.items) ≡ None → IsSaid (refused Refusal.Usage) result (passage W.told W.disk W.emitted W.output_faults W.device_faults W.moment W.left_since outside.old outside.new) }
     ensures usage_unread { command_of (words_of words.now.items) ≡ None → sources.new ≡ sources.old }
@@ -121,11 +119,16 @@ pub fn hera<S: Source, W: Outside>(
 
     // `check`, `list` and `eval`.
     ensures command { (command : ScriptCommand) → command_of (words_of words.now.items) ≡ Some (Command.Script command)
-        → Answers hosts.now command (first_seen S.left S.faults sources.old.items) (first_seen S.left S.faults sources.new.items) result (passage W.told W.disk W.emitted W.output_faults W.device_faults W.moment W.left_since outside.old outside.new) }
+        → Answers hosts.now.names command (first_seen S.left S.faults sources.old.items) (first_seen S.left S.faults sources.new.items) result (passage W.told W.disk W.emitted W.output_faults W.device_faults W.moment W.left_since outside.old outside.new) }
+
+    // `drill`, which is `eval` on a script of its own.
+    ensures drill { (count : ℕ) → command_of (words_of words.now.items) ≡ Some (Command.Drill count)
+        → SaysOutcome hosts.now.names (ScriptCommand.Eval drill_turns) (drill_text count) result (passage W.told W.disk W.emitted W.output_faults W.device_faults W.moment W.left_since outside.old outside.new) }
+    ensures drill_unread { (count : ℕ) → command_of (words_of words.now.items) ≡ Some (Command.Drill count) → sources.new ≡ sources.old }
 
     // `init`, `run`, `dump` and `checkpoint`.
     ensures folder { (command : FolderCommand) → command_of (words_of words.now.items) ≡ Some (Command.Folder command)
-        → AnswersIn hosts.now command (first_seen S.left S.faults sources.old.items) (first_seen S.left S.faults sources.new.items) result (passage W.told W.disk W.emitted W.output_faults W.device_faults W.moment W.left_since outside.old outside.new) }
+        → AnswersIn hosts.now.names command (first_seen S.left S.faults sources.old.items) (first_seen S.left S.faults sources.new.items) result (passage W.told W.disk W.emitted W.output_faults W.device_faults W.moment W.left_since outside.old outside.new) }
 
     // The causes of the statuses 6, 7 and 8.
     ensures device { result ≡ 6 → Rose (W.device_faults outside.old) (W.device_faults outside.new) }
@@ -143,6 +146,7 @@ pub fn hera<S: Source, W: Outside>(
         Some(Command::Folder(command)) => {
             answer_in_folder(alloc, command, sources, outside, hosts).number()
         }
+        Some(Command::Drill(count)) => drill(alloc, count, outside, hosts).number(),
         None => refuse(alloc, outside, Refusal::Usage).number(),
     }
 }

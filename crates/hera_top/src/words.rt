@@ -2,7 +2,7 @@ ghost use Rattle.std.specs.Prelude.{◌≡◌, ◌≤◌, ◌<◌, length, IfSom
 ghost use Rattle.std.specs.List.{list_all};
 ghost use Rattle.std.specs.Option.{option_map};
 ghost use Rattle.std.specs.Char.{is_ascii_digit};
-ghost use Rattle.hera_top.specs.Words.{words_of, turns_of, reading_command, running_command, opening_command, making_command, storing_command, either_command, command_of, files_in, folder_in};
+ghost use Rattle.hera_top.specs.Words.{words_of, turns_of, rows_of, drilling_command, drill_or, reading_command, running_command, opening_command, making_command, storing_command, either_command, command_of, files_in, folder_in};
 
 /// What the words of the command line ask for.
 #[derive(Clone, Copy)]
@@ -11,6 +11,8 @@ pub enum Command {
     Script(ScriptCommand),
     /// A command on the database in a folder.
     Folder(FolderCommand),
+    /// Runs the drill over so many rows, from 1 to 1000.
+    Drill(u64),
 }
 
 /// A command on a script.
@@ -60,11 +62,22 @@ fn turns(word: &str) -> Option<u64>
     }
 }
 
+/// The number of rows of a drill that a word gives: a number of turns from 1 to 1000.
+fn rows(word: &str) -> Option<u64>
+    ensures { result ≡ rows_of (turns_of word.now) }
+{
+    match turns(word) {
+        Some(count) if 1 <= count && count <= 1000 => Some(count),
+        _ => None,
+    }
+}
+
 /// The command of a name and a word behind it.
-fn short_command(name: &str) -> Option<Command>
-    ensures { result ≡ either_command (opening_command name.now) (reading_command name.now) }
+fn short_command(name: &str, word: &str) -> Option<Command>
+    ensures { result ≡ drill_or (drilling_command name.now word.now) (either_command (opening_command name.now) (reading_command name.now)) }
 {
     match name {
+        "drill" => Some(Command::Drill(rows(word)?)),
         "check" => Some(Command::Script(ScriptCommand::Check)),
         "list" => Some(Command::Script(ScriptCommand::List)),
         "dump" => Some(Command::Folder(FolderCommand::Dump)),
@@ -101,7 +114,7 @@ pub(crate) fn read_words(words: &Vec<String>) -> Option<Command>
     match words.as_slice() {
         [name, _, word, _] => longest_command(name.as_str(), word.as_str()),
         [name, word, _] => long_command(name.as_str(), word.as_str()),
-        [name, _] => short_command(name.as_str()),
+        [name, word] => short_command(name.as_str(), word.as_str()),
         _ => None,
     }
 }
@@ -119,7 +132,8 @@ pub fn files_of(words: &Vec<String>) -> (usize, usize)
         }
         Some(Command::Folder(FolderCommand::Run(_))) => (3, 4),
         Some(Command::Script(ScriptCommand::Check | ScriptCommand::List)) => (1, 2),
-        Some(Command::Folder(FolderCommand::Dump | FolderCommand::Checkpoint)) | None => (0, 0),
+        Some(Command::Folder(FolderCommand::Dump | FolderCommand::Checkpoint) | Command::Drill(_))
+        | None => (0, 0),
     }
 }
 
@@ -130,6 +144,6 @@ pub fn folder_of(words: &Vec<String>) -> Option<usize>
 {
     match read_words(words) {
         Some(Command::Folder(_)) => Some(1),
-        Some(Command::Script(_)) | None => None,
+        Some(Command::Script(_) | Command::Drill(_)) | None => None,
     }
 }

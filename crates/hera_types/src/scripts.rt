@@ -17,7 +17,7 @@ ghost use Rattle.hera_syntax.specs.declared.token.Token.{Token};
 use crate::bodies::{func_bodies, main_body, proc_bodies};
 use crate::relations::relations_of;
 use crate::signatures::{funcs_of, procs_of, relation_names, with_funcs, with_procs};
-use hera_host::HostTable;
+use hera_host::{HostNames, HostTable};
 use hera_meaning::{Body, Program, RelDecl};
 use hera_rules::{Globals, TypeFault};
 use hera_sound::typed_programs_are_sound;
@@ -30,17 +30,17 @@ use std::alloc::{AllocError, Global};
 /// with main last, each in the order of the text. `Memory` tells nothing of the script.
 pub fn elaborate(alloc: Global, tree: &Tree, hosts: &HostTable) -> Result<Program, TypeFault>
     requires { (tokens : List Token) × IsTextOf tree.now tokens × (length tokens ≤ script_limit) × HaveValues tokens }
-    ensures typed { IfOk result (λ p. ElabScript hosts.now (script_of tree.now) (program_of p)) }
-    ensures sound { IfOk result (λ p. Sound (program_of p) (specs_of hosts.now)) }
-    ensures fault { (fault : TypeFault) → result ≡ Err fault → (fault ≡ TypeFault.Memory) ⊎ FirstFault hosts.now (script_of tree.now) fault }
+    ensures typed { IfOk result (λ p. ElabScript hosts.now.names (script_of tree.now) (program_of p)) }
+    ensures sound { IfOk result (λ p. Sound (program_of p) (specs_of hosts.now.names)) }
+    ensures fault { (fault : TypeFault) → result ≡ Err fault → (fault ≡ TypeFault.Memory) ⊎ FirstFault hosts.now.names (script_of tree.now) fault }
 {
     let _count = hosts.len();
     typed_programs_are_sound();
-    checked(alloc, tree, hosts)
+    checked(alloc, tree, &hosts.names)
 }
 
 /// The four passes.
-fn checked(alloc: Global, tree: &Tree, hosts: &HostTable) -> Result<Program, TypeFault>
+fn checked(alloc: Global, tree: &Tree, hosts: &HostNames) -> Result<Program, TypeFault>
     ensures { Gives program_of result (check_script hosts.now (script_of tree.now)) }
 {
     let globals = globals_of(alloc, tree, hosts)?;
@@ -56,7 +56,7 @@ fn checked(alloc: Global, tree: &Tree, hosts: &HostTable) -> Result<Program, Typ
 fn globals_of<'a>(
     alloc: Global,
     tree: &Tree,
-    hosts: &'a HostTable,
+    hosts: &'a HostNames,
 ) -> Result<Globals<'a>, TypeFault>
     ensures { Gives env_of result (env_row hosts.now (script_of tree.now)) }
 {

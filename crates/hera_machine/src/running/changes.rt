@@ -1,18 +1,19 @@
-//! Deltas: layers under which the machine reads, and the pending delta. A walk that names a relation is
-//! given the rows that are left of it before what it names is changed.
-ghost use Rattle.std.specs.Prelude.{◌≡◌, ◌+◌, ◌<◌, ◌^◌, [], drop, map, IfOk, OnOk};
-ghost use Rattle.hera_meaning.specs.Deltas.{Delta, State, atoms};
+//! Deltas: layers under which the machine reads, and the pending delta. What names a relation is given its
+//! rows before the pending delta is changed.
+ghost use Rattle.std.specs.Prelude.{◌≡◌, ◌+◌, ◌<◌, ◌^◌, false, suc, [], ◌∷◌, IfOk, OnOk};
+ghost use Rattle.hera_meaning.specs.Deltas.{State, atoms, is_fail, apply_of, smash_of};
 ghost use Rattle.hera_code.specs.Machine.{quiet, commits, on_top, enters, leaves_layer, applies};
-ghost use Rattle.hera_frames.specs.Walking.{settled};
-ghost use Rattle.hera_frames.specs.Waiting.{frames_settled};
+ghost use Rattle.hera_frames.specs.Branched.{pending_of};
+ghost use Rattle.hera_frames.specs.Items.{AreHeld};
+ghost use Rattle.hera_frames.specs.Walking.{AreGiven};
 ghost use Rattle.hera_machine.specs.Over.{state_over};
 ghost use Rattle.hera_machine.specs.Telling.{step_at};
-ghost use Rattle.hera_machine.specs.Working.{machine_at};
+ghost use Rattle.hera_machine.specs.Working.{machine_at, NameNone, NamesNothing};
 
 use super::{Running, stuck};
 use crate::events::{End, Told};
 use delta_atoms::Delta;
-use hera_frames::{Stack, into_delta, let_go, settle_frames, settle_walks};
+use hera_frames::{Operands, Stack, any_named, let_go, settle_frames, settle_walks};
 use hera_meaning::{RelDecl, TrapName};
 use hera_prims::is_delta_of;
 use rel_pages::Base;
@@ -21,20 +22,14 @@ use std::alloc::AllocError;
 use std::mem::replace;
 
 impl Running {
-    pub(super) fn enter(
-        &mut self,
-        relations: &[RelDecl],
-        base: &Base,
-        commits: &[Delta],
-        at: u32,
-    ) -> Result<Told, AllocError>
+    pub(super) fn enter(&mut self, relations: &[RelDecl], at: u32) -> Result<Told, AllocError>
         requires { self.old.at + 1 < 2 ^ 64 }
-        ensures { let s = state_over base.now.state commits.now in IfOk result (λ told. step_at s told self.new ≡ on_top (machine_at s self.old).operands (λ v vs. enters relations.now at v vs (machine_at s self.old))) }
+        ensures { (s : State) → IfOk result (λ told. step_at s told self.new ≡ on_top (machine_at s self.old).operands (λ v vs. enters relations.now at v vs (machine_at s self.old))) }
     {
         let Some(v) = self.operands.pop() else {
             return stuck();
         };
-        let Some(delta) = into_delta(v) else {
+        let Some(delta) = v.into_delta() else {
             return stuck();
         };
         if delta.is_fail() {
@@ -43,82 +38,101 @@ impl Running {
         if !is_delta_of(relations, &delta) {
             return stuck();
         }
-        // no walk names a relation under more layers than there are, so this collects nothing
-        let count = self.changes.len();
-        self.settle_from(base, commits, count + 1)?;
-        self.changes.push(delta)?;
-        // for the proof alone: a list in memory has fewer than 2^64 layers, and at least the frame's own
-        let _count = self.changes.len();
-        self.own += 1;
+        self.enter_layer(delta)?;
         self.at += 1;
         Ok(Told::Quiet)
     }
 
-    pub(super) fn leave(&mut self, base: &Base, commits: &[Delta]) -> Result<Told, AllocError>
+    /// Puts a layer upon the one under which the machine reads.
+    fn enter_layer(&mut self, delta: Delta) -> Result<(), AllocError>
+        requires { is_fail delta ≡ false }
+        ensures at { OnOk result (self.new.at ≡ self.old.at) }
+        ensures over { (s : State) → OnOk result (machine_at s self.new ≡ record (machine_at s self.old) { layers = delta ∷ (machine_at s self.old).layers; own = suc (machine_at s self.old).own }) }
+    {
+        // for the proof alone: so many layers as the frame calls its own are there, and their number fits
+        let _tip = self.changes.tip();
+        self.changes.enter(delta)?;
+        self.own += 1;
+        Ok(())
+    }
+
+    /// Goes back to the layer below. No layer is dropped here, and it takes no memory.
+    pub(super) fn leave(&mut self) -> Told
         requires { self.old.at + 1 < 2 ^ 64 }
-        ensures { let s = state_over base.now.state commits.now in IfOk result (λ told. step_at s told self.new ≡ leaves_layer (machine_at s self.old).own (machine_at s self.old).layers (machine_at s self.old)) }
+        ensures { (s : State) → step_at s result self.new ≡ leaves_layer (machine_at s self.old).own (machine_at s self.old).layers (machine_at s self.old) }
     {
         if self.own == 0 {
-            return stuck();
+            return Told::Ended(End::Stuck);
         }
-        let count = self.changes.len();
-        self.settle_from(base, commits, count)?;
-        let Some(delta) = self.changes.pop() else {
-            return stuck();
-        };
-        let_go(delta);
+        self.changes.leave();
         self.own -= 1;
         self.at += 1;
-        Ok(Told::Quiet)
+        Told::Quiet
     }
 
-    /// Collects what is left of the running frame's walks that name a relation under at least `from` layers.
-    fn settle_from(&mut self, base: &Base, commits: &[Delta], from: usize) -> Result<(), AllocError>
-        ensures { OnOk result (self.new ≡ record self.old { walks = map (settled (state_over base.now.state commits.now) self.old.pending self.old.layers from) self.old.walks }) }
+    /// Collects the operands of the running frame that name a relation.
+    fn settle_operands(&mut self, base: &Base, commits: &[Delta]) -> Result<(), AllocError>
+        ensures rest { OnOk result (self.new ≡ record self.old { operands = self.new.operands; spare = self.new.spare }) }
+        ensures same { let s = state_over base.now.state commits.now in OnOk result (machine_at s self.new ≡ machine_at s self.old) }
+        ensures held { OnOk result (AreHeld self.new.operands) }
     {
-        let count = self.changes.len();
-        settle_walks(
-            self.alloc,
-            &mut self.walks,
-            &self.changes,
-            base,
-            commits,
-            count,
-            from,
-        )
-    }
-
-    /// Collects what is left of all walks that name a relation. Then another pending delta changes nothing
-    /// else.
-    fn settle_all(&mut self, base: &Base, commits: &[Delta]) -> Result<(), AllocError>
-        ensures rest { OnOk result (self.new ≡ record self.old { walks = self.new.walks; callers = self.new.callers }) }
-        ensures pending { let s = state_over base.now.state commits.now in OnOk result ((d : Delta) → machine_at s (record self.new { pending = d }) ≡ record (machine_at s self.old) { pending = d }) }
-    {
-        self.settle_from(base, commits, 0)?;
-        if self.names_below {
-            self.settle_callers(base, commits)
-        } else {
-            Ok(())
+        if self.operands.has_names() {
+            let operands = replace(&mut self.operands, Operands::new(self.alloc));
+            self.operands = operands.settle(self.alloc, &self.changes, base, commits)?;
         }
+        Ok(())
     }
 
-    /// Collects what is left of all walks of the frames that wait.
-    fn settle_callers(&mut self, base: &Base, commits: &[Delta]) -> Result<(), AllocError>
-        ensures { OnOk result (self.new ≡ record self.old { callers = frames_settled (state_over base.now.state commits.now) self.old.pending (drop self.old.own self.old.layers) self.old.callers }) }
+    /// Collects what is left of the walks of the running frame that name a relation.
+    fn settle_walks(&mut self, base: &Base, commits: &[Delta]) -> Result<(), AllocError>
+        ensures rest { OnOk result (self.new ≡ record self.old { walks = self.new.walks }) }
+        ensures same { let s = state_over base.now.state commits.now in OnOk result (machine_at s self.new ≡ machine_at s self.old) }
+        ensures given { OnOk result (AreGiven self.new.walks) }
     {
-        let depth = self.changes.len() - self.own;
-        let mut callers = replace(&mut self.callers, Stack::new(self.alloc));
-        settle_frames(
-            self.alloc,
-            &mut callers,
-            &self.changes,
-            base,
-            commits,
-            depth,
-        )?;
-        self.callers = callers;
-        self.names_below = false;
+        if any_named(&self.walks) {
+            let walks = replace(&mut self.walks, Stack::new(self.alloc));
+            self.walks = settle_walks(self.alloc, walks, &self.changes, base, commits)?;
+        }
         Ok(())
+    }
+
+    /// Collects what the frames that wait name.
+    fn settle_callers(&mut self, base: &Base, commits: &[Delta]) -> Result<(), AllocError>
+        ensures rest { OnOk result (self.new ≡ record self.old { callers = self.new.callers }) }
+        ensures same { let s = state_over base.now.state commits.now in OnOk result (machine_at s self.new ≡ machine_at s self.old) }
+        ensures none { OnOk result (NameNone self.new.callers) }
+    {
+        if self.names_below {
+            let callers = replace(&mut self.callers, Stack::new(self.alloc));
+            self.callers = settle_frames(self.alloc, callers, &self.changes, base, commits)?;
+            self.names_below = false;
+        }
+        Ok(())
+    }
+
+    /// Collects all that names a relation, in the running frame and in those that wait. Then the pending
+    /// delta may change.
+    pub(super) fn settle(&mut self, base: &Base, commits: &[Delta]) -> Result<(), AllocError>
+        ensures same { let s = state_over base.now.state commits.now in OnOk result (machine_at s self.new ≡ machine_at s self.old) }
+        ensures at { OnOk result (self.new.at ≡ self.old.at) }
+        ensures none { OnOk result (NamesNothing self.new) }
+    {
+        self.settle_operands(base, commits)?;
+        self.settle_walks(base, commits)?;
+        self.settle_callers(base, commits)
+    }
+
+    /// Puts another delta in the pending one's place, and gives that one. It takes no memory.
+    fn change_pending(&mut self, delta: Delta) -> Delta
+        requires known { is_fail delta ≡ false }
+        ensures old { result ≡ pending_of self.old.layers }
+        ensures known { is_fail result ≡ false }
+        ensures at { self.new.at ≡ self.old.at }
+        ensures over { NamesNothing self.old → (s : State) → machine_at s self.new ≡ record (machine_at s self.old) { pending = delta } }
+        ensures stored { delta ≡ atoms [] → (s : State) → machine_at (apply_of s result) self.new ≡ record (machine_at s self.old) { pending = atoms [] } }
+        ensures none { NamesNothing self.old → NamesNothing self.new }
+    {
+        self.changes.replace_pending(delta)
     }
 
     pub(super) fn apply(
@@ -134,7 +148,7 @@ impl Running {
         let Some(v) = self.operands.pop() else {
             return stuck();
         };
-        let Some(delta) = into_delta(v) else {
+        let Some(delta) = v.into_delta() else {
             return stuck();
         };
         if delta.is_fail() {
@@ -143,19 +157,34 @@ impl Running {
         if !is_delta_of(relations, &delta) {
             return stuck();
         }
-        self.settle_all(base, commits)?;
-        let mut pending = self.changes.replace_pending(Delta::empty(self.alloc));
-        smash_into(&mut pending, &delta)?;
-        let_go(self.changes.replace_pending(pending));
+        self.apply_delta(&delta, base, commits)?;
         self.at += 1;
         Ok(Told::Quiet)
+    }
+
+    /// Smashes a delta into the pending one.
+    fn apply_delta(
+        &mut self,
+        delta: &Delta,
+        base: &Base,
+        commits: &[Delta],
+    ) -> Result<(), AllocError>
+        requires { is_fail delta.now ≡ false }
+        ensures over { let s = state_over base.now.state commits.now in OnOk result (machine_at s self.new ≡ record (machine_at s self.old) { pending = smash_of (machine_at s self.old).pending delta.now }) }
+        ensures at { OnOk result (self.new.at ≡ self.old.at) }
+    {
+        self.settle(base, commits)?;
+        let mut pending = self.change_pending(Delta::empty(self.alloc));
+        smash_into(&mut pending, delta)?;
+        let_go(self.change_pending(pending));
+        Ok(())
     }
 
     pub(super) fn commit(&mut self) -> Result<Told, AllocError>
         requires { self.old.at + 1 < 2 ^ 64 }
         ensures { (s : State) → IfOk result (λ told. step_at s told self.new ≡ commits (machine_at s self.old).pending (record (machine_at s self.old) { at = (machine_at s self.old).at + 1; pending = atoms [] })) }
     {
-        let delta = self.changes.replace_pending(Delta::empty(self.alloc));
+        let delta = self.change_pending(Delta::empty(self.alloc));
         self.at += 1;
         Ok(Told::Commit(delta))
     }
@@ -164,8 +193,8 @@ impl Running {
         requires { self.old.at + 1 < 2 ^ 64 }
         ensures { let s = state_over base.now.state commits.now in IfOk result (λ told. step_at s told self.new ≡ quiet (record (machine_at s self.old) { at = (machine_at s self.old).at + 1; pending = atoms [] })) }
     {
-        self.settle_all(base, commits)?;
-        let_go(self.changes.replace_pending(Delta::empty(self.alloc)));
+        self.settle(base, commits)?;
+        let_go(self.change_pending(Delta::empty(self.alloc)));
         self.at += 1;
         Ok(Told::Quiet)
     }

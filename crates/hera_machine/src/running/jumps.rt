@@ -8,7 +8,6 @@ ghost use Rattle.hera_machine.specs.Working.{machine_at};
 use super::{Running, stuck};
 use crate::events::{End, Told};
 use hera_code::Code;
-use hera_frames::bool_of;
 use std::alloc::AllocError;
 
 impl Running {
@@ -32,7 +31,7 @@ impl Running {
         if (a as usize) >= code.instrs.len() {
             return stuck();
         }
-        match bool_of(&v) {
+        match v.bool_of() {
             None => stuck(),
             Some(true) => {
                 self.at += 1;

@@ -1,24 +1,24 @@
-//! Instructions on operands and slots: they push values, compute, claim and print.
-ghost use Rattle.std.specs.Prelude.{◌≡◌, ◌+◌, ◌<◌, ◌^◌, [], Some, IfOk, slice_get};
+//! Instructions on operands and slots: they push values, store, claim and print.
+ghost use Rattle.std.specs.Prelude.{◌≡◌, ◌+◌, ◌<◌, ◌^◌, Some, IfOk, IsOk, slice_get};
 ghost use Rattle.hera_meaning.specs.Deltas.{State};
 ghost use Rattle.hera_meaning.specs.Hosts.{host_at};
-ghost use Rattle.hera_meaning.specs.Fits.{arity};
 ghost use Rattle.hera_meaning.specs.Worlds.{set_local};
 ghost use Rattle.hera_meaning.specs.Expressions.{const_value};
 ghost use Rattle.hera_meaning.specs.Run.{stopped};
 ghost use Rattle.hera_host.specs.Tables.{specs_of};
-ghost use Rattle.hera_code.specs.Machine.{quiet, ends, ended, on_with, on_top, on_some, pushes, needs_slot, by_bool, prints, answers, asks_host, rows_value, current_state};
+ghost use Rattle.hera_code.specs.Machine.{quiet, ends, ended, on_with, on_top, pushes, needs_slot, by_bool, prints, asks_host, rows_value, current_state};
 ghost use Rattle.hera_machine.specs.Over.{state_over};
 ghost use Rattle.hera_machine.specs.Telling.{step_at};
 ghost use Rattle.hera_machine.specs.Working.{machine_at};
 
+use super::hosts::{answer_for, datum_of};
 use super::{Running, stuck};
 use crate::events::{End, Told};
 use delta_atoms::Delta;
-use hera_frames::{bool_of, const_of, let_go};
+use hera_frames::{Operand, const_of, let_go};
 use hera_host::HostTable;
-use hera_meaning::{Const, Op, RelDecl, RelId, Shape, TrapName};
-use hera_prims::{PrimEnd, arity, fits, has_shape, prim};
+use hera_meaning::{Const, RelDecl, RelId, Shape, TrapName};
+use hera_prims::has_shape;
 use hera_print::value_line;
 use rel_pages::Base;
 use std::alloc::AllocError;
@@ -37,7 +37,7 @@ impl Running {
         requires { self.old.at + 1 < 2 ^ 64 }
         ensures { (s : State) → IfOk result (λ told. step_at s told self.new ≡ pushes (slice_get (machine_at s self.old).locals i) (machine_at s self.old)) }
     {
-        let Some(v) = self.locals.copy_of(i as usize)? else {
+        let Some(v) = self.locals.copy_of(self.alloc, i as usize)? else {
             return stuck();
         };
         self.operands.push(v)?;
@@ -45,11 +45,19 @@ impl Running {
         Ok(Told::Quiet)
     }
 
-    pub(super) fn store(&mut self, i: u32) -> Result<Told, AllocError>
+    pub(super) fn store(
+        &mut self,
+        base: &Base,
+        commits: &[Delta],
+        i: u32,
+    ) -> Result<Told, AllocError>
         requires { self.old.at + 1 < 2 ^ 64 }
-        ensures { (s : State) → IfOk result (λ told. step_at s told self.new ≡ on_top (machine_at s self.old).operands (λ v vs. needs_slot i (machine_at s self.old) (quiet (record (machine_at s self.old) { at = (machine_at s self.old).at + 1; operands = vs; locals = set_local (machine_at s self.old).locals i v })))) }
+        ensures { let s = state_over base.now.state commits.now in IfOk result (λ told. step_at s told self.new ≡ on_top (machine_at s self.old).operands (λ v vs. needs_slot i (machine_at s self.old) (quiet (record (machine_at s self.old) { at = (machine_at s self.old).at + 1; operands = vs; locals = set_local (machine_at s self.old).locals i v })))) }
     {
-        let Some(v) = self.operands.pop() else {
+        let Some(v) = self
+            .operands
+            .pop_value(self.alloc, &self.changes, base, commits)?
+        else {
             return stuck();
         };
         if !self.locals.put(i as usize, v) {
@@ -59,57 +67,50 @@ impl Running {
         Ok(Told::Quiet)
     }
 
-    pub(crate) fn rel(
+    /// Names a relation as it is in the state that the machine reads. It takes no memory where there is
+    /// the place for one more operand.
+    pub(super) fn rel(
         &mut self,
         base: &Base,
         commits: &[Delta],
         r: RelId,
     ) -> Result<Told, AllocError>
         requires { self.old.at + 1 < 2 ^ 64 }
-        ensures { let s = state_over base.now.state commits.now in IfOk result (λ told. step_at s told self.new ≡ pushes (rows_value (slice_get (current_state s (machine_at s self.old)) r.0)) (machine_at s self.old)) }
+        ensures step { let s = state_over base.now.state commits.now in IfOk result (λ told. step_at s told self.new ≡ pushes (rows_value (slice_get (current_state s (machine_at s self.old)) r.0)) (machine_at s self.old)) }
+        ensures no_copy { 0 < self.old.spare → IsOk result }
     {
+        // for the contract alone: which relations there are, commits do not change
+        let _commits = commits;
         if usize::from(r.0) >= base.catalogue().len() {
             return stuck();
         }
-        self.push_rel(base, commits, r)?;
+        self.operands.push_named(r, self.changes.tip())?;
         self.at += 1;
         Ok(Told::Quiet)
     }
 
-    pub(super) fn prim(&mut self, op: &Op, at: u32) -> Result<Told, AllocError>
-        requires { self.old.at + 1 < 2 ^ 64 }
-        ensures { (s : State) → IfOk result (λ told. step_at s told self.new ≡ on_some (arity op.now) (machine_at s self.old).operands (λ args vs. answers at op.now args vs (machine_at s self.old))) }
-    {
-        let Some(args) = self.operands.take(self.alloc, arity(op))? else {
-            return stuck();
-        };
-        if !fits(op, &args) {
-            return stuck();
-        }
-        match prim(self.alloc, op, args) {
-            Ok(v) => {
-                self.operands.push(v)?;
-                self.at += 1;
-                Ok(Told::Quiet)
-            }
-            Err(PrimEnd::Trap(name)) => Ok(Told::Ended(End::Trap(name, at))),
-            Err(PrimEnd::Memory) => Err(AllocError),
-        }
-    }
-
-    /// Asks a host function. The table has none, so the run is stuck.
+    /// Asks a host function for the newest operand.
     pub(super) fn host(&mut self, hosts: &HostTable, h: u32) -> Result<Told, AllocError>
-        requires { hosts.now ≡ [] }
-        ensures { (s : State) → IfOk result (λ told. step_at s told self.new ≡ on_top (machine_at s self.old).operands (λ v vs. asks_host (host_at (specs_of hosts.now) h) v vs (machine_at s self.old))) }
+        requires { self.old.at + 1 < 2 ^ 64 }
+        ensures { (s : State) → IfOk result (λ told. step_at s told self.new ≡ on_top (machine_at s self.old).operands (λ v vs. asks_host (host_at (specs_of hosts.now.names) h) v vs (machine_at s self.old))) }
     {
-        // named for the contract alone, which says of them that no host has this number
-        let _hosts = hosts;
-        let _number = h;
-        let Some(v) = self.operands.pop() else {
-            return stuck();
-        };
-        let_go(v);
-        stuck()
+        match self.operands.pop() {
+            None => stuck(),
+            Some(Operand::Named { .. }) => stuck(),
+            Some(Operand::Held(v)) => {
+                let v = v.into_value();
+                let answer = answer_for(hosts, h, &v);
+                let_go(v);
+                match answer {
+                    None => stuck(),
+                    Some(answer) => {
+                        self.operands.push(datum_of(answer))?;
+                        self.at += 1;
+                        Ok(Told::Quiet)
+                    }
+                }
+            }
+        }
     }
 
     pub(super) fn claim(&mut self, at: u32) -> Result<Told, AllocError>
@@ -119,7 +120,7 @@ impl Running {
         let Some(v) = self.operands.pop() else {
             return stuck();
         };
-        match bool_of(&v) {
+        match v.bool_of() {
             None => stuck(),
             Some(true) => {
                 self.at += 1;
@@ -129,13 +130,23 @@ impl Running {
         }
     }
 
-    pub(super) fn print(&mut self, relations: &[RelDecl], shape: &Shape) -> Result<Told, AllocError>
+    pub(super) fn print(
+        &mut self,
+        relations: &[RelDecl],
+        base: &Base,
+        commits: &[Delta],
+        shape: &Shape,
+    ) -> Result<Told, AllocError>
         requires { self.old.at + 1 < 2 ^ 64 }
-        ensures { (s : State) → IfOk result (λ told. step_at s told self.new ≡ on_top (machine_at s self.old).operands (λ v vs. prints relations.now v vs (machine_at s self.old) shape.now)) }
+        ensures { let s = state_over base.now.state commits.now in IfOk result (λ told. step_at s told self.new ≡ on_top (machine_at s self.old).operands (λ v vs. prints relations.now v vs (machine_at s self.old) shape.now)) }
     {
-        let Some(v) = self.operands.pop() else {
+        let Some(v) = self
+            .operands
+            .pop_value(self.alloc, &self.changes, base, commits)?
+        else {
             return stuck();
         };
+        let v = v.into_value();
         if !has_shape(shape, &v, relations) {
             return stuck();
         }

@@ -10,25 +10,51 @@ ghost use Rattle.hera_machine.specs.Working.{machine_at};
 use super::{Running, stuck};
 use crate::events::Told;
 use delta_atoms::{Delta, Value};
-use hera_code::Code;
-use hera_frames::{Walk, bool_of, into_rel, into_row, let_go};
+use hera_code::{Code, Instr};
+use hera_frames::{Datum, Operand, Walk, into_rel, let_go};
 use rel_pages::Base;
 use std::alloc::AllocError;
 
+/// Whether the walk that is opened at this address is that of a loop of statements: such a one is dropped
+/// where no tuple is left.
+fn is_of_loop(code: &Code, at: usize) -> bool
+    requires { at + 1 < 2 ^ 64 }
+{
+    match code.instrs.get(at + 1) {
+        Some(Instr::Next(_, end)) => matches!(code.instrs.get(*end as usize), Some(Instr::Drop)),
+        _ => false,
+    }
+}
+
 impl Running {
-    pub(super) fn open_walk(&mut self) -> Result<Told, AllocError>
+    /// Opens a walk over the newest operand. A relation that is named stays so, but in a loop of
+    /// statements.
+    pub(super) fn open_walk(
+        &mut self,
+        code: &Code,
+        base: &Base,
+        commits: &[Delta],
+    ) -> Result<Told, AllocError>
         requires { self.old.at + 1 < 2 ^ 64 }
-        ensures { (s : State) → IfOk result (λ told. step_at s told self.new ≡ on_top (machine_at s self.old).operands (λ v vs. opens_walk v vs (machine_at s self.old))) }
+        ensures { let s = state_over base.now.state commits.now in IfOk result (λ told. step_at s told self.new ≡ on_top (machine_at s self.old).operands (λ v vs. opens_walk v vs (machine_at s self.old))) }
     {
-        let Some(v) = self.operands.pop() else {
-            return stuck();
-        };
-        let Some(rows) = into_rel(v) else {
-            return stuck();
-        };
-        self.walks.push(Walk::new(self.alloc, rows))?;
-        self.at += 1;
-        Ok(Told::Quiet)
+        match self.operands.pop() {
+            None => stuck(),
+            Some(Operand::Named { rel, tip }) if !is_of_loop(code, self.at) => {
+                self.walks.push(Walk::over(self.alloc, rel, tip))?;
+                self.at += 1;
+                Ok(Told::Quiet)
+            }
+            Some(operand) => {
+                let v = operand.collect(self.alloc, &self.changes, base, commits)?;
+                let Some(rows) = into_rel(v) else {
+                    return stuck();
+                };
+                self.walks.push(Walk::new(self.alloc, rows))?;
+                self.at += 1;
+                Ok(Told::Quiet)
+            }
+        }
     }
 
     pub(super) fn next(
@@ -53,7 +79,8 @@ impl Running {
         match found {
             None => self.at = a as usize,
             Some(row) => {
-                self.locals.put(i as usize, Value::Row(row));
+                let v = Datum::new(self.alloc, Value::Row(row))?;
+                self.locals.put(i as usize, v);
                 self.at += 1;
             }
         }
@@ -70,7 +97,7 @@ impl Running {
         let Some(kept) = self.operands.pop() else {
             return stuck();
         };
-        match bool_of(&kept) {
+        match kept.bool_of() {
             None => return stuck(),
             Some(true) => walk.keep()?,
             Some(false) => {}
@@ -90,7 +117,7 @@ impl Running {
         let Some(v) = self.operands.pop() else {
             return stuck();
         };
-        let Some(row) = into_row(v) else {
+        let Some(row) = v.into_row() else {
             return stuck();
         };
         walk.gather(row.bytes())?;
@@ -106,7 +133,8 @@ impl Running {
         let Some(walk) = self.walks.pop() else {
             return stuck();
         };
-        self.operands.push(Value::Rel(walk.into_gathered()))?;
+        let v = Datum::new(self.alloc, Value::Rel(walk.into_gathered()))?;
+        self.operands.push(v)?;
         self.at += 1;
         Ok(Told::Quiet)
     }

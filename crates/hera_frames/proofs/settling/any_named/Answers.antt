@@ -1,6 +1,6 @@
-use Rattle.std.proofs.Common.{◌≤◌, ◌∙◌, sym, subst, length, arith}
+use Rattle.std.proofs.Common.{◌∙◌, sym, subst, arith}
 use Rattle.hera_frames.specs.Walking.{AreGiven}
-use Rattle.hera_frames.proofs.Settled.{given_more, given_end, given_newest, unnamed}
+use Rattle.hera_frames.proofs.Settled.{given_more, given_end, unnamed}
 use Rattle.hera_frames.proofs.settling.any_named.Goals as goal
 
 pub loop-walk-preserved : goal.loop-walk-preserved
@@ -11,4 +11,4 @@ loop-walk-preserved c =
 pub returns : goal.returns
 returns c = λ _.
     subst AreGiven (sym c.oldest_first-walk-items.ensures)
-    (given_newest c.oldest_first-walk-items.result.now (given_end c.oldest_first-walk-items.result.now c.loop-walk.walk-index (omega (arith, c.loop-walk-test.false)) c.loop-walk.invariant))
+    (given_end c.oldest_first-walk-items.result.now c.loop-walk.walk-index (omega (arith, c.loop-walk-test.false)) c.loop-walk.invariant)

@@ -1,6 +1,7 @@
 use Rattle.std.proofs.Common.{take}
+use Rattle.hera_prims.specs.Newest.{newest}
 use Rattle.hera_frames.specs.Walking.{AreGiven}
 use Rattle.hera_frames.proofs.settling.any_named.Given as goal
 
 abbrev pub invariant-loop-walk : goal.invariant-loop-walk
-invariant-loop-walk l = AreGiven (take l.walk-index l.walk-items)
+invariant-loop-walk l = AreGiven (newest (λ x. x) (take l.walk-index l.walk-items))

@@ -1,30 +1,30 @@
-use Rattle.std.proofs.Common.{◌≡◌, ◌≤◌, ◌∷◌, ◌∙◌, List, ap, sym, subst, length, Some, arith}
+use Rattle.std.proofs.Common.{◌≡◌, ◌∷◌, ◌∙◌, List, ap, sym, subst, length, Some, arith}
 use Rattle.std.specs.List.{filter}
 use Rattle.std.specs.Option.{option_copied}
 use Rattle.hera_sets.specs.Rows.{Row, is_past}
 use Rattle.hera_sets.proofs.Lists.{filter_past_step, filter_none_found}
 use Rattle.hera_meaning.specs.declared.schemas.RelDecl.{RelDecl}
 use Rattle.when_overlay.specs.Changed.{after_all}
-use Rattle.hera_frames.specs.Walking.{lowest, seen_at}
+use Rattle.hera_frames.specs.Branched.{pending_of, under, seen_at}
 use Rattle.hera_frames.proofs.Naming.{rows_got, rows_none, read-length}
 use Rattle.hera_frames.proofs.walks.row_past.Goals as goal
 
 pub returns-then-from-len : goal.returns-then-from-len
 returns-then-from-len c =
-    let t = seen_at (after_all c.args.base.now.state c.args.commits.now) c.args.changes.now.pending c.args.changes.now.layers c.args.tip in
-    let long = read-length c.args.base.now.state c.args.commits.now c.args.changes.now.pending (lowest c.args.tip c.args.changes.now.layers) in
+    let t = seen_at (after_all c.args.base.now.state c.args.commits.now) c.args.changes.now.layers c.args.tip in
+    let long = read-length c.args.base.now.state c.args.commits.now (pending_of c.args.changes.now.layers) (under c.args.changes.now.layers c.args.tip) in
     let there = ap (λ (xs : List RelDecl). length xs) c.catalogue.ensures.catalogue in
     ap (filter (is_past (option_copied c.args.bound))) (rows_none t c.args.rel.0 (omega (arith, long, there, c.catalogue.ensures.relations, c.len.ensures.count, c.from.ensures, c.if-from-len.true)))
 
 pub returns-in-None : goal.returns-in-None
 returns-in-None c =
-    let t = seen_at (after_all c.args.base.now.state c.args.commits.now) c.args.changes.now.pending c.args.changes.now.layers c.args.tip in
+    let t = seen_at (after_all c.args.base.now.state c.args.commits.now) c.args.changes.now.layers c.args.tip in
     ap (filter (is_past (option_copied c.args.bound))) (rows_got t c.args.rel.0 c.rel.result c.rel.ensures)
     ∙ filter_none_found (is_past (option_copied c.args.bound)) c.rel.result (sym c.in-None.ensures.next)
 
 pub returns-in_ok-new-in-Some : goal.returns-in_ok-new-in-Some
 returns-in_ok-new-in-Some c =
-    let t = seen_at (after_all c.args.base.now.state c.args.commits.now) c.args.changes.now.pending c.args.changes.now.layers c.args.tip in
+    let t = seen_at (after_all c.args.base.now.state c.args.commits.now) c.args.changes.now.layers c.args.tip in
     let b = option_copied c.args.bound in
     subst (λ (rows : List Row). filter (is_past b) rows ≡ c.in_ok-new-in-Some.field-0 ∷ filter (is_past (Some c.in_ok-new-in-Some.field-0)) rows) (sym (rows_got t c.args.rel.0 c.rel.result c.rel.ensures))
     (subst (λ (x : Row). filter (is_past b) c.rel.result ≡ x ∷ filter (is_past (Some x)) c.rel.result) (sym c.in_ok-new-in-Some.ensures)

@@ -1,16 +1,13 @@
-use Rattle.std.proofs.Common.{◌∙◌, sym, ap, subst, List, cond, ◌&&◌}
-use Rattle.std.specs.List.{list_all}
-use Rattle.hera_sets.specs.Rows.{Row}
-use Rattle.hera_meaning.specs.declared.trees.TrapName.TheVariants.{Overflow}
-use Rattle.hera_meaning.specs.Rows.{is_row}
-use Rattle.hera_meaning.specs.Values.{table}
-use Rattle.hera_meaning.specs.Aggregates.{is_few, sum_of, column, least_scalar, greatest_scalar, group_of, are_sums_in_range}
-use Rattle.hera_meaning.specs.Primitives.{gives, refuses, in_range, end_of_fields}
-use Rattle.hera_prims.specs.Answered.{IsAnswer}
+use Rattle.std.proofs.Common.{sym, subst, List, length}
+use Rattle.std.specs.Prelude.{All}
+use Rattle.hera_meaning.specs.declared.schemas.Agg.{Agg}
+use Rattle.hera_aggregate.specs.Groups.{IsAggWithin}
+use Rattle.hera_prims.proofs.Computed.{all_rows, all_within}
 use Rattle.hera_prims.proofs.aggs.group.Goals as goal
 
-pub group_of-requires-clause-rows : goal.group_of-requires-clause-rows
-group_of-requires-clause-rows c = ap (list_all (is_row c.args.schema.now)) c.rows_at.ensures ∙ c.requires.rows
+pub group-requires-clause-rows : goal.group-requires-clause-rows
+group-requires-clause-rows g c = all_rows c.args.schema.now (g.A.Sorted.rows c.args.a.now) c.requires.rows
 
-pub returns : goal.returns
-returns c = subst (λ (xs : List Row). IsAnswer c.group_of.result (cond (is_few xs && are_sums_in_range c.args.schema.now c.args.by.now c.args.aggs.now xs) (gives (table (group_of c.args.schema.now c.args.by.now c.args.aggs.now xs))) (refuses Overflow))) c.rows_at.ensures c.group_of.ensures
+pub group-requires-clause-within : goal.group-requires-clause-within
+group-requires-clause-within g c =
+    subst (λ (gs : List Agg). All (IsAggWithin (length c.args.schema.now)) gs) (sym c.items-2.ensures) (all_within c.args.schema.now c.args.aggs.now c.requires.aggs)

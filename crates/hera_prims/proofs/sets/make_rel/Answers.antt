@@ -1,4 +1,4 @@
-use Rattle.std.proofs.Common.{◌≡◌, ◌∙◌, sym, ap, arith, map, take}
+use Rattle.std.proofs.Common.{◌∙◌, sym, ap, arith, map}
 use Rattle.hera_sets.specs.Rows.{put, normal}
 use Rattle.hera_meaning.specs.Values.{row_in, operand, table}
 use Rattle.hera_meaning.specs.Primitives.{gives}

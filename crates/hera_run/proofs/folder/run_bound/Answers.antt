@@ -13,7 +13,7 @@ use Rattle.hera_run.proofs.folder.run_bound.Goals as goal
 pub run_code-requires-clause-proper : goal.run_code-requires-clause-proper
 run_code-requires-clause-proper g c =
     let p = program_of c.args.program.now in
-    let hosts = specs_of c.args.hosts.now in
+    let hosts = specs_of c.args.hosts.now.names in
     let db = database_of c.args.store.now in
     let gate = c.args.store.now.end in
     let means = c.code_does_what_the_program_means.ensures in
@@ -24,7 +24,7 @@ run_code-requires-clause-proper g c =
 pub returns-in-Ok-Done-clause-said : goal.returns-in-Ok-Done-clause-said
 returns-in-Ok-Done-clause-said g c =
     let p = program_of c.args.program.now in
-    let hosts = specs_of c.args.hosts.now in
+    let hosts = specs_of c.args.hosts.now.names in
     let db = database_of c.args.store.now in
     let gate = c.args.store.now.end in
     let means = c.code_does_what_the_program_means.ensures in
@@ -35,7 +35,7 @@ returns-in-Ok-Done-clause-said g c =
 pub returns-in-Ok-Done-clause-any_moment : goal.returns-in-Ok-Done-clause-any_moment
 returns-in-Ok-Done-clause-any_moment g c =
     let p = program_of c.args.program.now in
-    let hosts = specs_of c.args.hosts.now in
+    let hosts = specs_of c.args.hosts.now.names in
     let db = database_of c.args.store.now in
     let gate = c.args.store.now.end in
     let means = c.code_does_what_the_program_means.ensures in
@@ -46,7 +46,7 @@ returns-in-Ok-Done-clause-any_moment g c =
 pub returns-in-Ok-Trap-clause-said : goal.returns-in-Ok-Trap-clause-said
 returns-in-Ok-Trap-clause-said g c =
     let p = program_of c.args.program.now in
-    let hosts = specs_of c.args.hosts.now in
+    let hosts = specs_of c.args.hosts.now.names in
     let db = database_of c.args.store.now in
     let gate = c.args.store.now.end in
     let means = c.code_does_what_the_program_means.ensures in
@@ -57,7 +57,7 @@ returns-in-Ok-Trap-clause-said g c =
 pub returns-in-Ok-Trap-clause-any_moment : goal.returns-in-Ok-Trap-clause-any_moment
 returns-in-Ok-Trap-clause-any_moment g c =
     let p = program_of c.args.program.now in
-    let hosts = specs_of c.args.hosts.now in
+    let hosts = specs_of c.args.hosts.now.names in
     let db = database_of c.args.store.now in
     let gate = c.args.store.now.end in
     let means = c.code_does_what_the_program_means.ensures in
@@ -68,7 +68,7 @@ returns-in-Ok-Trap-clause-any_moment g c =
 pub returns-in-Ok-Spent-clause-said : goal.returns-in-Ok-Spent-clause-said
 returns-in-Ok-Spent-clause-said g c =
     let p = program_of c.args.program.now in
-    let hosts = specs_of c.args.hosts.now in
+    let hosts = specs_of c.args.hosts.now.names in
     let db = database_of c.args.store.now in
     let gate = c.args.store.now.end in
     let means = c.code_does_what_the_program_means.ensures in
@@ -79,7 +79,7 @@ returns-in-Ok-Spent-clause-said g c =
 pub returns-in-Ok-Spent-clause-any_moment : goal.returns-in-Ok-Spent-clause-any_moment
 returns-in-Ok-Spent-clause-any_moment g c =
     let p = program_of c.args.program.now in
-    let hosts = specs_of c.args.hosts.now in
+    let hosts = specs_of c.args.hosts.now.names in
     let db = database_of c.args.store.now in
     let gate = c.args.store.now.end in
     let means = c.code_does_what_the_program_means.ensures in
@@ -90,7 +90,7 @@ returns-in-Ok-Spent-clause-any_moment g c =
 pub unreachable-requires : goal.unreachable-requires
 unreachable-requires g c =
     let p = program_of c.args.program.now in
-    let hosts = specs_of c.args.hosts.now in
+    let hosts = specs_of c.args.hosts.now.names in
     let db = database_of c.args.store.now in
     let gate = c.args.store.now.end in
     let means = c.code_does_what_the_program_means.ensures in
@@ -101,7 +101,7 @@ unreachable-requires g c =
 pub returns-clause-said : goal.returns-clause-said
 returns-clause-said g c =
     let p = program_of c.args.program.now in
-    let hosts = specs_of c.args.hosts.now in
+    let hosts = specs_of c.args.hosts.now.names in
     let db = database_of c.args.store.now in
     let gate = c.args.store.now.end in
     let means = c.code_does_what_the_program_means.ensures in
@@ -113,7 +113,7 @@ returns-clause-said g c =
 pub returns-clause-any_moment : goal.returns-clause-any_moment
 returns-clause-any_moment g c =
     let p = program_of c.args.program.now in
-    let hosts = specs_of c.args.hosts.now in
+    let hosts = specs_of c.args.hosts.now.names in
     let db = database_of c.args.store.now in
     let gate = c.args.store.now.end in
     let means = c.code_does_what_the_program_means.ensures in

@@ -11,14 +11,14 @@ returns-in-Ok-clause-answers g c =
     let opening = c.open_store.ensures in
     run_answers g.W.Outside.told g.W.Outside.disk g.W.Output.emitted g.W.Outside.moment g.W.Outside.left_since c.args.outside.now c.open_store.new.outside c.run_store.new.outside
     (λ told. record { reads = opening.reads told; within = opening.within told; same = opening.emitted; any_moment = opening.any_moment told }) opening.emitted
-    c.args.hosts.now c.args.turns (program_of c.args.program) c.in-Ok.store c.run_store.result c.in-Ok.ensures.held c.in-Ok.ensures.stands c.run_store.ensures.continues
+    c.args.hosts.now.names c.args.turns (program_of c.args.program) c.in-Ok.store c.run_store.result c.in-Ok.ensures.held c.in-Ok.ensures.stands c.run_store.ensures.continues
 
 pub returns-in-Err-NoDatabase-clause-answers : goal.returns-in-Err-NoDatabase-clause-answers
 returns-in-Err-NoDatabase-clause-answers g c =
     let opening = c.open_store.ensures in
     refusal_answers g.W.Outside.told g.W.Outside.disk g.W.Output.emitted g.W.Outside.moment g.W.Outside.left_since c.args.outside.now c.open_store.new.outside c.refuse.new.outside
     (λ told. record { reads = opening.reads told; within = opening.within told; same = opening.emitted; any_moment = opening.any_moment told }) opening.emitted
-    c.args.hosts.now c.args.turns (program_of c.args.program) NoDatabase c.refuse.result (finds_none (λ told. opening.absent told (c.in-Err-NoDatabase.is ∙ ap Err c.in-Err-NoDatabase.field-0-is)))
+    c.args.hosts.now.names c.args.turns (program_of c.args.program) NoDatabase c.refuse.result (finds_none (λ told. opening.absent told (c.in-Err-NoDatabase.is ∙ ap Err c.in-Err-NoDatabase.field-0-is)))
     c.refuse.ensures.said c.refuse.ensures.any_moment
 
 pub returns-in-Err-Damaged-clause-answers : goal.returns-in-Err-Damaged-clause-answers
@@ -26,6 +26,6 @@ returns-in-Err-Damaged-clause-answers g c =
     let opening = c.open_store.ensures in
     refusal_answers g.W.Outside.told g.W.Outside.disk g.W.Output.emitted g.W.Outside.moment g.W.Outside.left_since c.args.outside.now c.open_store.new.outside c.refuse-in-Err-Damaged.new.outside
     (λ told. record { reads = opening.reads told; within = opening.within told; same = opening.emitted; any_moment = opening.any_moment told }) opening.emitted
-    c.args.hosts.now c.args.turns (program_of c.args.program) (Damaged c.in-Err-Damaged.file c.in-Err-Damaged.at) c.refuse-in-Err-Damaged.result
+    c.args.hosts.now.names c.args.turns (program_of c.args.program) (Damaged c.in-Err-Damaged.file c.in-Err-Damaged.at) c.refuse-in-Err-Damaged.result
     (finds_damage (λ told. opening.damaged told c.in-Err-Damaged.file c.in-Err-Damaged.at (c.in-Err-Damaged.is ∙ ap Err c.in-Err-Damaged.field-0-is)))
     c.refuse-in-Err-Damaged.ensures.said c.refuse-in-Err-Damaged.ensures.any_moment

@@ -18,7 +18,7 @@ use Rattle.hera_run.proofs.folder.run_store.Goals as goal
 pub returns-in-Ok-clause-continues : goal.returns-in-Ok-clause-continues
 returns-in-Ok-clause-continues g c =
     let p = program_of c.args.program in
-    let hosts = specs_of c.args.hosts.now in
+    let hosts = specs_of c.args.hosts.now.names in
     let db = database_of c.args.store in
     let gate = c.args.store.end in
     let own : c.catalogue.result.now ≡ db.catalogue = c.catalogue.ensures.catalogue ∙ ap (λ (b : Stored). b.catalogue) c.base.ensures.base in

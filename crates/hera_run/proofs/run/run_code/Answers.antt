@@ -30,7 +30,7 @@ steps-init g c =
     let long : length c.commits-opened.result.now ≡ length init.commits = ap (λ (l : List Delta). length l) c.commits-opened.ensures.commits in
     record {
       events = [];
-      at = at_start c.args.code.now c.args.relations.now (specs_of c.args.hosts.now) db c.args.turns c.in_ok-machine.machine c.in_ok-machine.ensures.start c.in_ok-machine.ensures.works c.in_ok-machine.ensures.code c.in_ok-machine.ensures.relations;
+      at = at_start c.args.code.now c.args.relations.now (specs_of c.args.hosts.now.names) db c.args.turns c.in_ok-machine.machine c.in_ok-machine.ensures.start c.in_ok-machine.ensures.works c.in_ok-machine.ensures.code c.in_ok-machine.ensures.relations;
       taken = c.in_ok-machine.ensures.nothing_waits;
       opens = c.requires.open;
       base = refl;
@@ -42,20 +42,20 @@ steps-init g c =
       output = refl;
     }
 
-pub returns-in_err-step-clause-cut : goal.returns-in_err-step-clause-cut
-returns-in_err-step-clause-cut g c =
+pub returns-in_err-advance-clause-cut : goal.returns-in_err-advance-clause-cut
+returns-in_err-advance-clause-cut g c =
     let i = c.steps.invariant in
     let init = c.args.store.now in
     let db = database_of init in
-    MatchResult-from_err c.from_residual-in_err-step.result _ _ c.from_residual-in_err-step.ensures.0
-    (λ _. part_here c.args.code.now c.args.relations.now (specs_of c.args.hosts.now) db c.args.turns init.end i.events c.steps.machine _ _ i.at i.carried.fit i.said)
+    MatchResult-from_err c.from_residual-in_err-advance.result _ _ c.from_residual-in_err-advance.ensures.0
+    (λ _. part_here c.args.code.now c.args.relations.now (specs_of c.args.hosts.now.names) db c.args.turns init.end i.events c.steps.machine _ _ i.at i.carried.fit i.said)
 
 pub steps-preserved-in-Quiet : goal.steps-preserved-in-Quiet
 steps-preserved-in-Quiet g c =
     let i = c.steps.invariant in
     let m = c.steps.machine in
-    let n = c.step.new.self in
-    let ens = c.in_ok-step.ensures in
+    let n = c.advance.new.self in
+    let ens = c.in_ok-advance.ensures in
     let init = c.args.store.now in
     let db = database_of init in
     let old = c.steps.store in
@@ -63,10 +63,10 @@ steps-preserved-in-Quiet g c =
     let start = g.W.Output.emitted c.args.outside.now in
     let mid = g.W.Output.emitted c.steps.outside in
     let same = state_read old db (state_after db.state i.events) c.base.result.now c.commits.result.now c.base.ensures.base c.commits.ensures.commits i.carried.stored in
-    let to = stepped c.args.code.now c.args.relations.now (specs_of c.args.hosts.now) db c.args.turns i.events m n (state_over c.base.result.now.state c.commits.result.now) c.in_ok-step.field-0 (events.Quiet) i.at same c.in-Quiet.is (ens.steps i.at.works) ens.status ens.code ens.relations in
+    let to = stepped c.args.code.now c.args.relations.now (specs_of c.args.hosts.now.names) db c.args.turns i.events m n (state_over c.base.result.now.state c.commits.result.now) c.in_ok-advance.field-0 (events.Quiet) i.at same c.in-Quiet.is (ens.steps i.at.works) ens.status ens.code ens.relations in
     record {
       events = i.events;
-      at = at_quiet c.args.code.now c.args.relations.now (specs_of c.args.hosts.now) db c.args.turns i.events m n to;
+      at = at_quiet c.args.code.now c.args.relations.now (specs_of c.args.hosts.now.names) db c.args.turns i.events m n to;
       taken = subst (λ e. WaitsBy n.waits e) c.in-Quiet.is ens.waits;
       opens = i.opens;
       base = i.base;
@@ -82,8 +82,8 @@ pub steps-preserved-in-Continue-branch-4 : goal.steps-preserved-in-Continue-bran
 steps-preserved-in-Continue-branch-4 g c =
     let i = c.steps.invariant in
     let m = c.steps.machine in
-    let n = c.step.new.self in
-    let ens = c.in_ok-step.ensures in
+    let n = c.advance.new.self in
+    let ens = c.in_ok-advance.ensures in
     let init = c.args.store.now in
     let db = database_of init in
     let old = c.steps.store in
@@ -91,18 +91,18 @@ steps-preserved-in-Continue-branch-4 g c =
     let start = g.W.Output.emitted c.args.outside.now in
     let mid = g.W.Output.emitted c.steps.outside in
     let same = state_read old db (state_after db.state i.events) c.base.result.now c.commits.result.now c.base.ensures.base c.commits.ensures.commits i.carried.stored in
-    let to = stepped c.args.code.now c.args.relations.now (specs_of c.args.hosts.now) db c.args.turns i.events m n (state_over c.base.result.now.state c.commits.result.now) c.in_ok-step.field-0 (events.Out c.in-Out.line) i.at same c.in-Out.is (ens.steps i.at.works) ens.status ens.code ens.relations in
+    let to = stepped c.args.code.now c.args.relations.now (specs_of c.args.hosts.now.names) db c.args.turns i.events m n (state_over c.base.result.now.state c.commits.result.now) c.in_ok-advance.field-0 (events.Out c.in-Out.line) i.at same c.in-Out.is (ens.steps i.at.works) ens.status ens.code ens.relations in
     let done = c.in_ok-carry_out-in-Out.ensures in
     record {
       events = i.events ++ out c.in-Out.line ∷ [];
-      at = at_out c.args.code.now c.args.relations.now (specs_of c.args.hosts.now) db c.args.turns i.events m n c.in-Out.line to;
+      at = at_out c.args.code.now c.args.relations.now (specs_of c.args.hosts.now.names) db c.args.turns i.events m n c.in-Out.line to;
       taken = subst (λ e. WaitsBy n.waits e) c.in-Out.is ens.waits;
       opens = done.open;
       base = c.carry_out.ensures.base ∙ i.base;
       carried = carried_out db gate (length c.commits-opened.result.now) i.events old c.carry_out.new.store c.in-Out.line i.carried c.carry_out.ensures.base done.commits done.gate;
-      said = said_out c.args.code.now c.args.relations.now (specs_of c.args.hosts.now) db c.args.turns gate i.events c.in-Out.line start mid _ i.said done.whole;
+      said = said_out c.args.code.now c.args.relations.now (specs_of c.args.hosts.now.names) db c.args.turns gate i.events c.in-Out.line start mid _ i.said done.whole;
       stands = λ told. done.stands told;
-      any_moment = λ told. leaves-on _ _ (i.any_moment told) (c.carry_out.ensures.any_moment told) (λ image cut. cut_next c.args.code.now c.args.relations.now (specs_of c.args.hosts.now) db c.args.turns gate i.events (out c.in-Out.line ∷ []) m (database_of old) start mid image (adds_out c.args.code.now c.args.relations.now (specs_of c.args.hosts.now) db c.args.turns i.events m n c.in-Out.line to) i.carried.fit refl i.carried.stored i.said cut);
+      any_moment = λ told. leaves-on _ _ (i.any_moment told) (c.carry_out.ensures.any_moment told) (λ image cut. cut_next c.args.code.now c.args.relations.now (specs_of c.args.hosts.now.names) db c.args.turns gate i.events (out c.in-Out.line ∷ []) m (database_of old) start mid image (adds_out c.args.code.now c.args.relations.now (specs_of c.args.hosts.now.names) db c.args.turns i.events m n c.in-Out.line to) i.carried.fit refl i.carried.stored i.said cut);
       device = done.device_still (λ h. ok_is_no_err _ _ h) ∙ i.device;
       output = done.output_still (λ h. ok_is_no_err _ _ h) ∙ i.output;
     }
@@ -111,8 +111,8 @@ pub returns-in_err-carry_out-in-Out-clause-cut : goal.returns-in_err-carry_out-i
 returns-in_err-carry_out-in-Out-clause-cut g c =
     let i = c.steps.invariant in
     let m = c.steps.machine in
-    let n = c.step.new.self in
-    let ens = c.in_ok-step.ensures in
+    let n = c.advance.new.self in
+    let ens = c.in_ok-advance.ensures in
     let init = c.args.store.now in
     let db = database_of init in
     let old = c.steps.store in
@@ -120,16 +120,16 @@ returns-in_err-carry_out-in-Out-clause-cut g c =
     let start = g.W.Output.emitted c.args.outside.now in
     let mid = g.W.Output.emitted c.steps.outside in
     let same = state_read old db (state_after db.state i.events) c.base.result.now c.commits.result.now c.base.ensures.base c.commits.ensures.commits i.carried.stored in
-    let to = stepped c.args.code.now c.args.relations.now (specs_of c.args.hosts.now) db c.args.turns i.events m n (state_over c.base.result.now.state c.commits.result.now) c.in_ok-step.field-0 (events.Out c.in-Out.line) i.at same c.in-Out.is (ens.steps i.at.works) ens.status ens.code ens.relations in
+    let to = stepped c.args.code.now c.args.relations.now (specs_of c.args.hosts.now.names) db c.args.turns i.events m n (state_over c.base.result.now.state c.commits.result.now) c.in_ok-advance.field-0 (events.Out c.in-Out.line) i.at same c.in-Out.is (ens.steps i.at.works) ens.status ens.code ens.relations in
     MatchResult-from_err c.from_residual-in_err-carry_out-in-Out.result _ _ c.from_residual-in_err-carry_out-in-Out.ensures.0
-    (λ _. part_out c.args.code.now c.args.relations.now (specs_of c.args.hosts.now) db c.args.turns gate i.events m c.in-Out.line start mid _ (adds_out c.args.code.now c.args.relations.now (specs_of c.args.hosts.now) db c.args.turns i.events m n c.in-Out.line to) i.carried.fit i.said c.in_err-carry_out-in-Out.ensures.part)
+    (λ _. part_out c.args.code.now c.args.relations.now (specs_of c.args.hosts.now.names) db c.args.turns gate i.events m c.in-Out.line start mid _ (adds_out c.args.code.now c.args.relations.now (specs_of c.args.hosts.now.names) db c.args.turns i.events m n c.in-Out.line to) i.carried.fit i.said c.in_err-carry_out-in-Out.ensures.part)
 
 pub returns-in_err-carry_out-in-Out-clause-any_moment : goal.returns-in_err-carry_out-in-Out-clause-any_moment
 returns-in_err-carry_out-in-Out-clause-any_moment g c =
     let i = c.steps.invariant in
     let m = c.steps.machine in
-    let n = c.step.new.self in
-    let ens = c.in_ok-step.ensures in
+    let n = c.advance.new.self in
+    let ens = c.in_ok-advance.ensures in
     let init = c.args.store.now in
     let db = database_of init in
     let old = c.steps.store in
@@ -137,15 +137,15 @@ returns-in_err-carry_out-in-Out-clause-any_moment g c =
     let start = g.W.Output.emitted c.args.outside.now in
     let mid = g.W.Output.emitted c.steps.outside in
     let same = state_read old db (state_after db.state i.events) c.base.result.now c.commits.result.now c.base.ensures.base c.commits.ensures.commits i.carried.stored in
-    let to = stepped c.args.code.now c.args.relations.now (specs_of c.args.hosts.now) db c.args.turns i.events m n (state_over c.base.result.now.state c.commits.result.now) c.in_ok-step.field-0 (events.Out c.in-Out.line) i.at same c.in-Out.is (ens.steps i.at.works) ens.status ens.code ens.relations in
-    λ told. leaves-on _ _ (i.any_moment told) (c.carry_out.ensures.any_moment told) (λ image cut. cut_next c.args.code.now c.args.relations.now (specs_of c.args.hosts.now) db c.args.turns gate i.events (out c.in-Out.line ∷ []) m (database_of old) start mid image (adds_out c.args.code.now c.args.relations.now (specs_of c.args.hosts.now) db c.args.turns i.events m n c.in-Out.line to) i.carried.fit refl i.carried.stored i.said cut)
+    let to = stepped c.args.code.now c.args.relations.now (specs_of c.args.hosts.now.names) db c.args.turns i.events m n (state_over c.base.result.now.state c.commits.result.now) c.in_ok-advance.field-0 (events.Out c.in-Out.line) i.at same c.in-Out.is (ens.steps i.at.works) ens.status ens.code ens.relations in
+    λ told. leaves-on _ _ (i.any_moment told) (c.carry_out.ensures.any_moment told) (λ image cut. cut_next c.args.code.now c.args.relations.now (specs_of c.args.hosts.now.names) db c.args.turns gate i.events (out c.in-Out.line ∷ []) m (database_of old) start mid image (adds_out c.args.code.now c.args.relations.now (specs_of c.args.hosts.now.names) db c.args.turns i.events m n c.in-Out.line to) i.carried.fit refl i.carried.stored i.said cut)
 
 pub commit-requires-clause-proper : goal.commit-requires-clause-proper
 commit-requires-clause-proper g c =
     let i = c.steps.invariant in
     let m = c.steps.machine in
-    let n = c.step.new.self in
-    let ens = c.in_ok-step.ensures in
+    let n = c.advance.new.self in
+    let ens = c.in_ok-advance.ensures in
     let init = c.args.store.now in
     let db = database_of init in
     let old = c.steps.store in
@@ -153,18 +153,18 @@ commit-requires-clause-proper g c =
     let start = g.W.Output.emitted c.args.outside.now in
     let mid = g.W.Output.emitted c.steps.outside in
     let same = state_read old db (state_after db.state i.events) c.base.result.now c.commits.result.now c.base.ensures.base c.commits.ensures.commits i.carried.stored in
-    let to = stepped c.args.code.now c.args.relations.now (specs_of c.args.hosts.now) db c.args.turns i.events m n (state_over c.base.result.now.state c.commits.result.now) c.in_ok-step.field-0 (events.Commit) i.at same c.in-Commit.is (ens.steps i.at.works) ens.status ens.code ens.relations in
+    let to = stepped c.args.code.now c.args.relations.now (specs_of c.args.hosts.now.names) db c.args.turns i.events m n (state_over c.base.result.now.state c.commits.result.now) c.in_ok-advance.field-0 (events.Commit) i.at same c.in-Commit.is (ens.steps i.at.works) ens.status ens.code ens.relations in
     let d = c.take_pending-delta.result in
     let waits : commit_over (state_after db.state i.events) n.waits n ≡ commits d (machine_over (apply_of (state_after db.state i.events) d) n) = ap (λ o. commit_over (state_after db.state i.events) o n) c.take_pending-delta.ensures.delta in
-    let adds = adds_commit c.args.code.now c.args.relations.now (specs_of c.args.hosts.now) db c.args.turns i.events m n d to waits in
-    proper_commit c.args.code.now c.args.relations.now (specs_of c.args.hosts.now) db c.args.turns i.events m d old.base.catalogue adds (ap (λ (b : Stored). b.catalogue) i.base) c.requires.proper
+    let adds = adds_commit c.args.code.now c.args.relations.now (specs_of c.args.hosts.now.names) db c.args.turns i.events m n d to waits in
+    proper_commit c.args.code.now c.args.relations.now (specs_of c.args.hosts.now.names) db c.args.turns i.events m d old.base.catalogue adds (ap (λ (b : Stored). b.catalogue) i.base) c.requires.proper
 
 pub steps-preserved : goal.steps-preserved
 steps-preserved g c =
     let i = c.steps.invariant in
     let m = c.steps.machine in
-    let n = c.step.new.self in
-    let ens = c.in_ok-step.ensures in
+    let n = c.advance.new.self in
+    let ens = c.in_ok-advance.ensures in
     let init = c.args.store.now in
     let db = database_of init in
     let old = c.steps.store in
@@ -172,25 +172,25 @@ steps-preserved g c =
     let start = g.W.Output.emitted c.args.outside.now in
     let mid = g.W.Output.emitted c.steps.outside in
     let same = state_read old db (state_after db.state i.events) c.base.result.now c.commits.result.now c.base.ensures.base c.commits.ensures.commits i.carried.stored in
-    let to = stepped c.args.code.now c.args.relations.now (specs_of c.args.hosts.now) db c.args.turns i.events m n (state_over c.base.result.now.state c.commits.result.now) c.in_ok-step.field-0 (events.Commit) i.at same c.in-Commit.is (ens.steps i.at.works) ens.status ens.code ens.relations in
+    let to = stepped c.args.code.now c.args.relations.now (specs_of c.args.hosts.now.names) db c.args.turns i.events m n (state_over c.base.result.now.state c.commits.result.now) c.in_ok-advance.field-0 (events.Commit) i.at same c.in-Commit.is (ens.steps i.at.works) ens.status ens.code ens.relations in
     let d = c.take_pending-delta.result in
     let waits : commit_over (state_after db.state i.events) n.waits n ≡ commits d (machine_over (apply_of (state_after db.state i.events) d) n) = ap (λ o. commit_over (state_after db.state i.events) o n) c.take_pending-delta.ensures.delta in
-    let adds = adds_commit c.args.code.now c.args.relations.now (specs_of c.args.hosts.now) db c.args.turns i.events m n d to waits in
+    let adds = adds_commit c.args.code.now c.args.relations.now (specs_of c.args.hosts.now.names) db c.args.turns i.events m n d to waits in
     let number = length c.commits-in-Commit.result.now - length c.commits-opened.result.now + 1 in
     let now_long : length c.commits-in-Commit.result.now ≡ length old.commits = ap (λ (l : List Delta). length l) c.commits-in-Commit.ensures.commits in
     let count : number ≡ suc (stores i.events) = omega (arith, now_long, i.carried.count) in
     let done = c.in_ok-commit-in-Commit.ensures in
     let yes = done.fits in
     record {
-      events = i.events ++ committing c.args.code.now c.args.relations.now (specs_of c.args.hosts.now) db c.args.turns i.events d;
-      at = at_commit c.args.code.now c.args.relations.now (specs_of c.args.hosts.now) db c.args.turns i.events m n c.take_pending-delta.new.self d to waits c.take_pending-delta.ensures.taken;
+      events = i.events ++ committing c.args.code.now c.args.relations.now (specs_of c.args.hosts.now.names) db c.args.turns i.events d;
+      at = at_commit c.args.code.now c.args.relations.now (specs_of c.args.hosts.now.names) db c.args.turns i.events m n c.take_pending-delta.new.self d to waits c.take_pending-delta.ensures.taken;
       taken = ap (λ (x : Standing). x.waits) c.take_pending-delta.ensures.taken;
       opens = done.open;
       base = c.commit.ensures.base ∙ i.base;
       carried = carried_commit db gate (length c.commits-opened.result.now) i.events old c.commit.new.store d _ i.carried c.commit.ensures.base done.commits done.gate yes;
-      said = said_commit c.args.code.now c.args.relations.now (specs_of c.args.hosts.now) db c.args.turns gate i.events d number start mid _ count i.said done.whole;
+      said = said_commit c.args.code.now c.args.relations.now (specs_of c.args.hosts.now.names) db c.args.turns gate i.events d number start mid _ count i.said done.whole;
       stands = λ told. done.stands told;
-      any_moment = λ told. leaves-on _ _ (i.any_moment told) (c.commit.ensures.any_moment told) (λ image cut. cut_commit c.args.code.now c.args.relations.now (specs_of c.args.hosts.now) db c.args.turns gate i.events m d number (database_of old) start mid image adds i.carried.fit (ap (λ (k : _). fits k d) (sym i.carried.ends) ∙ yes) i.carried.stored count i.said cut);
+      any_moment = λ told. leaves-on _ _ (i.any_moment told) (c.commit.ensures.any_moment told) (λ image cut. cut_commit c.args.code.now c.args.relations.now (specs_of c.args.hosts.now.names) db c.args.turns gate i.events m d number (database_of old) start mid image adds i.carried.fit (ap (λ (k : _). fits k d) (sym i.carried.ends) ∙ yes) i.carried.stored count i.said cut);
       device = done.device_still (λ h. ok_is_no_err _ _ h) ∙ i.device;
       output = done.output_still (λ h. ok_is_no_err _ _ h) ∙ i.output;
     }
@@ -199,8 +199,8 @@ pub returns-in_err-commit-in-Commit-clause-cut : goal.returns-in_err-commit-in-C
 returns-in_err-commit-in-Commit-clause-cut g c =
     let i = c.steps.invariant in
     let m = c.steps.machine in
-    let n = c.step.new.self in
-    let ens = c.in_ok-step.ensures in
+    let n = c.advance.new.self in
+    let ens = c.in_ok-advance.ensures in
     let init = c.args.store.now in
     let db = database_of init in
     let old = c.steps.store in
@@ -208,25 +208,25 @@ returns-in_err-commit-in-Commit-clause-cut g c =
     let start = g.W.Output.emitted c.args.outside.now in
     let mid = g.W.Output.emitted c.steps.outside in
     let same = state_read old db (state_after db.state i.events) c.base.result.now c.commits.result.now c.base.ensures.base c.commits.ensures.commits i.carried.stored in
-    let to = stepped c.args.code.now c.args.relations.now (specs_of c.args.hosts.now) db c.args.turns i.events m n (state_over c.base.result.now.state c.commits.result.now) c.in_ok-step.field-0 (events.Commit) i.at same c.in-Commit.is (ens.steps i.at.works) ens.status ens.code ens.relations in
+    let to = stepped c.args.code.now c.args.relations.now (specs_of c.args.hosts.now.names) db c.args.turns i.events m n (state_over c.base.result.now.state c.commits.result.now) c.in_ok-advance.field-0 (events.Commit) i.at same c.in-Commit.is (ens.steps i.at.works) ens.status ens.code ens.relations in
     let d = c.take_pending-delta.result in
     let waits : commit_over (state_after db.state i.events) n.waits n ≡ commits d (machine_over (apply_of (state_after db.state i.events) d) n) = ap (λ o. commit_over (state_after db.state i.events) o n) c.take_pending-delta.ensures.delta in
-    let adds = adds_commit c.args.code.now c.args.relations.now (specs_of c.args.hosts.now) db c.args.turns i.events m n d to waits in
+    let adds = adds_commit c.args.code.now c.args.relations.now (specs_of c.args.hosts.now.names) db c.args.turns i.events m n d to waits in
     let number = length c.commits-in-Commit.result.now - length c.commits-opened.result.now + 1 in
     let now_long : length c.commits-in-Commit.result.now ≡ length old.commits = ap (λ (l : List Delta). length l) c.commits-in-Commit.ensures.commits in
     let count : number ≡ suc (stores i.events) = omega (arith, now_long, i.carried.count) in
     MatchResult-from_err c.from_residual-in_err-commit-in-Commit.result _ _ c.from_residual-in_err-commit-in-Commit.ensures.0
     (λ _. ⊎_elim
-    (λ (yes : fits old.end d ≡ true). part_commit c.args.code.now c.args.relations.now (specs_of c.args.hosts.now) db c.args.turns gate i.events m d number start mid _ adds i.carried.fit (ap (λ (k : _). fits k d) (sym i.carried.ends) ∙ yes) count i.said c.in_err-commit-in-Commit.ensures.part)
-    (λ (no : fits old.end d ≡ false). part_here c.args.code.now c.args.relations.now (specs_of c.args.hosts.now) db c.args.turns gate i.events m start _ i.at i.carried.fit (subst (λ x. Appends start (g.W.Output.emitted x) (printed i.events)) (sym (c.commit.ensures.nothing_done no)) i.said))
+    (λ (yes : fits old.end d ≡ true). part_commit c.args.code.now c.args.relations.now (specs_of c.args.hosts.now.names) db c.args.turns gate i.events m d number start mid _ adds i.carried.fit (ap (λ (k : _). fits k d) (sym i.carried.ends) ∙ yes) count i.said c.in_err-commit-in-Commit.ensures.part)
+    (λ (no : fits old.end d ≡ false). part_here c.args.code.now c.args.relations.now (specs_of c.args.hosts.now.names) db c.args.turns gate i.events m start _ i.at i.carried.fit (subst (λ x. Appends start (g.W.Output.emitted x) (printed i.events)) (sym (c.commit.ensures.nothing_done no)) i.said))
     (true_or_false (fits old.end d)))
 
 pub returns-in_err-commit-in-Commit-clause-any_moment : goal.returns-in_err-commit-in-Commit-clause-any_moment
 returns-in_err-commit-in-Commit-clause-any_moment g c =
     let i = c.steps.invariant in
     let m = c.steps.machine in
-    let n = c.step.new.self in
-    let ens = c.in_ok-step.ensures in
+    let n = c.advance.new.self in
+    let ens = c.in_ok-advance.ensures in
     let init = c.args.store.now in
     let db = database_of init in
     let old = c.steps.store in
@@ -234,24 +234,24 @@ returns-in_err-commit-in-Commit-clause-any_moment g c =
     let start = g.W.Output.emitted c.args.outside.now in
     let mid = g.W.Output.emitted c.steps.outside in
     let same = state_read old db (state_after db.state i.events) c.base.result.now c.commits.result.now c.base.ensures.base c.commits.ensures.commits i.carried.stored in
-    let to = stepped c.args.code.now c.args.relations.now (specs_of c.args.hosts.now) db c.args.turns i.events m n (state_over c.base.result.now.state c.commits.result.now) c.in_ok-step.field-0 (events.Commit) i.at same c.in-Commit.is (ens.steps i.at.works) ens.status ens.code ens.relations in
+    let to = stepped c.args.code.now c.args.relations.now (specs_of c.args.hosts.now.names) db c.args.turns i.events m n (state_over c.base.result.now.state c.commits.result.now) c.in_ok-advance.field-0 (events.Commit) i.at same c.in-Commit.is (ens.steps i.at.works) ens.status ens.code ens.relations in
     let d = c.take_pending-delta.result in
     let waits : commit_over (state_after db.state i.events) n.waits n ≡ commits d (machine_over (apply_of (state_after db.state i.events) d) n) = ap (λ o. commit_over (state_after db.state i.events) o n) c.take_pending-delta.ensures.delta in
-    let adds = adds_commit c.args.code.now c.args.relations.now (specs_of c.args.hosts.now) db c.args.turns i.events m n d to waits in
+    let adds = adds_commit c.args.code.now c.args.relations.now (specs_of c.args.hosts.now.names) db c.args.turns i.events m n d to waits in
     let number = length c.commits-in-Commit.result.now - length c.commits-opened.result.now + 1 in
     let now_long : length c.commits-in-Commit.result.now ≡ length old.commits = ap (λ (l : List Delta). length l) c.commits-in-Commit.ensures.commits in
     let count : number ≡ suc (stores i.events) = omega (arith, now_long, i.carried.count) in
     λ told. ⊎_elim
-    (λ (yes : fits old.end d ≡ true). leaves-on _ _ (i.any_moment told) (c.commit.ensures.any_moment told) (λ image cut. cut_commit c.args.code.now c.args.relations.now (specs_of c.args.hosts.now) db c.args.turns gate i.events m d number (database_of old) start mid image adds i.carried.fit (ap (λ (k : _). fits k d) (sym i.carried.ends) ∙ yes) i.carried.stored count i.said cut))
-    (λ (no : fits old.end d ≡ false). subst (λ x. LeavesOnly g.W.Outside.moment g.W.Outside.left_since c.args.outside.now x (IsCodeCut c.args.code.now c.args.relations.now (specs_of c.args.hosts.now) db gate c.args.turns start)) (sym (c.commit.ensures.nothing_done no)) (i.any_moment told))
+    (λ (yes : fits old.end d ≡ true). leaves-on _ _ (i.any_moment told) (c.commit.ensures.any_moment told) (λ image cut. cut_commit c.args.code.now c.args.relations.now (specs_of c.args.hosts.now.names) db c.args.turns gate i.events m d number (database_of old) start mid image adds i.carried.fit (ap (λ (k : _). fits k d) (sym i.carried.ends) ∙ yes) i.carried.stored count i.said cut))
+    (λ (no : fits old.end d ≡ false). subst (λ x. LeavesOnly g.W.Outside.moment g.W.Outside.left_since c.args.outside.now x (IsCodeCut c.args.code.now c.args.relations.now (specs_of c.args.hosts.now.names) db gate c.args.turns start)) (sym (c.commit.ensures.nothing_done no)) (i.any_moment told))
     (true_or_false (fits old.end d))
 
 pub returns-in_err-commit-in-Commit-clause-full : goal.returns-in_err-commit-in-Commit-clause-full
 returns-in_err-commit-in-Commit-clause-full g c =
     let i = c.steps.invariant in
     let m = c.steps.machine in
-    let n = c.step.new.self in
-    let ens = c.in_ok-step.ensures in
+    let n = c.advance.new.self in
+    let ens = c.in_ok-advance.ensures in
     let init = c.args.store.now in
     let db = database_of init in
     let old = c.steps.store in
@@ -259,15 +259,15 @@ returns-in_err-commit-in-Commit-clause-full g c =
     let start = g.W.Output.emitted c.args.outside.now in
     let mid = g.W.Output.emitted c.steps.outside in
     let same = state_read old db (state_after db.state i.events) c.base.result.now c.commits.result.now c.base.ensures.base c.commits.ensures.commits i.carried.stored in
-    let to = stepped c.args.code.now c.args.relations.now (specs_of c.args.hosts.now) db c.args.turns i.events m n (state_over c.base.result.now.state c.commits.result.now) c.in_ok-step.field-0 (events.Commit) i.at same c.in-Commit.is (ens.steps i.at.works) ens.status ens.code ens.relations in
+    let to = stepped c.args.code.now c.args.relations.now (specs_of c.args.hosts.now.names) db c.args.turns i.events m n (state_over c.base.result.now.state c.commits.result.now) c.in_ok-advance.field-0 (events.Commit) i.at same c.in-Commit.is (ens.steps i.at.works) ens.status ens.code ens.relations in
     let d = c.take_pending-delta.result in
     let waits : commit_over (state_after db.state i.events) n.waits n ≡ commits d (machine_over (apply_of (state_after db.state i.events) d) n) = ap (λ o. commit_over (state_after db.state i.events) o n) c.take_pending-delta.ensures.delta in
-    let adds = adds_commit c.args.code.now c.args.relations.now (specs_of c.args.hosts.now) db c.args.turns i.events m n d to waits in
+    let adds = adds_commit c.args.code.now c.args.relations.now (specs_of c.args.hosts.now.names) db c.args.turns i.events m n d to waits in
     let q = err_from_is_err_and c.from_residual-in_err-commit-in-Commit.result c.from_residual-in_err-commit-in-Commit.ensures.1 in
     rw (q.1, q.2)
     (λ h.
     let no : fits old.end d ≡ false = c.commit.ensures.full (c.in_err-commit-in-Commit.was ∙ ap Err (same_error c.in_err-commit-in-Commit.field-0.0 RunFault.Full h)) in
-    done_up_to c.args.code.now c.args.relations.now (specs_of c.args.hosts.now) db c.args.turns gate i.events (committing c.args.code.now c.args.relations.now (specs_of c.args.hosts.now) db c.args.turns i.events d) m (database_of c.commit.new.store) start (g.W.Output.emitted c.commit.new.outside) adds i.carried.fit
+    done_up_to c.args.code.now c.args.relations.now (specs_of c.args.hosts.now.names) db c.args.turns gate i.events (committing c.args.code.now c.args.relations.now (specs_of c.args.hosts.now.names) db c.args.turns i.events d) m (database_of c.commit.new.store) start (g.W.Output.emitted c.commit.new.outside) adds i.carried.fit
     (ap not (ap (λ (k : _). fits k d) (sym i.carried.ends) ∙ no))
     (ap database_of (c.commit.ensures.nothing_full (c.in_err-commit-in-Commit.was ∙ ap Err (same_error c.in_err-commit-in-Commit.field-0.0 RunFault.Full h))) ∙ i.carried.stored)
     (subst (λ x. Appends start (g.W.Output.emitted x) (printed i.events)) (sym (c.commit.ensures.nothing_done no)) i.said))
@@ -276,8 +276,8 @@ pub returns-in_err-say_end-in-Ended-clause-cut : goal.returns-in_err-say_end-in-
 returns-in_err-say_end-in-Ended-clause-cut g c =
     let i = c.steps.invariant in
     let m = c.steps.machine in
-    let n = c.step.new.self in
-    let ens = c.in_ok-step.ensures in
+    let n = c.advance.new.self in
+    let ens = c.in_ok-advance.ensures in
     let init = c.args.store.now in
     let db = database_of init in
     let old = c.steps.store in
@@ -285,16 +285,16 @@ returns-in_err-say_end-in-Ended-clause-cut g c =
     let start = g.W.Output.emitted c.args.outside.now in
     let mid = g.W.Output.emitted c.steps.outside in
     let same = state_read old db (state_after db.state i.events) c.base.result.now c.commits.result.now c.base.ensures.base c.commits.ensures.commits i.carried.stored in
-    let to = stepped c.args.code.now c.args.relations.now (specs_of c.args.hosts.now) db c.args.turns i.events m n (state_over c.base.result.now.state c.commits.result.now) c.in_ok-step.field-0 (events.Ended c.in-Ended.end) i.at same c.in-Ended.is (ens.steps i.at.works) ens.status ens.code ens.relations in
+    let to = stepped c.args.code.now c.args.relations.now (specs_of c.args.hosts.now.names) db c.args.turns i.events m n (state_over c.base.result.now.state c.commits.result.now) c.in_ok-advance.field-0 (events.Ended c.in-Ended.end) i.at same c.in-Ended.is (ens.steps i.at.works) ens.status ens.code ens.relations in
     MatchResult-from_err c.from_residual-in_err-say_end-in-Ended.result _ _ c.from_residual-in_err-say_end-in-Ended.ensures.0
-    (λ _. part_next c.args.code.now c.args.relations.now (specs_of c.args.hosts.now) db c.args.turns gate i.events (ending_of c.in-Ended.end) m start mid _ (adds_end c.args.code.now c.args.relations.now (specs_of c.args.hosts.now) db c.args.turns i.events m n c.in-Ended.end to) i.carried.fit (ending_fits _ c.in-Ended.end) i.said c.in_err-say_end-in-Ended.ensures.part)
+    (λ _. part_next c.args.code.now c.args.relations.now (specs_of c.args.hosts.now.names) db c.args.turns gate i.events (ending_of c.in-Ended.end) m start mid _ (adds_end c.args.code.now c.args.relations.now (specs_of c.args.hosts.now.names) db c.args.turns i.events m n c.in-Ended.end to) i.carried.fit (ending_fits _ c.in-Ended.end) i.said c.in_err-say_end-in-Ended.ensures.part)
 
 pub returns-in_err-say_end-in-Ended-clause-any_moment : goal.returns-in_err-say_end-in-Ended-clause-any_moment
 returns-in_err-say_end-in-Ended-clause-any_moment g c =
     let i = c.steps.invariant in
     let m = c.steps.machine in
-    let n = c.step.new.self in
-    let ens = c.in_ok-step.ensures in
+    let n = c.advance.new.self in
+    let ens = c.in_ok-advance.ensures in
     let init = c.args.store.now in
     let db = database_of init in
     let old = c.steps.store in
@@ -302,15 +302,15 @@ returns-in_err-say_end-in-Ended-clause-any_moment g c =
     let start = g.W.Output.emitted c.args.outside.now in
     let mid = g.W.Output.emitted c.steps.outside in
     let same = state_read old db (state_after db.state i.events) c.base.result.now c.commits.result.now c.base.ensures.base c.commits.ensures.commits i.carried.stored in
-    let to = stepped c.args.code.now c.args.relations.now (specs_of c.args.hosts.now) db c.args.turns i.events m n (state_over c.base.result.now.state c.commits.result.now) c.in_ok-step.field-0 (events.Ended c.in-Ended.end) i.at same c.in-Ended.is (ens.steps i.at.works) ens.status ens.code ens.relations in
-    λ told. leaves-on _ _ (i.any_moment told) (c.say_end.ensures.any_moment told) (λ image cut. cut_next c.args.code.now c.args.relations.now (specs_of c.args.hosts.now) db c.args.turns gate i.events (ending_of c.in-Ended.end) m (database_of old) start mid image (adds_end c.args.code.now c.args.relations.now (specs_of c.args.hosts.now) db c.args.turns i.events m n c.in-Ended.end to) i.carried.fit (ending_fits _ c.in-Ended.end) i.carried.stored i.said cut)
+    let to = stepped c.args.code.now c.args.relations.now (specs_of c.args.hosts.now.names) db c.args.turns i.events m n (state_over c.base.result.now.state c.commits.result.now) c.in_ok-advance.field-0 (events.Ended c.in-Ended.end) i.at same c.in-Ended.is (ens.steps i.at.works) ens.status ens.code ens.relations in
+    λ told. leaves-on _ _ (i.any_moment told) (c.say_end.ensures.any_moment told) (λ image cut. cut_next c.args.code.now c.args.relations.now (specs_of c.args.hosts.now.names) db c.args.turns gate i.events (ending_of c.in-Ended.end) m (database_of old) start mid image (adds_end c.args.code.now c.args.relations.now (specs_of c.args.hosts.now.names) db c.args.turns i.events m n c.in-Ended.end to) i.carried.fit (ending_fits _ c.in-Ended.end) i.carried.stored i.said cut)
 
 pub returns-in-Ended-clause-any_moment : goal.returns-in-Ended-clause-any_moment
 returns-in-Ended-clause-any_moment g c =
     let i = c.steps.invariant in
     let m = c.steps.machine in
-    let n = c.step.new.self in
-    let ens = c.in_ok-step.ensures in
+    let n = c.advance.new.self in
+    let ens = c.in_ok-advance.ensures in
     let init = c.args.store.now in
     let db = database_of init in
     let old = c.steps.store in
@@ -318,15 +318,15 @@ returns-in-Ended-clause-any_moment g c =
     let start = g.W.Output.emitted c.args.outside.now in
     let mid = g.W.Output.emitted c.steps.outside in
     let same = state_read old db (state_after db.state i.events) c.base.result.now c.commits.result.now c.base.ensures.base c.commits.ensures.commits i.carried.stored in
-    let to = stepped c.args.code.now c.args.relations.now (specs_of c.args.hosts.now) db c.args.turns i.events m n (state_over c.base.result.now.state c.commits.result.now) c.in_ok-step.field-0 (events.Ended c.in-Ended.end) i.at same c.in-Ended.is (ens.steps i.at.works) ens.status ens.code ens.relations in
-    λ told. leaves-on _ _ (i.any_moment told) (c.say_end.ensures.any_moment told) (λ image cut. cut_next c.args.code.now c.args.relations.now (specs_of c.args.hosts.now) db c.args.turns gate i.events (ending_of c.in-Ended.end) m (database_of old) start mid image (adds_end c.args.code.now c.args.relations.now (specs_of c.args.hosts.now) db c.args.turns i.events m n c.in-Ended.end to) i.carried.fit (ending_fits _ c.in-Ended.end) i.carried.stored i.said cut)
+    let to = stepped c.args.code.now c.args.relations.now (specs_of c.args.hosts.now.names) db c.args.turns i.events m n (state_over c.base.result.now.state c.commits.result.now) c.in_ok-advance.field-0 (events.Ended c.in-Ended.end) i.at same c.in-Ended.is (ens.steps i.at.works) ens.status ens.code ens.relations in
+    λ told. leaves-on _ _ (i.any_moment told) (c.say_end.ensures.any_moment told) (λ image cut. cut_next c.args.code.now c.args.relations.now (specs_of c.args.hosts.now.names) db c.args.turns gate i.events (ending_of c.in-Ended.end) m (database_of old) start mid image (adds_end c.args.code.now c.args.relations.now (specs_of c.args.hosts.now.names) db c.args.turns i.events m n c.in-Ended.end to) i.carried.fit (ending_fits _ c.in-Ended.end) i.carried.stored i.said cut)
 
 pub returns-in-Ended-clause-whole : goal.returns-in-Ended-clause-whole
 returns-in-Ended-clause-whole g c =
     let i = c.steps.invariant in
     let m = c.steps.machine in
-    let n = c.step.new.self in
-    let ens = c.in_ok-step.ensures in
+    let n = c.advance.new.self in
+    let ens = c.in_ok-advance.ensures in
     let init = c.args.store.now in
     let db = database_of init in
     let old = c.steps.store in
@@ -334,5 +334,5 @@ returns-in-Ended-clause-whole g c =
     let start = g.W.Output.emitted c.args.outside.now in
     let mid = g.W.Output.emitted c.steps.outside in
     let same = state_read old db (state_after db.state i.events) c.base.result.now c.commits.result.now c.base.ensures.base c.commits.ensures.commits i.carried.stored in
-    let to = stepped c.args.code.now c.args.relations.now (specs_of c.args.hosts.now) db c.args.turns i.events m n (state_over c.base.result.now.state c.commits.result.now) c.in_ok-step.field-0 (events.Ended c.in-Ended.end) i.at same c.in-Ended.is (ens.steps i.at.works) ens.status ens.code ens.relations in
-    all_done c.args.code.now c.args.relations.now (specs_of c.args.hosts.now) db c.args.turns gate i.events m n c.in-Ended.end (database_of old) start mid _ to i.carried.fit i.carried.stored i.said c.in_ok-say_end-in-Ended.ensures.whole
+    let to = stepped c.args.code.now c.args.relations.now (specs_of c.args.hosts.now.names) db c.args.turns i.events m n (state_over c.base.result.now.state c.commits.result.now) c.in_ok-advance.field-0 (events.Ended c.in-Ended.end) i.at same c.in-Ended.is (ens.steps i.at.works) ens.status ens.code ens.relations in
+    all_done c.args.code.now c.args.relations.now (specs_of c.args.hosts.now.names) db c.args.turns gate i.events m n c.in-Ended.end (database_of old) start mid _ to i.carried.fit i.carried.stored i.said c.in_ok-say_end-in-Ended.ensures.whole

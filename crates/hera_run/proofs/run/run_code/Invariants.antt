@@ -13,7 +13,7 @@ use Rattle.hera_run.proofs.run.run_code.Given as goal
 abbrev pub invariant-steps : goal.invariant-steps
 invariant-steps g l = record {
   events : List Event;
-  at : IsAt l.code l.relations (specs_of l.hosts) (database_of l.initial.store) l.turns events l.machine;
+  at : IsAt l.code l.relations (specs_of l.hosts.names) (database_of l.initial.store) l.turns events l.machine;
   taken : l.machine.waits ≡ None;
   opens : l.store.closed ≡ false;
   base : l.store.base ≡ l.initial.store.base;
@@ -21,7 +21,7 @@ invariant-steps g l = record {
   said : Appends (g.W.Output.emitted l.initial.outside) (g.W.Output.emitted l.outside) (printed events);
   stands : g.W.Outside.told → StandsFor (g.W.Outside.disk l.outside) l.store;
   any_moment : g.W.Outside.told → LeavesOnly g.W.Outside.moment g.W.Outside.left_since l.initial.outside l.outside
-      (IsCodeCut l.code l.relations (specs_of l.hosts) (database_of l.initial.store) l.initial.store.end l.turns (g.W.Output.emitted l.initial.outside));
+      (IsCodeCut l.code l.relations (specs_of l.hosts.names) (database_of l.initial.store) l.initial.store.end l.turns (g.W.Output.emitted l.initial.outside));
   device : g.W.Outside.device_faults l.outside ≡ g.W.Outside.device_faults l.initial.outside;
   output : g.W.Output.output_faults l.outside ≡ g.W.Output.output_faults l.initial.outside;
 }

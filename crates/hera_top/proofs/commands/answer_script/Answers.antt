@@ -5,7 +5,7 @@ use Rattle.hera_top.specs.Outcome.{refused, outcome_of, refuses, performs}
 use Rattle.hera_top.proofs.commands.answer_script.Goals as goal
 
 pub returns-in-Ok-clause-said : goal.returns-in-Ok-clause-said
-returns-in-Ok-clause-said g c = inl (outcome_of c.args.hosts.now c.args.command (program_of c.in-Ok.program), performs c.requires.short c.in-Ok.ensures.accepted, c.perform-status.ensures.said)
+returns-in-Ok-clause-said g c = inl (outcome_of c.args.hosts.now.names c.args.command (program_of c.in-Ok.program), performs c.requires.short c.in-Ok.ensures.accepted, c.perform-status.ensures.said)
 
 pub returns-in-Err-Refused-clause-said : goal.returns-in-Err-Refused-clause-said
 returns-in-Err-Refused-clause-said g c =

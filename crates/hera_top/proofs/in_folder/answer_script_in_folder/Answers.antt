@@ -4,9 +4,6 @@ use Rattle.hera_top.specs.declared.refusal.Refusal.TheVariants.{Script}
 use Rattle.hera_top.proofs.Opening.{turned_at_once, given_up_at_once}
 use Rattle.hera_top.proofs.in_folder.answer_script_in_folder.Goals as goal
 
-pub perform_in_folder-requires-clause-no_hosts : goal.perform_in_folder-requires-clause-no_hosts
-perform_in_folder-requires-clause-no_hosts g c = c.requires.no_hosts
-
 pub returns-in-Ok-clause-says : goal.returns-in-Ok-clause-says
 returns-in-Ok-clause-says g c = inr (inl (program_of c.in-Ok.program, c.requires.short, c.in-Ok.ensures.accepted, c.perform_in_folder.ensures.says))
 

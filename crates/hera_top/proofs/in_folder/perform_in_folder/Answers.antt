@@ -10,11 +10,8 @@ use Rattle.hera_top.proofs.in_folder.perform_in_folder.Goals as goal
 pub make_database-status-requires : goal.make_database-status-requires
 make_database-status-requires g c = subst IsCatalogue (sym c.deref.ensures.value) c.requires.sound.shaped.relations
 
-pub run_program-requires-clause-no_hosts : goal.run_program-requires-clause-no_hosts
-run_program-requires-clause-no_hosts g c = c.requires.no_hosts c.in-Run.turns c.in-Run.is
-
 pub returns-in-Init-clause-says : goal.returns-in-Init-clause-says
-returns-in-Init-clause-says g c = same_done c.args.hosts.now (program_of c.args.program) Init c.args.command _ _ (sym c.in-Init.is) (made_told c.args.hosts.now (program_of c.args.program) _ _ (same_rels _ _ _ _ c.deref.ensures.value c.make_database-status.ensures.says))
+returns-in-Init-clause-says g c = same_done c.args.hosts.now.names (program_of c.args.program) Init c.args.command _ _ (sym c.in-Init.is) (made_told c.args.hosts.now.names (program_of c.args.program) _ _ (same_rels _ _ _ _ c.deref.ensures.value c.make_database-status.ensures.says))
 
 pub returns-in-Run-clause-says : goal.returns-in-Run-clause-says
-returns-in-Run-clause-says g c = same_done c.args.hosts.now (program_of c.args.program) (Run c.in-Run.turns) c.args.command _ _ (sym c.in-Run.is) c.run_program.ensures.says
+returns-in-Run-clause-says g c = same_done c.args.hosts.now.names (program_of c.args.program) (Run c.in-Run.turns) c.args.command _ _ (sym c.in-Run.is) c.run_program.ensures.says

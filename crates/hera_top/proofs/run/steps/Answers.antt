@@ -9,7 +9,7 @@ use Rattle.hera_machine.specs.Descends.{left, IsLower}
 use Rattle.hera_machine.specs.Standing.{Standing, status_by, WaitsBy}
 use Rattle.hera_machine.proofs.Along.{IsAlong, along_start, along_quiet, along_out, along_commit, along_end}
 use Rattle.hera_volume.proofs.Moments.{leaves-none, leaves-on}
-use Rattle.hera_top.specs.Running.{last_text}
+use Rattle.hera_run.specs.Running.{last_text}
 use Rattle.hera_top.proofs.Lines.{same_said, same_part}
 use Rattle.hera_top.proofs.Saying.{Appends-nothing}
 use Rattle.hera_top.proofs.Running.{comes_nearer, along_part, along_cut, ends_cut, ends_said, image_amid, image_end, stepped}
@@ -23,24 +23,24 @@ steps-init g c =
       device = refl;
       bytes = [];
       said = Appends-nothing _;
-      along = subst (λ (ds : List Delta). IsAlong c.args.code.now c.args.relations.now (specs_of c.args.hosts.now) c.args.base.now.state c.args.turns [] ds c.args.machine.now) (sym c.requires.no_commits)
-          (along_start c.args.code.now c.args.relations.now (specs_of c.args.hosts.now) c.args.base.now.state c.args.turns c.args.machine.now c.requires.start c.requires.works c.requires.code c.requires.relations);
+      along = subst (λ (ds : List Delta). IsAlong c.args.code.now c.args.relations.now (specs_of c.args.hosts.now.names) c.args.base.now.state c.args.turns [] ds c.args.machine.now) (sym c.requires.no_commits)
+          (along_start c.args.code.now c.args.relations.now (specs_of c.args.hosts.now.names) c.args.base.now.state c.args.turns c.args.machine.now c.requires.start c.requires.works c.requires.code c.requires.relations);
       taken = c.requires.nothing_waits;
       any_moment = λ t. leaves-none _ _ _ _;
     }
 
-pub returns-in_err-step-clause-cut : goal.returns-in_err-step-clause-cut
-returns-in_err-step-clause-cut g c =
+pub returns-in_err-advance-clause-cut : goal.returns-in_err-advance-clause-cut
+returns-in_err-advance-clause-cut g c =
     MatchResult-from_err c.from_residual.result _ _ c.from_residual.ensures.0
-    (λ _. along_part c.args.code.now c.args.relations.now (specs_of c.args.hosts.now) c.args.base.now.state c.args.turns _ _ c.steps.invariant.bytes c.steps.commits.items c.steps.machine c.steps.invariant.along c.steps.invariant.said)
+    (λ _. along_part c.args.code.now c.args.relations.now (specs_of c.args.hosts.now.names) c.args.base.now.state c.args.turns _ _ c.steps.invariant.bytes c.steps.commits.items c.steps.machine c.steps.invariant.along c.steps.invariant.said)
 
 pub steps-preserved-in-Quiet : goal.steps-preserved-in-Quiet
 steps-preserved-in-Quiet g c =
     let i = c.steps.invariant in
     let m = c.steps.machine in
-    let n = c.step.new.self in
-    let ens = c.in_ok-step.ensures in
-    let told = stepped c.args.code.now c.args.relations.now (specs_of c.args.hosts.now) c.args.base.now.state c.args.turns m n c.steps.commits.items c.deref.result.now c.in_ok-step.field-0 events.Quiet
+    let n = c.advance.new.self in
+    let ens = c.in_ok-advance.ensures in
+    let told = stepped c.args.code.now c.args.relations.now (specs_of c.args.hosts.now.names) c.args.base.now.state c.args.turns m n c.steps.commits.items c.deref.result.now c.in_ok-advance.field-0 events.Quiet
     c.deref.ensures.value c.in-Quiet.is (ens.steps i.along.works) in
     record {
       still = i.still;
@@ -48,7 +48,7 @@ steps-preserved-in-Quiet g c =
       device = i.device;
       bytes = i.bytes;
       said = i.said;
-      along = along_quiet c.args.code.now c.args.relations.now (specs_of c.args.hosts.now) c.args.base.now.state c.args.turns i.bytes c.steps.commits.items m n i.along told (ens.status ∙ ap (λ e. status_by e) c.in-Quiet.is) ens.code ens.relations;
+      along = along_quiet c.args.code.now c.args.relations.now (specs_of c.args.hosts.now.names) c.args.base.now.state c.args.turns i.bytes c.steps.commits.items m n i.along told (ens.status ∙ ap (λ e. status_by e) c.in-Quiet.is) ens.code ens.relations;
       taken = subst (λ e. WaitsBy n.waits e) c.in-Quiet.is ens.waits;
       any_moment = i.any_moment;
     }
@@ -57,34 +57,34 @@ pub returns-in_err-say-in-Out-clause-cut : goal.returns-in_err-say-in-Out-clause
 returns-in_err-say-in-Out-clause-cut g c =
     let i = c.steps.invariant in
     let m = c.steps.machine in
-    let n = c.step.new.self in
-    let ens = c.in_ok-step.ensures in
-    let told = stepped c.args.code.now c.args.relations.now (specs_of c.args.hosts.now) c.args.base.now.state c.args.turns m n c.steps.commits.items c.deref.result.now c.in_ok-step.field-0 (events.Out c.in-Out.line)
+    let n = c.advance.new.self in
+    let ens = c.in_ok-advance.ensures in
+    let told = stepped c.args.code.now c.args.relations.now (specs_of c.args.hosts.now.names) c.args.base.now.state c.args.turns m n c.steps.commits.items c.deref.result.now c.in_ok-advance.field-0 (events.Out c.in-Out.line)
     c.deref.ensures.value c.in-Out.is (ens.steps i.along.works) in
-    let next = along_out c.args.code.now c.args.relations.now (specs_of c.args.hosts.now) c.args.base.now.state c.args.turns i.bytes c.steps.commits.items m n c.in-Out.line i.along told (ens.status ∙ ap (λ e. status_by e) c.in-Out.is) ens.code ens.relations in
+    let next = along_out c.args.code.now c.args.relations.now (specs_of c.args.hosts.now.names) c.args.base.now.state c.args.turns i.bytes c.steps.commits.items m n c.in-Out.line i.along told (ens.status ∙ ap (λ e. status_by e) c.in-Out.is) ens.code ens.relations in
     MatchResult-from_err c.from_residual-in_err-say-in-Out.result _ _ c.from_residual-in_err-say-in-Out.ensures.0
-    (λ _. along_cut c.args.code.now c.args.relations.now (specs_of c.args.hosts.now) c.args.base.now.state c.args.turns _ _ _ i.bytes c.in-Out.line c.steps.commits.items n next i.said (same_part _ _ _ _ c.bytes.ensures c.in_err-say-in-Out.ensures.part))
+    (λ _. along_cut c.args.code.now c.args.relations.now (specs_of c.args.hosts.now.names) c.args.base.now.state c.args.turns _ _ _ i.bytes c.in-Out.line c.steps.commits.items n next i.said (same_part _ _ _ _ c.bytes.ensures c.in_err-say-in-Out.ensures.part))
 
 pub returns-in_err-say-in-Out-clause-any_moment : goal.returns-in_err-say-in-Out-clause-any_moment
 returns-in_err-say-in-Out-clause-any_moment g c =
     let i = c.steps.invariant in
     let m = c.steps.machine in
-    let n = c.step.new.self in
-    let ens = c.in_ok-step.ensures in
-    let told = stepped c.args.code.now c.args.relations.now (specs_of c.args.hosts.now) c.args.base.now.state c.args.turns m n c.steps.commits.items c.deref.result.now c.in_ok-step.field-0 (events.Out c.in-Out.line)
+    let n = c.advance.new.self in
+    let ens = c.in_ok-advance.ensures in
+    let told = stepped c.args.code.now c.args.relations.now (specs_of c.args.hosts.now.names) c.args.base.now.state c.args.turns m n c.steps.commits.items c.deref.result.now c.in_ok-advance.field-0 (events.Out c.in-Out.line)
     c.deref.ensures.value c.in-Out.is (ens.steps i.along.works) in
-    let next = along_out c.args.code.now c.args.relations.now (specs_of c.args.hosts.now) c.args.base.now.state c.args.turns i.bytes c.steps.commits.items m n c.in-Out.line i.along told (ens.status ∙ ap (λ e. status_by e) c.in-Out.is) ens.code ens.relations in
-    λ t. leaves-on _ _ (i.any_moment t) (c.say.ensures.any_moment t) (image_amid c.args.code.now c.args.relations.now (specs_of c.args.hosts.now) c.args.base.now.state c.args.turns (g.W.Outside.disk c.args.outside.now) (g.W.Outside.disk c.steps.outside) (g.W.Output.emitted c.args.outside.now) (g.W.Output.emitted c.steps.outside) i.bytes c.in-Out.line c.bytes.result.now c.steps.commits.items n next i.said (i.files t) c.bytes.ensures)
+    let next = along_out c.args.code.now c.args.relations.now (specs_of c.args.hosts.now.names) c.args.base.now.state c.args.turns i.bytes c.steps.commits.items m n c.in-Out.line i.along told (ens.status ∙ ap (λ e. status_by e) c.in-Out.is) ens.code ens.relations in
+    λ t. leaves-on _ _ (i.any_moment t) (c.say.ensures.any_moment t) (image_amid c.args.code.now c.args.relations.now (specs_of c.args.hosts.now.names) c.args.base.now.state c.args.turns (g.W.Outside.disk c.args.outside.now) (g.W.Outside.disk c.steps.outside) (g.W.Output.emitted c.args.outside.now) (g.W.Output.emitted c.steps.outside) i.bytes c.in-Out.line c.bytes.result.now c.steps.commits.items n next i.said (i.files t) c.bytes.ensures)
 
 pub steps-preserved-in-Out : goal.steps-preserved-in-Out
 steps-preserved-in-Out g c =
     let i = c.steps.invariant in
     let m = c.steps.machine in
-    let n = c.step.new.self in
-    let ens = c.in_ok-step.ensures in
-    let told = stepped c.args.code.now c.args.relations.now (specs_of c.args.hosts.now) c.args.base.now.state c.args.turns m n c.steps.commits.items c.deref.result.now c.in_ok-step.field-0 (events.Out c.in-Out.line)
+    let n = c.advance.new.self in
+    let ens = c.in_ok-advance.ensures in
+    let told = stepped c.args.code.now c.args.relations.now (specs_of c.args.hosts.now.names) c.args.base.now.state c.args.turns m n c.steps.commits.items c.deref.result.now c.in_ok-advance.field-0 (events.Out c.in-Out.line)
     c.deref.ensures.value c.in-Out.is (ens.steps i.along.works) in
-    let next = along_out c.args.code.now c.args.relations.now (specs_of c.args.hosts.now) c.args.base.now.state c.args.turns i.bytes c.steps.commits.items m n c.in-Out.line i.along told (ens.status ∙ ap (λ e. status_by e) c.in-Out.is) ens.code ens.relations in
+    let next = along_out c.args.code.now c.args.relations.now (specs_of c.args.hosts.now.names) c.args.base.now.state c.args.turns i.bytes c.steps.commits.items m n c.in-Out.line i.along told (ens.status ∙ ap (λ e. status_by e) c.in-Out.is) ens.code ens.relations in
     record {
       still = c.in_ok-say-in-Out.ensures.cause.still ∙ i.still;
       files = λ t f. c.say.ensures.files t f ∙ i.files t f;
@@ -93,129 +93,129 @@ steps-preserved-in-Out g c =
       said = Appends-trans _ _ _ _ _ i.said (same_said _ _ _ _ c.bytes.ensures c.in_ok-say-in-Out.ensures.whole);
       along = next;
       taken = subst (λ e. WaitsBy n.waits e) c.in-Out.is ens.waits;
-      any_moment = λ t. leaves-on _ _ (i.any_moment t) (c.say.ensures.any_moment t) (image_amid c.args.code.now c.args.relations.now (specs_of c.args.hosts.now) c.args.base.now.state c.args.turns (g.W.Outside.disk c.args.outside.now) (g.W.Outside.disk c.steps.outside) (g.W.Output.emitted c.args.outside.now) (g.W.Output.emitted c.steps.outside) i.bytes c.in-Out.line c.bytes.result.now c.steps.commits.items n next i.said (i.files t) c.bytes.ensures);
+      any_moment = λ t. leaves-on _ _ (i.any_moment t) (c.say.ensures.any_moment t) (image_amid c.args.code.now c.args.relations.now (specs_of c.args.hosts.now.names) c.args.base.now.state c.args.turns (g.W.Outside.disk c.args.outside.now) (g.W.Outside.disk c.steps.outside) (g.W.Output.emitted c.args.outside.now) (g.W.Output.emitted c.steps.outside) i.bytes c.in-Out.line c.bytes.result.now c.steps.commits.items n next i.said (i.files t) c.bytes.ensures);
     }
 
 pub returns-in_err-push-in-Commit-clause-cut : goal.returns-in_err-push-in-Commit-clause-cut
 returns-in_err-push-in-Commit-clause-cut g c =
     MatchResult-from_err c.from_residual-in_err-push-in-Commit.result _ _ c.from_residual-in_err-push-in-Commit.ensures.0
-    (λ _. along_part c.args.code.now c.args.relations.now (specs_of c.args.hosts.now) c.args.base.now.state c.args.turns _ _ c.steps.invariant.bytes c.steps.commits.items c.steps.machine c.steps.invariant.along c.steps.invariant.said)
+    (λ _. along_part c.args.code.now c.args.relations.now (specs_of c.args.hosts.now.names) c.args.base.now.state c.args.turns _ _ c.steps.invariant.bytes c.steps.commits.items c.steps.machine c.steps.invariant.along c.steps.invariant.said)
 
-pub returns-in_err-commit_line-in-Commit-clause-cut : goal.returns-in_err-commit_line-in-Commit-clause-cut
-returns-in_err-commit_line-in-Commit-clause-cut g c =
-    MatchResult-from_err c.from_residual-in_err-commit_line-in-Commit.result _ _ c.from_residual-in_err-commit_line-in-Commit.ensures.0
-    (λ _. along_part c.args.code.now c.args.relations.now (specs_of c.args.hosts.now) c.args.base.now.state c.args.turns _ _ c.steps.invariant.bytes c.steps.commits.items c.steps.machine c.steps.invariant.along c.steps.invariant.said)
+pub returns-in_err-line-in-Commit-clause-cut : goal.returns-in_err-line-in-Commit-clause-cut
+returns-in_err-line-in-Commit-clause-cut g c =
+    MatchResult-from_err c.from_residual-in_err-line-in-Commit.result _ _ c.from_residual-in_err-line-in-Commit.ensures.0
+    (λ _. along_part c.args.code.now c.args.relations.now (specs_of c.args.hosts.now.names) c.args.base.now.state c.args.turns _ _ c.steps.invariant.bytes c.steps.commits.items c.steps.machine c.steps.invariant.along c.steps.invariant.said)
 
 pub returns-in_err-say-in-Commit-clause-cut : goal.returns-in_err-say-in-Commit-clause-cut
 returns-in_err-say-in-Commit-clause-cut g c =
     let i = c.steps.invariant in
     let m = c.steps.machine in
-    let n = c.step.new.self in
-    let ens = c.in_ok-step.ensures in
+    let n = c.advance.new.self in
+    let ens = c.in_ok-advance.ensures in
     let d = c.take_pending.result in
     let line = commit_text c.len.result in
-    let told = stepped c.args.code.now c.args.relations.now (specs_of c.args.hosts.now) c.args.base.now.state c.args.turns m n c.steps.commits.items c.deref.result.now c.in_ok-step.field-0 events.Commit
+    let told = stepped c.args.code.now c.args.relations.now (specs_of c.args.hosts.now.names) c.args.base.now.state c.args.turns m n c.steps.commits.items c.deref.result.now c.in_ok-advance.field-0 events.Commit
     c.deref.ensures.value c.in-Commit.is (ens.steps i.along.works) in
     let pushed = c.in_ok-push-in-Commit.ensures.items in
     let long : c.len.result ≡ length (c.steps.commits.items ++ d ∷ []) = c.len.ensures ∙ c.push.new.self.ok.0 ∙ ap (λ (ds : List Delta). length ds) pushed in
-    let next = along_commit c.args.code.now c.args.relations.now (specs_of c.args.hosts.now) c.args.base.now.state c.args.turns i.bytes c.steps.commits.items m n d line i.along told c.take_pending.ensures.delta (ens.status ∙ ap (λ e. status_by e) c.in-Commit.is) ens.code ens.relations (ap commit_text long) in
+    let next = along_commit c.args.code.now c.args.relations.now (specs_of c.args.hosts.now.names) c.args.base.now.state c.args.turns i.bytes c.steps.commits.items m n d line i.along told c.take_pending.ensures.delta (ens.status ∙ ap (λ e. status_by e) c.in-Commit.is) ens.code ens.relations (ap commit_text long) in
     MatchResult-from_err c.from_residual-in_err-say-in-Commit.result _ _ c.from_residual-in_err-say-in-Commit.ensures.0
-    (λ _. along_cut c.args.code.now c.args.relations.now (specs_of c.args.hosts.now) c.args.base.now.state c.args.turns _ _ _ i.bytes line (c.steps.commits.items ++ d ∷ []) (record n { waits = None }) next i.said (same_part _ _ _ _ (c.as_bytes.ensures.value ∙ c.in_ok-commit_line-in-Commit.ensures) c.in_err-say-in-Commit.ensures.part))
+    (λ _. along_cut c.args.code.now c.args.relations.now (specs_of c.args.hosts.now.names) c.args.base.now.state c.args.turns _ _ _ i.bytes line (c.steps.commits.items ++ d ∷ []) (record n { waits = None }) next i.said (same_part _ _ _ _ (c.bytes-in-Commit.ensures ∙ c.in_ok-line-in-Commit.ensures) c.in_err-say-in-Commit.ensures.part))
 
 pub returns-in_err-say-in-Commit-clause-any_moment : goal.returns-in_err-say-in-Commit-clause-any_moment
 returns-in_err-say-in-Commit-clause-any_moment g c =
     let i = c.steps.invariant in
     let m = c.steps.machine in
-    let n = c.step.new.self in
-    let ens = c.in_ok-step.ensures in
+    let n = c.advance.new.self in
+    let ens = c.in_ok-advance.ensures in
     let d = c.take_pending.result in
     let line = commit_text c.len.result in
-    let told = stepped c.args.code.now c.args.relations.now (specs_of c.args.hosts.now) c.args.base.now.state c.args.turns m n c.steps.commits.items c.deref.result.now c.in_ok-step.field-0 events.Commit
+    let told = stepped c.args.code.now c.args.relations.now (specs_of c.args.hosts.now.names) c.args.base.now.state c.args.turns m n c.steps.commits.items c.deref.result.now c.in_ok-advance.field-0 events.Commit
     c.deref.ensures.value c.in-Commit.is (ens.steps i.along.works) in
     let pushed = c.in_ok-push-in-Commit.ensures.items in
     let long : c.len.result ≡ length (c.steps.commits.items ++ d ∷ []) = c.len.ensures ∙ c.push.new.self.ok.0 ∙ ap (λ (ds : List Delta). length ds) pushed in
-    let next = along_commit c.args.code.now c.args.relations.now (specs_of c.args.hosts.now) c.args.base.now.state c.args.turns i.bytes c.steps.commits.items m n d line i.along told c.take_pending.ensures.delta (ens.status ∙ ap (λ e. status_by e) c.in-Commit.is) ens.code ens.relations (ap commit_text long) in
-    λ t. leaves-on _ _ (i.any_moment t) (c.say-in-Commit.ensures.any_moment t) (image_amid c.args.code.now c.args.relations.now (specs_of c.args.hosts.now) c.args.base.now.state c.args.turns (g.W.Outside.disk c.args.outside.now) (g.W.Outside.disk c.steps.outside) (g.W.Output.emitted c.args.outside.now) (g.W.Output.emitted c.steps.outside) i.bytes line c.as_bytes.result.now (c.steps.commits.items ++ d ∷ []) (record n { waits = None }) next i.said (i.files t) (c.as_bytes.ensures.value ∙ c.in_ok-commit_line-in-Commit.ensures))
+    let next = along_commit c.args.code.now c.args.relations.now (specs_of c.args.hosts.now.names) c.args.base.now.state c.args.turns i.bytes c.steps.commits.items m n d line i.along told c.take_pending.ensures.delta (ens.status ∙ ap (λ e. status_by e) c.in-Commit.is) ens.code ens.relations (ap commit_text long) in
+    λ t. leaves-on _ _ (i.any_moment t) (c.say-in-Commit.ensures.any_moment t) (image_amid c.args.code.now c.args.relations.now (specs_of c.args.hosts.now.names) c.args.base.now.state c.args.turns (g.W.Outside.disk c.args.outside.now) (g.W.Outside.disk c.steps.outside) (g.W.Output.emitted c.args.outside.now) (g.W.Output.emitted c.steps.outside) i.bytes line c.bytes-in-Commit.result.now (c.steps.commits.items ++ d ∷ []) (record n { waits = None }) next i.said (i.files t) (c.bytes-in-Commit.ensures ∙ c.in_ok-line-in-Commit.ensures))
 
 pub steps-preserved : goal.steps-preserved
 steps-preserved g c =
     let i = c.steps.invariant in
     let m = c.steps.machine in
-    let n = c.step.new.self in
-    let ens = c.in_ok-step.ensures in
+    let n = c.advance.new.self in
+    let ens = c.in_ok-advance.ensures in
     let d = c.take_pending.result in
     let line = commit_text c.len.result in
-    let told = stepped c.args.code.now c.args.relations.now (specs_of c.args.hosts.now) c.args.base.now.state c.args.turns m n c.steps.commits.items c.deref.result.now c.in_ok-step.field-0 events.Commit
+    let told = stepped c.args.code.now c.args.relations.now (specs_of c.args.hosts.now.names) c.args.base.now.state c.args.turns m n c.steps.commits.items c.deref.result.now c.in_ok-advance.field-0 events.Commit
     c.deref.ensures.value c.in-Commit.is (ens.steps i.along.works) in
     let pushed = c.in_ok-push-in-Commit.ensures.items in
     let long : c.len.result ≡ length (c.steps.commits.items ++ d ∷ []) = c.len.ensures ∙ c.push.new.self.ok.0 ∙ ap (λ (ds : List Delta). length ds) pushed in
-    let next = along_commit c.args.code.now c.args.relations.now (specs_of c.args.hosts.now) c.args.base.now.state c.args.turns i.bytes c.steps.commits.items m n d line i.along told c.take_pending.ensures.delta (ens.status ∙ ap (λ e. status_by e) c.in-Commit.is) ens.code ens.relations (ap commit_text long) in
+    let next = along_commit c.args.code.now c.args.relations.now (specs_of c.args.hosts.now.names) c.args.base.now.state c.args.turns i.bytes c.steps.commits.items m n d line i.along told c.take_pending.ensures.delta (ens.status ∙ ap (λ e. status_by e) c.in-Commit.is) ens.code ens.relations (ap commit_text long) in
     record {
       still = c.in_ok-say-in-Commit.ensures.cause.still ∙ i.still;
       files = λ t f. c.say-in-Commit.ensures.files t f ∙ i.files t f;
       device = c.say-in-Commit.ensures.device ∙ i.device;
       bytes = i.bytes ++ line;
-      said = Appends-trans _ _ _ _ _ i.said (same_said _ _ _ _ (c.as_bytes.ensures.value ∙ c.in_ok-commit_line-in-Commit.ensures) c.in_ok-say-in-Commit.ensures.whole);
-      along = subst (λ (x : Standing). IsAlong c.args.code.now c.args.relations.now (specs_of c.args.hosts.now) c.args.base.now.state c.args.turns (i.bytes ++ line) c.push.new.self.items x) (sym c.take_pending.ensures.taken)
-          (subst (λ (ds : List Delta). IsAlong c.args.code.now c.args.relations.now (specs_of c.args.hosts.now) c.args.base.now.state c.args.turns (i.bytes ++ line) ds (record n { waits = None })) (sym pushed) next);
+      said = Appends-trans _ _ _ _ _ i.said (same_said _ _ _ _ (c.bytes-in-Commit.ensures ∙ c.in_ok-line-in-Commit.ensures) c.in_ok-say-in-Commit.ensures.whole);
+      along = subst (λ (x : Standing). IsAlong c.args.code.now c.args.relations.now (specs_of c.args.hosts.now.names) c.args.base.now.state c.args.turns (i.bytes ++ line) c.push.new.self.items x) (sym c.take_pending.ensures.taken)
+          (subst (λ (ds : List Delta). IsAlong c.args.code.now c.args.relations.now (specs_of c.args.hosts.now.names) c.args.base.now.state c.args.turns (i.bytes ++ line) ds (record n { waits = None })) (sym pushed) next);
       taken = ap (λ (x : Standing). x.waits) c.take_pending.ensures.taken;
-      any_moment = λ t. leaves-on _ _ (i.any_moment t) (c.say-in-Commit.ensures.any_moment t) (image_amid c.args.code.now c.args.relations.now (specs_of c.args.hosts.now) c.args.base.now.state c.args.turns (g.W.Outside.disk c.args.outside.now) (g.W.Outside.disk c.steps.outside) (g.W.Output.emitted c.args.outside.now) (g.W.Output.emitted c.steps.outside) i.bytes line c.as_bytes.result.now (c.steps.commits.items ++ d ∷ []) (record n { waits = None }) next i.said (i.files t) (c.as_bytes.ensures.value ∙ c.in_ok-commit_line-in-Commit.ensures));
+      any_moment = λ t. leaves-on _ _ (i.any_moment t) (c.say-in-Commit.ensures.any_moment t) (image_amid c.args.code.now c.args.relations.now (specs_of c.args.hosts.now.names) c.args.base.now.state c.args.turns (g.W.Outside.disk c.args.outside.now) (g.W.Outside.disk c.steps.outside) (g.W.Output.emitted c.args.outside.now) (g.W.Output.emitted c.steps.outside) i.bytes line c.bytes-in-Commit.result.now (c.steps.commits.items ++ d ∷ []) (record n { waits = None }) next i.said (i.files t) (c.bytes-in-Commit.ensures ∙ c.in_ok-line-in-Commit.ensures));
     }
 
 pub steps-smaller : goal.steps-smaller
 steps-smaller g c =
     let m = c.steps.machine in
-    let n = c.step.new.self in
+    let n = c.advance.new.self in
     let lower : IsLower (length c.args.code.now.instrs) m.state n.state =
-    comes_nearer c.args.code.now c.args.relations.now (specs_of c.args.hosts.now) c.args.base.now.state c.args.turns m n c.in_ok-step.field-0 events.Commit c.steps.invariant.along.code_is c.requires.forward c.in_ok-step.ensures.nearer c.in-Commit.is in
+    comes_nearer c.args.code.now c.args.relations.now (specs_of c.args.hosts.now.names) c.args.base.now.state c.args.turns m n c.in_ok-advance.field-0 events.Commit c.steps.invariant.along.code_is c.requires.forward c.in_ok-advance.ensures.nearer c.in-Commit.is in
     subst (λ (x : Standing). left (length c.args.code.now.instrs) x.state < left (length c.args.code.now.instrs) m.state) (sym c.take_pending.ensures.taken) lower.less_left
 
 pub returns-in_err-line-in-Ended-clause-cut : goal.returns-in_err-line-in-Ended-clause-cut
 returns-in_err-line-in-Ended-clause-cut g c =
     MatchResult-from_err c.from_residual-in_err-line-in-Ended.result _ _ c.from_residual-in_err-line-in-Ended.ensures.0
-    (λ _. along_part c.args.code.now c.args.relations.now (specs_of c.args.hosts.now) c.args.base.now.state c.args.turns _ _ c.steps.invariant.bytes c.steps.commits.items c.steps.machine c.steps.invariant.along c.steps.invariant.said)
+    (λ _. along_part c.args.code.now c.args.relations.now (specs_of c.args.hosts.now.names) c.args.base.now.state c.args.turns _ _ c.steps.invariant.bytes c.steps.commits.items c.steps.machine c.steps.invariant.along c.steps.invariant.said)
 
 pub returns-in_err-say-in-Ended-clause-cut : goal.returns-in_err-say-in-Ended-clause-cut
 returns-in_err-say-in-Ended-clause-cut g c =
     let i = c.steps.invariant in
     let m = c.steps.machine in
-    let n = c.step.new.self in
-    let ens = c.in_ok-step.ensures in
-    let told = stepped c.args.code.now c.args.relations.now (specs_of c.args.hosts.now) c.args.base.now.state c.args.turns m n c.steps.commits.items c.deref.result.now c.in_ok-step.field-0 (events.Ended c.in-Ended.end)
+    let n = c.advance.new.self in
+    let ens = c.in_ok-advance.ensures in
+    let told = stepped c.args.code.now c.args.relations.now (specs_of c.args.hosts.now.names) c.args.base.now.state c.args.turns m n c.steps.commits.items c.deref.result.now c.in_ok-advance.field-0 (events.Ended c.in-Ended.end)
     c.deref.ensures.value c.in-Ended.is (ens.steps i.along.works) in
-    let ends = along_end c.args.code.now c.args.relations.now (specs_of c.args.hosts.now) c.args.base.now.state c.args.turns i.bytes c.steps.commits.items m n c.in-Ended.end i.along told in
+    let ends = along_end c.args.code.now c.args.relations.now (specs_of c.args.hosts.now.names) c.args.base.now.state c.args.turns i.bytes c.steps.commits.items m n c.in-Ended.end i.along told in
     MatchResult-from_err c.from_residual-in_err-say-in-Ended.result _ _ c.from_residual-in_err-say-in-Ended.ensures.0
-    (λ _. ends_cut c.args.code.now c.args.relations.now (specs_of c.args.hosts.now) c.args.base.now.state c.args.turns _ _ _ i.bytes c.steps.commits.items c.in-Ended.end ends i.said (same_part _ _ _ _ (c.bytes-in-Ended.ensures ∙ c.in_ok-line-in-Ended.ensures) c.in_err-say-in-Ended.ensures.part))
+    (λ _. ends_cut c.args.code.now c.args.relations.now (specs_of c.args.hosts.now.names) c.args.base.now.state c.args.turns _ _ _ i.bytes c.steps.commits.items c.in-Ended.end ends i.said (same_part _ _ _ _ (c.bytes-in-Ended.ensures ∙ c.in_ok-line-in-Ended.ensures) c.in_err-say-in-Ended.ensures.part))
 
 pub returns-in_err-say-in-Ended-clause-any_moment : goal.returns-in_err-say-in-Ended-clause-any_moment
 returns-in_err-say-in-Ended-clause-any_moment g c =
     let i = c.steps.invariant in
     let m = c.steps.machine in
-    let n = c.step.new.self in
-    let ens = c.in_ok-step.ensures in
-    let told = stepped c.args.code.now c.args.relations.now (specs_of c.args.hosts.now) c.args.base.now.state c.args.turns m n c.steps.commits.items c.deref.result.now c.in_ok-step.field-0 (events.Ended c.in-Ended.end)
+    let n = c.advance.new.self in
+    let ens = c.in_ok-advance.ensures in
+    let told = stepped c.args.code.now c.args.relations.now (specs_of c.args.hosts.now.names) c.args.base.now.state c.args.turns m n c.steps.commits.items c.deref.result.now c.in_ok-advance.field-0 (events.Ended c.in-Ended.end)
     c.deref.ensures.value c.in-Ended.is (ens.steps i.along.works) in
-    let ends = along_end c.args.code.now c.args.relations.now (specs_of c.args.hosts.now) c.args.base.now.state c.args.turns i.bytes c.steps.commits.items m n c.in-Ended.end i.along told in
-    λ t. leaves-on _ _ (i.any_moment t) (c.say-in-Ended.ensures.any_moment t) (image_end c.args.code.now c.args.relations.now (specs_of c.args.hosts.now) c.args.base.now.state c.args.turns (g.W.Outside.disk c.args.outside.now) (g.W.Outside.disk c.steps.outside) (g.W.Output.emitted c.args.outside.now) (g.W.Output.emitted c.steps.outside) i.bytes c.bytes-in-Ended.result.now c.steps.commits.items c.in-Ended.end ends i.said (i.files t) (c.bytes-in-Ended.ensures ∙ c.in_ok-line-in-Ended.ensures))
+    let ends = along_end c.args.code.now c.args.relations.now (specs_of c.args.hosts.now.names) c.args.base.now.state c.args.turns i.bytes c.steps.commits.items m n c.in-Ended.end i.along told in
+    λ t. leaves-on _ _ (i.any_moment t) (c.say-in-Ended.ensures.any_moment t) (image_end c.args.code.now c.args.relations.now (specs_of c.args.hosts.now.names) c.args.base.now.state c.args.turns (g.W.Outside.disk c.args.outside.now) (g.W.Outside.disk c.steps.outside) (g.W.Output.emitted c.args.outside.now) (g.W.Output.emitted c.steps.outside) i.bytes c.bytes-in-Ended.result.now c.steps.commits.items c.in-Ended.end ends i.said (i.files t) (c.bytes-in-Ended.ensures ∙ c.in_ok-line-in-Ended.ensures))
 
 pub returns-in-Ended-clause-whole : goal.returns-in-Ended-clause-whole
 returns-in-Ended-clause-whole g c =
     let i = c.steps.invariant in
     let m = c.steps.machine in
-    let n = c.step.new.self in
-    let ens = c.in_ok-step.ensures in
-    let told = stepped c.args.code.now c.args.relations.now (specs_of c.args.hosts.now) c.args.base.now.state c.args.turns m n c.steps.commits.items c.deref.result.now c.in_ok-step.field-0 (events.Ended c.in-Ended.end)
+    let n = c.advance.new.self in
+    let ens = c.in_ok-advance.ensures in
+    let told = stepped c.args.code.now c.args.relations.now (specs_of c.args.hosts.now.names) c.args.base.now.state c.args.turns m n c.steps.commits.items c.deref.result.now c.in_ok-advance.field-0 (events.Ended c.in-Ended.end)
     c.deref.ensures.value c.in-Ended.is (ens.steps i.along.works) in
-    let ends = along_end c.args.code.now c.args.relations.now (specs_of c.args.hosts.now) c.args.base.now.state c.args.turns i.bytes c.steps.commits.items m n c.in-Ended.end i.along told in
-    ends_said c.args.code.now c.args.relations.now (specs_of c.args.hosts.now) c.args.base.now.state c.args.turns _ _ _ i.bytes c.steps.commits.items c.in-Ended.end ends i.said (same_said _ _ _ _ (c.bytes-in-Ended.ensures ∙ c.in_ok-line-in-Ended.ensures) c.in_ok-say-in-Ended.ensures.whole)
+    let ends = along_end c.args.code.now c.args.relations.now (specs_of c.args.hosts.now.names) c.args.base.now.state c.args.turns i.bytes c.steps.commits.items m n c.in-Ended.end i.along told in
+    ends_said c.args.code.now c.args.relations.now (specs_of c.args.hosts.now.names) c.args.base.now.state c.args.turns _ _ _ i.bytes c.steps.commits.items c.in-Ended.end ends i.said (same_said _ _ _ _ (c.bytes-in-Ended.ensures ∙ c.in_ok-line-in-Ended.ensures) c.in_ok-say-in-Ended.ensures.whole)
 
 pub returns-in-Ended-clause-any_moment : goal.returns-in-Ended-clause-any_moment
 returns-in-Ended-clause-any_moment g c =
     let i = c.steps.invariant in
     let m = c.steps.machine in
-    let n = c.step.new.self in
-    let ens = c.in_ok-step.ensures in
-    let told = stepped c.args.code.now c.args.relations.now (specs_of c.args.hosts.now) c.args.base.now.state c.args.turns m n c.steps.commits.items c.deref.result.now c.in_ok-step.field-0 (events.Ended c.in-Ended.end)
+    let n = c.advance.new.self in
+    let ens = c.in_ok-advance.ensures in
+    let told = stepped c.args.code.now c.args.relations.now (specs_of c.args.hosts.now.names) c.args.base.now.state c.args.turns m n c.steps.commits.items c.deref.result.now c.in_ok-advance.field-0 (events.Ended c.in-Ended.end)
     c.deref.ensures.value c.in-Ended.is (ens.steps i.along.works) in
-    let ends = along_end c.args.code.now c.args.relations.now (specs_of c.args.hosts.now) c.args.base.now.state c.args.turns i.bytes c.steps.commits.items m n c.in-Ended.end i.along told in
-    λ t. leaves-on _ _ (i.any_moment t) (c.say-in-Ended.ensures.any_moment t) (image_end c.args.code.now c.args.relations.now (specs_of c.args.hosts.now) c.args.base.now.state c.args.turns (g.W.Outside.disk c.args.outside.now) (g.W.Outside.disk c.steps.outside) (g.W.Output.emitted c.args.outside.now) (g.W.Output.emitted c.steps.outside) i.bytes c.bytes-in-Ended.result.now c.steps.commits.items c.in-Ended.end ends i.said (i.files t) (c.bytes-in-Ended.ensures ∙ c.in_ok-line-in-Ended.ensures))
+    let ends = along_end c.args.code.now c.args.relations.now (specs_of c.args.hosts.now.names) c.args.base.now.state c.args.turns i.bytes c.steps.commits.items m n c.in-Ended.end i.along told in
+    λ t. leaves-on _ _ (i.any_moment t) (c.say-in-Ended.ensures.any_moment t) (image_end c.args.code.now c.args.relations.now (specs_of c.args.hosts.now.names) c.args.base.now.state c.args.turns (g.W.Outside.disk c.args.outside.now) (g.W.Outside.disk c.steps.outside) (g.W.Output.emitted c.args.outside.now) (g.W.Output.emitted c.steps.outside) i.bytes c.bytes-in-Ended.result.now c.steps.commits.items c.in-Ended.end ends i.said (i.files t) (c.bytes-in-Ended.ensures ∙ c.in_ok-line-in-Ended.ensures))

@@ -15,10 +15,10 @@ invariant-steps g l = record {
   device : g.W.Outside.device_faults l.outside ≡ g.W.Outside.device_faults l.initial.outside;
   bytes : List ℕ;
   said : Appends (g.W.Output.emitted l.initial.outside) (g.W.Output.emitted l.outside) bytes;
-  along : IsAlong l.code l.relations (specs_of l.hosts) l.base.state l.turns bytes l.commits.items l.machine;
+  along : IsAlong l.code l.relations (specs_of l.hosts.names) l.base.state l.turns bytes l.commits.items l.machine;
   taken : l.machine.waits ≡ None;
   any_moment : g.W.Outside.told → LeavesOnly g.W.Outside.moment g.W.Outside.left_since l.initial.outside l.outside
-      (IsRunImage l.code l.relations (specs_of l.hosts) l.base.state l.turns (g.W.Outside.disk l.initial.outside) (g.W.Output.emitted l.initial.outside));
+      (IsRunImage l.code l.relations (specs_of l.hosts.names) l.base.state l.turns (g.W.Outside.disk l.initial.outside) (g.W.Output.emitted l.initial.outside));
 }
 
 abbrev pub decreases-steps : goal.decreases-steps

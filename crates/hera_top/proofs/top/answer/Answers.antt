@@ -13,7 +13,7 @@ returns-in-Ok-clause-answers g c =
     let (bytes, came) = c.in-Ok.ensures.came in
     let is : bytes ≡ c.deref.result.now = sym came.ended.0 ∙ sym c.deref.ensures.value in
     let read : IsRead (g.S.Source.left c.args.source.now) (g.S.Source.left c.read_all.new.src) bytes = record { consumed = came.consumed; ended = inl came.ended.2 } in
-    read_said c.args.hosts.now c.args.command _ _ c.deref.result.now _ _ (subst (λ (l : List ℕ). IsRead (g.S.Source.left c.args.source.now) (g.S.Source.left c.read_all.new.src) l) is read) (c.in-Ok.ensures.still (λ h. cc (h))) c.answer_script.ensures.said
+    read_said c.args.hosts.now.names c.args.command _ _ c.deref.result.now _ _ (subst (λ (l : List ℕ). IsRead (g.S.Source.left c.args.source.now) (g.S.Source.left c.read_all.new.src) l) is read) (c.in-Ok.ensures.still (λ h. cc (h))) c.answer_script.ensures.said
 
 pub returns-in-Err-Fault-clause-answers : goal.returns-in-Err-Fault-clause-answers
 returns-in-Err-Fault-clause-answers g c =

@@ -8,14 +8,15 @@ use Rattle.hera_top.proofs.words.read_words.Goals as goal
 pub returns-in-len2 : goal.returns-in-len2
 returns-in-len2 c =
     c.short_command.ensures
-    ∙ two_words c.as_slice.result.now c.name-item.result c.as_str.result.now (omega (arith, c.in-len2.len_at_least, c.in-len2.len_below)) c.name-item.is c.as_str.ensures.value
+    ∙ two_words c.as_slice.result.now c.name-item.result c.word-item.result c.as_str.result.now c.as_str-in-len2.result.now (omega (arith, c.in-len2.len_at_least, c.in-len2.len_below))
+    c.name-item.is c.word-item.is c.as_str.ensures.value c.as_str-in-len2.ensures.value
     ∙ ap (λ (l : List (String Global)). command_of (words_of l)) c.as_slice.ensures.value
 
 pub returns-in-len3 : goal.returns-in-len3
 returns-in-len3 c =
     c.long_command.ensures
-    ∙ three_words c.as_slice.result.now c.name-item-then-this-lt4.result c.word-item.result c.as_str-in-len3.result.now c.as_str-in-len3-2.result.now (omega (arith, c.in-len3.len_at_least, c.in-len3.len_below))
-    c.name-item-then-this-lt4.is c.word-item.is c.as_str-in-len3.ensures.value c.as_str-in-len3-2.ensures.value
+    ∙ three_words c.as_slice.result.now c.name-item-then-this-lt4.result c.word-item-then-this-lt4.result c.as_str-in-len3.result.now c.as_str-in-len3-2.result.now (omega (arith, c.in-len3.len_at_least, c.in-len3.len_below))
+    c.name-item-then-this-lt4.is c.word-item-then-this-lt4.is c.as_str-in-len3.ensures.value c.as_str-in-len3-2.ensures.value
     ∙ ap (λ (l : List (String Global)). command_of (words_of l)) c.as_slice.ensures.value
 
 pub returns-in-len4 : goal.returns-in-len4

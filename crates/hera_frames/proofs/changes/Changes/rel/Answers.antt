@@ -1,10 +1,9 @@
-use Rattle.std.proofs.Common.{◌≡◌, ◌-◌, ◌++◌, ◌∙◌, ap, sym, length, Some, arith}
-use Rattle.std.specs.Prelude.{slice_get, min}
+use Rattle.std.proofs.Common.{◌<◌, ◌∙◌, ap, sym, subst, length}
+use Rattle.std.specs.Prelude.{slice_get}
 use Rattle.when_overlay.specs.Changed.{after_all}
-use Rattle.when_overlay.specs.Layered.{path}
-use Rattle.hera_frames.specs.Chained.{Reading, whens_of}
-use Rattle.hera_frames.specs.Walking.{seen_at}
-use Rattle.hera_frames.proofs.Chaining.{whens-length, chain_state}
+use Rattle.when_overlay.specs.Layered.{AreLayers}
+use Rattle.hera_frames.specs.Branched.{Branches, seen_at}
+use Rattle.hera_frames.proofs.Branching.{read_state}
 use Rattle.hera_frames.proofs.changes.Changes.rel.Goals as goal
 
 pub returns : goal.returns
@@ -12,9 +11,9 @@ returns c =
     let s = c.args.base.now.state in
     let commits = c.args.commits.now in
     let ls = c.self.inside.layers.layers in
-    let long = whens-length ls c.self.invariant in
-    let last : c.len-newest.result - 1 ≡ length (whens_of ls) = omega (arith, long, c.len-newest.ensures.count) in
-    ap (λ (r : Reading). slice_get (seen_at (after_all s commits) r.pending r.layers c.args.tip) c.args.rel.0) (sym c.self.view_is)
-    ∙ ap (λ t. slice_get t c.args.rel.0) (sym (chain_state s commits ls c.args.tip c.self.invariant))
-    ∙ ap (λ n. slice_get (after_all s (commits ++ path ls (Some n))) c.args.rel.0) (sym (c.min.ensures ∙ ap (min c.args.tip) last))
+    let valid = subst (λ (r : Branches). AreLayers r.layers) (sym c.self.view_is) c.there.ensures.valid in
+    let within = subst (λ (r : Branches). c.there.result < length r.layers) (sym c.self.view_is) c.there.ensures.within in
+    ap (λ t. slice_get t c.args.rel.0) (sym (c.there.ensures.seen (after_all s commits)))
+    ∙ ap (λ (r : Branches). slice_get (seen_at (after_all s commits) r.layers c.there.result) c.args.rel.0) (sym c.self.view_is)
+    ∙ ap (λ t. slice_get t c.args.rel.0) (sym (read_state s commits ls c.there.result c.self.invariant.0 valid within))
     ∙ c.rel.ensures

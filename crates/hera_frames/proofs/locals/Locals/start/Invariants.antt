@@ -1,9 +1,9 @@
 use Rattle.std.proofs.Common.{◌≡◌, ◌++◌, length, map}
-use Rattle.delta_atoms.specs.Plain.{value_of}
+use Rattle.hera_frames.specs.Items.{plain_of}
 use Rattle.hera_frames.proofs.locals.Locals.start.Given as goal
 
 abbrev pub invariant-loop-v : goal.invariant-loop-v
-invariant-loop-v l = map value_of l.items.items ++ l.args ≡ l.initial.args
+invariant-loop-v l = map plain_of l.items.items ++ l.args ≡ l.initial.args
 
 abbrev pub decreases-loop-v : goal.decreases-loop-v
 decreases-loop-v l = length l.args

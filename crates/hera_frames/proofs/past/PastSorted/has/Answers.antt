@@ -1,6 +1,6 @@
 use Rattle.std.proofs.Common.{◌≡◌, ◌∙◌, ◌&&◌, Bool, true, false, refl, ap, sym}
 use Rattle.std.specs.Option.{option_copied}
-use Rattle.hera_sets.specs.Rows.{is_past, holds}
+use Rattle.hera_sets.specs.Rows.{is_past}
 use Rattle.hera_sets.proofs.Lists.{ascending_filter}
 use Rattle.hera_sets.proofs.Members.{holds-filter}
 use Rattle.hera_frames.proofs.past.PastSorted.has.Goals as goal

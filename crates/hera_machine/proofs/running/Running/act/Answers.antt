@@ -1,70 +1,100 @@
 use Rattle.hera_host.specs.Tables.{specs_of}
 use Rattle.hera_machine.specs.Over.{state_over}
 use Rattle.hera_machine.specs.Working.{machine_at}
-use Rattle.hera_machine.proofs.Changing.{told_by}
+use Rattle.hera_machine.proofs.Instructing.{told_by}
 use Rattle.hera_machine.proofs.running.Running.act.Goals as goal
 
-pub returns-in-Store : goal.returns-in-Store
-returns-in-Store c =
+pub returns-in-Store-clause-act : goal.returns-in-Store-clause-act
+returns-in-Store-clause-act g c =
     let s = state_over c.args.base.now.state c.args.commits.now in
-    told_by c.store.result s c.args.code.now c.args.relations.now (specs_of c.args.hosts.now) (machine_at s c.args.self.now) c.store.new.self c.args.instr.now _ c.in-Store.is (c.store.ensures s)
+    told_by c.store.result s c.args.code.now c.args.relations.now (specs_of c.args.hosts.now.names) (machine_at s c.args.self.now) c.store.new.self c.args.instr.now _ c.in-Store.is c.store.ensures
 
-pub returns-in-Prim : goal.returns-in-Prim
-returns-in-Prim c =
+pub returns-in-Prim-clause-act : goal.returns-in-Prim-clause-act
+returns-in-Prim-clause-act g c =
     let s = state_over c.args.base.now.state c.args.commits.now in
-    told_by c.prim.result s c.args.code.now c.args.relations.now (specs_of c.args.hosts.now) (machine_at s c.args.self.now) c.prim.new.self c.args.instr.now _ c.in-Prim.is (c.prim.ensures s)
+    told_by c.prim.result s c.args.code.now c.args.relations.now (specs_of c.args.hosts.now.names) (machine_at s c.args.self.now) c.prim.new.self c.args.instr.now _ c.in-Prim.is c.prim.ensures.step
 
-pub returns-in-Host : goal.returns-in-Host
-returns-in-Host c =
+pub returns-in-Host-clause-act : goal.returns-in-Host-clause-act
+returns-in-Host-clause-act g c =
     let s = state_over c.args.base.now.state c.args.commits.now in
-    told_by c.host.result s c.args.code.now c.args.relations.now (specs_of c.args.hosts.now) (machine_at s c.args.self.now) c.host.new.self c.args.instr.now _ c.in-Host.is (c.host.ensures s)
+    told_by c.host.result s c.args.code.now c.args.relations.now (specs_of c.args.hosts.now.names) (machine_at s c.args.self.now) c.host.new.self c.args.instr.now _ c.in-Host.is (c.host.ensures s)
 
-pub returns-in-Unless : goal.returns-in-Unless
-returns-in-Unless c =
+pub returns-in-Unless-clause-act : goal.returns-in-Unless-clause-act
+returns-in-Unless-clause-act g c =
     let s = state_over c.args.base.now.state c.args.commits.now in
-    told_by c.unless.result s c.args.code.now c.args.relations.now (specs_of c.args.hosts.now) (machine_at s c.args.self.now) c.unless.new.self c.args.instr.now _ c.in-Unless.is (c.unless.ensures s)
+    told_by c.unless.result s c.args.code.now c.args.relations.now (specs_of c.args.hosts.now.names) (machine_at s c.args.self.now) c.unless.new.self c.args.instr.now _ c.in-Unless.is (c.unless.ensures s)
 
-pub returns-in-Back : goal.returns-in-Back
-returns-in-Back c =
+pub returns-in-Back-clause-act : goal.returns-in-Back-clause-act
+returns-in-Back-clause-act g c =
     let s = state_over c.args.base.now.state c.args.commits.now in
-    told_by c.back.result s c.args.code.now c.args.relations.now (specs_of c.args.hosts.now) (machine_at s c.args.self.now) c.back.new.self c.args.instr.now _ c.in-Back.is (c.back.ensures s)
+    told_by c.back.result s c.args.code.now c.args.relations.now (specs_of c.args.hosts.now.names) (machine_at s c.args.self.now) c.back.new.self c.args.instr.now _ c.in-Back.is (c.back.ensures s)
 
-pub returns-in-Walk : goal.returns-in-Walk
-returns-in-Walk c =
+pub returns-in-Walk-clause-act : goal.returns-in-Walk-clause-act
+returns-in-Walk-clause-act g c =
     let s = state_over c.args.base.now.state c.args.commits.now in
-    told_by c.open_walk.result s c.args.code.now c.args.relations.now (specs_of c.args.hosts.now) (machine_at s c.args.self.now) c.open_walk.new.self c.args.instr.now _ c.in-Walk.is (c.open_walk.ensures s)
+    told_by c.open_walk.result s c.args.code.now c.args.relations.now (specs_of c.args.hosts.now.names) (machine_at s c.args.self.now) c.open_walk.new.self c.args.instr.now _ c.in-Walk.is c.open_walk.ensures
 
-pub returns-in-Keep : goal.returns-in-Keep
-returns-in-Keep c =
+pub returns-in-Keep-clause-act : goal.returns-in-Keep-clause-act
+returns-in-Keep-clause-act g c =
     let s = state_over c.args.base.now.state c.args.commits.now in
-    told_by c.keep.result s c.args.code.now c.args.relations.now (specs_of c.args.hosts.now) (machine_at s c.args.self.now) c.keep.new.self c.args.instr.now _ c.in-Keep.is (c.keep.ensures s)
+    told_by c.keep.result s c.args.code.now c.args.relations.now (specs_of c.args.hosts.now.names) (machine_at s c.args.self.now) c.keep.new.self c.args.instr.now _ c.in-Keep.is (c.keep.ensures s)
 
-pub returns-in-Gather : goal.returns-in-Gather
-returns-in-Gather c =
+pub returns-in-Gather-clause-act : goal.returns-in-Gather-clause-act
+returns-in-Gather-clause-act g c =
     let s = state_over c.args.base.now.state c.args.commits.now in
-    told_by c.gather.result s c.args.code.now c.args.relations.now (specs_of c.args.hosts.now) (machine_at s c.args.self.now) c.gather.new.self c.args.instr.now _ c.in-Gather.is (c.gather.ensures s)
+    told_by c.gather.result s c.args.code.now c.args.relations.now (specs_of c.args.hosts.now.names) (machine_at s c.args.self.now) c.gather.new.self c.args.instr.now _ c.in-Gather.is (c.gather.ensures s)
 
-pub returns-in-Yield : goal.returns-in-Yield
-returns-in-Yield c =
+pub returns-in-Yield-clause-act : goal.returns-in-Yield-clause-act
+returns-in-Yield-clause-act g c =
     let s = state_over c.args.base.now.state c.args.commits.now in
-    told_by c.yield_set.result s c.args.code.now c.args.relations.now (specs_of c.args.hosts.now) (machine_at s c.args.self.now) c.yield_set.new.self c.args.instr.now _ c.in-Yield.is (c.yield_set.ensures s)
+    told_by c.yield_set.result s c.args.code.now c.args.relations.now (specs_of c.args.hosts.now.names) (machine_at s c.args.self.now) c.yield_set.new.self c.args.instr.now _ c.in-Yield.is (c.yield_set.ensures s)
 
-pub returns-in-Drop : goal.returns-in-Drop
-returns-in-Drop c =
+pub returns-in-Drop-clause-act : goal.returns-in-Drop-clause-act
+returns-in-Drop-clause-act g c =
     let s = state_over c.args.base.now.state c.args.commits.now in
-    told_by c.drop_walk.result s c.args.code.now c.args.relations.now (specs_of c.args.hosts.now) (machine_at s c.args.self.now) c.drop_walk.new.self c.args.instr.now _ c.in-Drop.is (c.drop_walk.ensures s)
+    told_by c.drop_walk.result s c.args.code.now c.args.relations.now (specs_of c.args.hosts.now.names) (machine_at s c.args.self.now) c.drop_walk.new.self c.args.instr.now _ c.in-Drop.is (c.drop_walk.ensures s)
 
-pub returns-in-RetVal : goal.returns-in-RetVal
-returns-in-RetVal c =
+pub returns-in-RetVal-clause-act : goal.returns-in-RetVal-clause-act
+returns-in-RetVal-clause-act g c =
     let s = state_over c.args.base.now.state c.args.commits.now in
-    told_by c.ret_val.result s c.args.code.now c.args.relations.now (specs_of c.args.hosts.now) (machine_at s c.args.self.now) c.ret_val.new.self c.args.instr.now _ c.in-RetVal.is (c.ret_val.ensures s)
+    told_by c.ret_val.result s c.args.code.now c.args.relations.now (specs_of c.args.hosts.now.names) (machine_at s c.args.self.now) c.ret_val.new.self c.args.instr.now _ c.in-RetVal.is c.ret_val.ensures
 
-pub returns-in-Print : goal.returns-in-Print
-returns-in-Print c =
+pub returns-in-Print-clause-act : goal.returns-in-Print-clause-act
+returns-in-Print-clause-act g c =
     let s = state_over c.args.base.now.state c.args.commits.now in
-    told_by c.print.result s c.args.code.now c.args.relations.now (specs_of c.args.hosts.now) (machine_at s c.args.self.now) c.print.new.self c.args.instr.now _ c.in-Print.is (c.print.ensures s)
+    told_by c.print.result s c.args.code.now c.args.relations.now (specs_of c.args.hosts.now.names) (machine_at s c.args.self.now) c.print.new.self c.args.instr.now _ c.in-Print.is c.print.ensures
 
-pub returns-in-Assert : goal.returns-in-Assert
-returns-in-Assert c =
+pub returns-in-Assert-clause-act : goal.returns-in-Assert-clause-act
+returns-in-Assert-clause-act g c =
     let s = state_over c.args.base.now.state c.args.commits.now in
-    told_by c.claim.result s c.args.code.now c.args.relations.now (specs_of c.args.hosts.now) (machine_at s c.args.self.now) c.claim.new.self c.args.instr.now _ c.in-Assert.is (c.claim.ensures s)
+    told_by c.claim.result s c.args.code.now c.args.relations.now (specs_of c.args.hosts.now.names) (machine_at s c.args.self.now) c.claim.new.self c.args.instr.now _ c.in-Assert.is (c.claim.ensures s)
+
+pub returns-in-Push-clause-act : goal.returns-in-Push-clause-act
+returns-in-Push-clause-act g c =
+    let s = state_over c.args.base.now.state c.args.commits.now in
+    told_by c.push.result s c.args.code.now c.args.relations.now (specs_of c.args.hosts.now.names) (machine_at s c.args.self.now) c.push.new.self c.args.instr.now _ c.in-Push.is (c.push.ensures s)
+
+pub returns-in-Load-clause-act : goal.returns-in-Load-clause-act
+returns-in-Load-clause-act g c =
+    let s = state_over c.args.base.now.state c.args.commits.now in
+    told_by c.load.result s c.args.code.now c.args.relations.now (specs_of c.args.hosts.now.names) (machine_at s c.args.self.now) c.load.new.self c.args.instr.now _ c.in-Load.is (c.load.ensures s)
+
+pub returns-in-Jump-clause-act : goal.returns-in-Jump-clause-act
+returns-in-Jump-clause-act g c =
+    let s = state_over c.args.base.now.state c.args.commits.now in
+    told_by c.jump.result s c.args.code.now c.args.relations.now (specs_of c.args.hosts.now.names) (machine_at s c.args.self.now) c.jump.new.self c.args.instr.now _ c.in-Jump.is (c.jump.ensures s)
+
+pub returns-in-Enter-clause-act : goal.returns-in-Enter-clause-act
+returns-in-Enter-clause-act g c =
+    let s = state_over c.args.base.now.state c.args.commits.now in
+    told_by c.enter.result s c.args.code.now c.args.relations.now (specs_of c.args.hosts.now.names) (machine_at s c.args.self.now) c.enter.new.self c.args.instr.now _ c.in-Enter.is (c.enter.ensures s)
+
+pub returns-in-Ret-clause-act : goal.returns-in-Ret-clause-act
+returns-in-Ret-clause-act g c =
+    let s = state_over c.args.base.now.state c.args.commits.now in
+    told_by c.ret.result s c.args.code.now c.args.relations.now (specs_of c.args.hosts.now.names) (machine_at s c.args.self.now) c.ret.new.self c.args.instr.now _ c.in-Ret.is (c.ret.ensures s)
+
+pub returns-in-Commit-clause-act : goal.returns-in-Commit-clause-act
+returns-in-Commit-clause-act g c =
+    let s = state_over c.args.base.now.state c.args.commits.now in
+    told_by c.commit.result s c.args.code.now c.args.relations.now (specs_of c.args.hosts.now.names) (machine_at s c.args.self.now) c.commit.new.self c.args.instr.now _ c.in-Commit.is (c.commit.ensures s)

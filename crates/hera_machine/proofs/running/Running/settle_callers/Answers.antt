@@ -1,23 +1,47 @@
-use Rattle.std.proofs.Common.{◌≤◌, ◌∙◌, sym, subst, arith}
-use Rattle.hera_frames.specs.Waiting.{AreKept}
-use Rattle.hera_frames.proofs.Layering.{kept_within}
+use Rattle.std.proofs.Common.{false, map, ◌∙◌, ap, sym, subst}
+use Rattle.hera_frames.specs.Waiting.{AreKept, frame_settled}
+use Rattle.hera_frames.proofs.Upheld.{kept_settled}
+use Rattle.hera_machine.specs.contracts.running.Running.{the_view}
 use Rattle.hera_machine.specs.Over.{state_over}
-use Rattle.hera_machine.proofs.Changing.{callers_kept}
+use Rattle.hera_machine.specs.Working.{Work, machine_at, NameNone}
+use Rattle.hera_machine.proofs.Changing.{frames_settled_none, frames_settled_same, kept_none}
 use Rattle.hera_machine.proofs.running.Running.settle_callers.Goals as goal
 
-pub overflow_sub-depth : goal.overflow_sub-depth
-overflow_sub-depth c =
-    let own = kept_within c.self.inside.changes.layers c.self.inside.own c.self.inside.names_below c.self.inside.callers c.self.invariant in
-    omega (arith, own, c.len.ensures.count)
-
-pub invariant_of-self : goal.invariant_of-self
-invariant_of-self c =
+pub invariant_of-self-then-self : goal.invariant_of-self-then-self
+invariant_of-self-then-self c =
     let now = c.self.inside in
-    subst (λ fs. AreKept now.changes.layers now.own now.names_below fs) (sym (c.replace-callers.ensures.after ∙ c.new.ensures))
-    (kept_within now.changes.layers now.own now.names_below now.callers c.self.invariant)
+    let s = state_over c.args.base.now.state c.args.commits.now in
+    let ls = now.changes.layers in
+    let is = c.in_ok-self-inside.ensures ∙ ap (λ fs. map (frame_settled s ls) fs) c.replace-callers.ensures.value in
+    let u = c.self.invariant in
+    record {
+      tip = u.tip;
+      owned = u.owned;
+      operands = u.operands;
+      paces = u.paces;
+      below = u.below;
+      callers = subst (λ fs. AreKept ls now.floor false fs) (sym is) (kept_settled s ls now.floor now.names_below now.callers u.callers);
+    }
 
-pub invariant_of-self-2 : goal.invariant_of-self-2
-invariant_of-self-2 c =
+pub returns-in_ok-self-inside-clause-same : goal.returns-in_ok-self-inside-clause-same
+returns-in_ok-self-inside-clause-same c =
     let now = c.self.inside in
-    callers_kept (state_over c.args.base.now.state c.args.commits.now) now.changes.pending now.changes.layers now.own now.names_below c.len.result now.callers c.replace-callers.result c.settle_frames.new.frames
-    c.self.invariant c.len.ensures.count c.replace-callers.ensures.value c.in_ok-settle_frames.ensures
+    let s = state_over c.args.base.now.state c.args.commits.now in
+    let ls = now.changes.layers in
+    let is = c.in_ok-self-inside.ensures ∙ ap (λ fs. map (frame_settled s ls) fs) c.replace-callers.ensures.value in
+    ap (λ fs. machine_at s (record (the_view now) { callers = fs })) is
+    ∙ (λ i. record (machine_at s (the_view now)) { callers = frames_settled_same s ls now.callers i })
+    ∙ ap (λ (w : Work). machine_at s w) c.self.view_is
+
+pub returns-in_ok-self-inside-clause-none : goal.returns-in_ok-self-inside-clause-none
+returns-in_ok-self-inside-clause-none c =
+    let now = c.self.inside in
+    let s = state_over c.args.base.now.state c.args.commits.now in
+    let ls = now.changes.layers in
+    let is = c.in_ok-self-inside.ensures ∙ ap (λ fs. map (frame_settled s ls) fs) c.replace-callers.ensures.value in
+    subst (λ fs. NameNone fs) (sym is) (frames_settled_none s ls now.callers)
+
+pub returns-else-self-clause-none : goal.returns-else-self-clause-none
+returns-else-self-clause-none c =
+    let now = c.self.inside in
+    subst (λ (w : Work). NameNone w.callers) c.self.view_is (kept_none now.changes.layers now.floor now.names_below now.callers c.if-self.false c.self.invariant.callers)

@@ -31,9 +31,6 @@ decreases-post l = 64 * length l.self.now + 21
 abbrev pub decreases-prime : goal.decreases-prime
 decreases-prime l = 64 * length l.self.now + 20
 
-abbrev pub decreases-word_form : goal.decreases-word_form
-decreases-word_form l = 64 * length l.self.now + 2
-
 abbrev pub decreases-paren : goal.decreases-paren
 decreases-paren l = 64 * length l.self.now + 1
 

@@ -1,4 +1,4 @@
-use Rattle.std.proofs.Common.{rules, arith, refl, sym, ap, ◌∙◌, ◌++◌, ◌∷◌, []}
+use Rattle.std.proofs.Common.{rules, arith, refl, sym, ◌∙◌, ◌∷◌, []}
 use Rattle.hera_syntax.specs.Grammar.{phrase}
 use Rattle.hera_syntax.specs.Grammar as phrases
 use Rattle.hera_syntax.specs.Programs.{relation_outline, relation_row}
@@ -10,13 +10,13 @@ use Rattle.hera_parser.proofs.parser.Parser.relations.Goals as goal
 pub all-init : goal.all-init
 all-init c = record { reads = rows_first relation_row c.new-all.ensures.items; no_longer = search rules }
 
-pub returns-in_err-both-clause-sticks : goal.returns-in_err-both-clause-sticks
-returns-in_err-both-clause-sticks c h = stops (join c.all.invariant.reads (next_choose 0 idle (told phrases.relations 0 refl (sym c.next_is.ensures ∙ c.all-test.true)))) (c.relation-item.ensures.sticks (c.in_err-both.ensures.stops (search rules)))
+pub returns-in_err-all-clause-sticks : goal.returns-in_err-all-clause-sticks
+returns-in_err-all-clause-sticks c h = stops (join c.all.invariant.reads (next_choose 0 idle (told phrases.relations 0 refl (sym c.next_is.ensures ∙ c.all-test.true)))) (c.relation-item.ensures.sticks (c.in_err-all.ensures.stops (search rules)))
 
 pub all-preserved : goal.all-preserved
 all-preserved c = record {
-  reads = rows_more relation_row [] c.all.all.items c.in_ok-both.both.1 c.all.invariant.reads (next (next_choose 0 idle (told phrases.relations 0 refl (sym c.next_is.ensures ∙ c.all-test.true))) (got relation_outline (phrase phrases.relation ∷ []) c.in_ok-both.ensures.read c.relation-item.ensures.reads)) (c.in_ok-all.ensures ∙ ap (λ v. v.items ++ c.in_ok-both.both.1 ∷ []) c.in_ok-both.ensures.same);
-  no_longer = omega (arith, c.all.invariant.no_longer, shortened c.in_ok-both.ensures.read c.relation-item.ensures.shorter);
+  reads = rows_more relation_row [] c.all.all.items c.in_ok-all.ensures.one_more.item c.all.invariant.reads (next (next_choose 0 idle (told phrases.relations 0 refl (sym c.next_is.ensures ∙ c.all-test.true))) (got relation_outline (phrase phrases.relation ∷ []) c.in_ok-all.ensures.one_more.was_read c.relation-item.ensures.reads)) c.in_ok-all.ensures.one_more.longer;
+  no_longer = omega (arith, c.all.invariant.no_longer, shortened c.in_ok-all.ensures.one_more.was_read c.relation-item.ensures.shorter);
 }
 
 pub returns-clause-reads : goal.returns-clause-reads

@@ -4,7 +4,7 @@ use Rattle.hera_syntax.specs.Grammar as phrases
 use Rattle.hera_syntax.specs.Outline.{hold}
 use Rattle.hera_syntax.specs.Programs.{attrs_outline}
 use Rattle.hera_parser.proofs.Steps.{choose, next, stops, as_marks}
-use Rattle.hera_parser.proofs.Joined.{got, shortened}
+use Rattle.hera_parser.proofs.Joined.{got, shortened, stops_in}
 use Rattle.hera_parser.proofs.Choices.{told, other}
 use Rattle.hera_parser.proofs.parser.Parser.schema.Goals as goal
 
@@ -18,13 +18,10 @@ pub returns-in_err-bracket-clause-sticks : goal.returns-in_err-bracket-clause-st
 returns-in_err-bracket-clause-sticks c h = stops (choose phrases.schema 1 (other phrases.schema ((sym c.next_is.ensures ∙ c.if-next_is.false), tt))) (c.in_err-bracket.ensures.sticks (search rules))
 
 pub returns-in_err-part-clause-sticks : goal.returns-in_err-part-clause-sticks
-returns-in_err-part-clause-sticks c h = stops (next (choose phrases.schema 1 (other phrases.schema ((sym c.next_is.ensures ∙ c.if-next_is.false), tt))) c.in_ok-bracket.ensures.reads) (c.attrs-attrs.ensures.sticks (c.in_err-part.ensures.stops (search rules)))
-
-pub returns-in_err-part-2-clause-sticks : goal.returns-in_err-part-2-clause-sticks
-returns-in_err-part-2-clause-sticks c h = stops (next (next (choose phrases.schema 1 (other phrases.schema ((sym c.next_is.ensures ∙ c.if-next_is.false), tt))) c.in_ok-bracket.ensures.reads) (got attrs_outline (phrase phrases.attrs ∷ []) c.in_ok-part.ensures.read c.attrs-attrs.ensures.reads)) (c.in_err-part-2.ensures.sticks (search rules))
+returns-in_err-part-clause-sticks c h = stops_in attrs_outline (next (choose phrases.schema 1 (other phrases.schema ((sym c.next_is.ensures ∙ c.if-next_is.false), tt))) c.in_ok-bracket.ensures.reads) c.attrs-attrs.ensures.reads c.attrs-attrs.ensures.sticks (c.in_err-part.ensures.sticks (search rules))
 
 pub returns-clause-reads : goal.returns-clause-reads
-returns-clause-reads c = as_marks c.written.ensures (next (next (next (choose phrases.schema 1 (other phrases.schema ((sym c.next_is.ensures ∙ c.if-next_is.false), tt))) (as_marks (ap (λ b. hold b.0) c.in_ok-part-2.ensures.same ∙ ap hold c.in_ok-part.ensures.same) c.in_ok-bracket.ensures.reads)) (as_marks (ap (λ b. attrs_outline b.1) c.in_ok-part-2.ensures.same) (got attrs_outline (phrase phrases.attrs ∷ []) c.in_ok-part.ensures.read c.attrs-attrs.ensures.reads))) c.in_ok-part-2.ensures.reads)
+returns-clause-reads c = as_marks c.written.ensures (next (next (next (choose phrases.schema 1 (other phrases.schema ((sym c.next_is.ensures ∙ c.if-next_is.false), tt))) (as_marks (ap hold c.in_ok-part.ensures.same) c.in_ok-bracket.ensures.reads)) (got attrs_outline (phrase phrases.attrs ∷ []) c.in_ok-part.ensures.read c.attrs-attrs.ensures.reads)) c.in_ok-part.ensures.reads)
 
 pub returns-clause-shorter : goal.returns-clause-shorter
-returns-clause-shorter c = omega (arith, c.in_ok-bracket.ensures.shorter, shortened c.in_ok-part.ensures.read c.attrs-attrs.ensures.shorter, c.in_ok-part-2.ensures.shorter)
+returns-clause-shorter c = omega (arith, c.in_ok-bracket.ensures.shorter, shortened c.in_ok-part.ensures.read c.attrs-attrs.ensures.shorter, c.in_ok-part.ensures.shorter)

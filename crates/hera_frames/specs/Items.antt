@@ -1,0 +1,87 @@
+-- Operands and slots: values, or relations that are named with a layer.
+use Rattle.std.specs.Prelude.{ℕ, suc, Bool, true, false, List, [], ◌∷◌, map, max, pos}
+use Rattle.hera_meaning.specs.declared.scalars.Scalar.{Scalar}
+use Rattle.hera_meaning.specs.declared.scalars.Scalar.TheVariants.{Int as int_scalar, Bool as bool_scalar, Text as text_scalar}
+use Rattle.hera_meaning.specs.Deltas.{State, rows_at}
+use Rattle.hera_meaning.specs.Values.{Value, scalar, tuple, table, delta, int_value}
+use Rattle.delta_atoms.specs.Plain.{value_of}
+use Rattle.when_overlay.specs.declared.layers.Layer.{Layer}
+use Rattle.hera_frames.specs.declared.values.Datum.{Datum}
+use Rattle.hera_frames.specs.declared.values.Datum.TheVariants.{Int, Bool as Truth, Large}
+use Rattle.hera_frames.specs.declared.operands.Operand.{Operand}
+use Rattle.hera_frames.specs.declared.operands.Operand.TheVariants.{Held, Named}
+use Rattle.hera_frames.specs.Branched.{seen_at}
+
+-- an operand: a value, or a relation as it is under a layer
+pub data Item : Type 0 where
+  held : Value → Item
+  relation : ℕ → ℕ → Item
+
+-- what contracts see of operands: these, the newest first, and how many further ones have their place
+pub record Shelf : Type 0 where
+  pub items : List Item
+  pub spare : ℕ
+
+abbrev pub plain_of : Datum → Value
+plain_of (Int n) = scalar (int_scalar n)
+plain_of (Truth b) = scalar (bool_scalar b)
+plain_of (Large v) = value_of v.value
+
+abbrev pub item_of : Operand → Item
+item_of (Held v) = held (plain_of v)
+item_of (Named rel tip) = relation rel.0 tip
+
+-- ints and bools, which take no memory
+abbrev pub is_small_scalar : Scalar → Bool
+is_small_scalar (int_scalar n) = true
+is_small_scalar (bool_scalar b) = true
+is_small_scalar (text_scalar t) = false
+
+abbrev pub is_small : Value → Bool
+is_small (scalar s) = is_small_scalar s
+is_small (tuple r) = false
+is_small (table rows) = false
+is_small (delta d) = false
+
+-- the value of an operand, over the committed state and under the layers
+abbrev pub value_at : State → List Layer → Item → Value
+value_at s ls (held v) = v
+value_at s ls (relation r k) = table (rows_at (seen_at s ls k) r)
+
+abbrev pub operands_at : State → List Layer → List Item → List Value
+operands_at s ls items = map (value_at s ls) items
+
+-- the operand with its rows in place of the name
+abbrev pub collected : State → List Layer → Item → Item
+collected s ls item = held (value_at s ls item)
+
+-- the operands have their values
+abbrev pub IsHeld : Item → Type 0
+IsHeld (held v) = Unit {0}
+IsHeld (relation r k) = ⊥
+
+abbrev pub AreHeld : List Item → Type 0
+AreHeld [] = Unit {0}
+AreHeld (item ∷ items) = IsHeld item × AreHeld items
+
+-- how many layers have to be there, the oldest ones, for what is named
+abbrev pub reach_of : Item → ℕ
+reach_of (held v) = 0
+reach_of (relation r k) = suc k
+
+abbrev pub reach : List Item → ℕ
+reach [] = 0
+reach (item ∷ items) = max (reach_of item) (reach items)
+
+abbrev pub is_relation : Item → Bool
+is_relation (held v) = false
+is_relation (relation r k) = true
+
+-- the value that an operand holds, and the one that the newest operand holds; the int 0 where there is none
+abbrev pub held_in : Item → Value
+held_in (held v) = v
+held_in (relation r k) = int_value (pos 0)
+
+abbrev pub newest_in : List Item → Value
+newest_in [] = int_value (pos 0)
+newest_in (item ∷ items) = held_in item

@@ -1,0 +1,30 @@
+use Rattle.std.proofs.Common.{◌<◌, ◌∙◌, sym, ap, Some, length, arith}
+use Rattle.std.specs.Prelude.{slice_get}
+use Rattle.std.specs.Option.{option_copied}
+use Rattle.hera_host.specs.Tables.{specs_of}
+use Rattle.hera_machine.specs.Over.{state_over}
+use Rattle.hera_machine.specs.Working.{Work}
+use Rattle.hera_machine.proofs.Nearing.{result_nearer, here_taken, here_none, here_within}
+use Rattle.hera_machine.proofs.running.Running.one.Goals as goal
+
+pub execute-requires : goal.execute-requires
+execute-requires g c =
+    let same = ap (λ (w : Work). w.at) c.self.view_is in
+    let within : c.self.inside.at < length c.args.code.now.instrs = here_within c.args.code.now c.self.inside.at c.in-Some.instr.now (ap option_copied (sym c.in-Some.is) ∙ c.get.ensures) in
+    omega (arith, same, within, c.len-len.ensures, c.len-len.type_inv)
+
+pub returns-in-None-clause-steps : goal.returns-in-None-clause-steps
+returns-in-None-clause-steps g c =
+    here_none c.args.code.now c.args.relations.now (specs_of c.args.hosts.now.names) (state_over c.args.base.now.state c.args.commits.now) c.args.self.now
+    (ap option_copied (sym c.in-None.is) ∙ c.get.ensures ∙ ap (slice_get c.args.code.now.instrs) (ap (λ (w : Work). w.at) c.self.view_is))
+
+pub returns-in-Some-clause-steps : goal.returns-in-Some-clause-steps
+returns-in-Some-clause-steps g c =
+    here_taken c.args.code.now c.args.relations.now (specs_of c.args.hosts.now.names) (state_over c.args.base.now.state c.args.commits.now) c.args.self.now c.execute.new.self c.execute.result c.in-Some.instr.now
+    (ap option_copied (sym c.in-Some.is) ∙ c.get.ensures ∙ ap (slice_get c.args.code.now.instrs) (ap (λ (w : Work). w.at) c.self.view_is)) c.execute.ensures.act
+
+pub returns-in-Some-clause-nearer : goal.returns-in-Some-clause-nearer
+returns-in-Some-clause-nearer g c =
+    let s = state_over c.args.base.now.state c.args.commits.now in
+    result_nearer c.args.code.now c.args.relations.now (specs_of c.args.hosts.now.names) s c.args.self.now c.execute.new.self c.execute.result (Some c.in-Some.instr.now)
+    (ap (slice_get c.args.code.now.instrs) (sym (ap (λ (w : Work). w.at) c.self.view_is)) ∙ sym (ap option_copied (sym c.in-Some.is) ∙ c.get.ensures)) c.execute.ensures.act

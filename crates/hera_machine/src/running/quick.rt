@@ -1,0 +1,203 @@
+//! The quick way of common instructions on ints and bools. It takes no memory, and where it does not answer
+//! true nothing has changed, and the instruction is done as any other.
+ghost use Rattle.std.specs.Prelude.{◌≡◌, ◌+◌, ◌<◌, ◌^◌, List, [], Some, true, false, length, slice_get};
+ghost use Rattle.hera_meaning.specs.Deltas.{State};
+ghost use Rattle.hera_meaning.specs.Hosts.{Hosts};
+ghost use Rattle.hera_meaning.specs.Fits.{arity};
+ghost use Rattle.hera_meaning.specs.Worlds.{set_local};
+ghost use Rattle.hera_meaning.specs.declared.schemas.RelDecl.{RelDecl as PlainDecl};
+ghost use Rattle.hera_flat.specs.Flats.{flat_value};
+ghost use Rattle.hera_code.specs.Forward.{Forward};
+ghost use Rattle.hera_code.specs.Machine as machine;
+ghost use Rattle.hera_code.specs.Machine.{code_step, quiet, on_with, on_top, on_some, pushes, answers, needs_slot, needs_address, goes_to, spends, by_bool};
+ghost use Rattle.hera_machine.specs.Descends.{IsLower};
+ghost use Rattle.hera_machine.specs.Working.{machine_at};
+
+use super::Running;
+use hera_code::{Code, Instr};
+use hera_flat::{Flat, flat_one, flat_two};
+use hera_meaning::{Const, Op, Scalar, Schema};
+
+impl Running {
+    /// Executes the instruction at hand, if that is a common one on ints and bools.
+    #[inline]
+    pub(crate) fn quick(&mut self, code: &Code) -> bool
+        ensures steps { (rels : List PlainDecl) → (hosts : Hosts) → (s : State) → result ≡ true → quiet (machine_at s self.new) ≡ code_step code.now rels hosts s (machine_at s self.old) }
+        ensures nearer { Forward code.now → result ≡ true → IsLower (length code.now.instrs) (machine_at [] self.old) (machine_at [] self.new) }
+        ensures kept { result ≡ false → self.new ≡ self.old }
+    {
+        // for the proof alone: addresses of code are below 2^64 - 1
+        let _len = code.instrs.len();
+        match code.instrs.get(self.at) {
+            None => false,
+            Some(instr) => self.hasten(instr, code),
+        }
+    }
+
+    /// Executes an instruction, if it is a common one on ints and bools.
+    #[inline]
+    fn hasten(&mut self, instr: &Instr, code: &Code) -> bool
+        requires { self.old.at + 1 < 2 ^ 64 }
+        ensures act { (rels : List PlainDecl) → (hosts : Hosts) → (s : State) → result ≡ true → quiet (machine_at s self.new) ≡ machine.act code.now rels hosts (Some instr.now) s (machine_at s self.old) }
+        ensures kept { result ≡ false → self.new ≡ self.old }
+    {
+        match instr {
+            Instr::Push(Const::Scalar(Scalar::Int(n))) => self.pushed(Flat::Int(*n)),
+            Instr::Push(Const::Scalar(Scalar::Bool(b))) => self.pushed(Flat::Bool(*b)),
+            Instr::Load(i) => self.loaded(*i),
+            Instr::Store(i) => self.stored(*i),
+            Instr::Prim(Op::Field(schema, i), at) => self.took_field(schema, *i, *at),
+            Instr::Prim(op, at) => self.computed(op, *at),
+            Instr::Jump(a) => self.jumped(code, *a),
+            Instr::Unless(a) => self.parted(code, *a),
+            Instr::Back(a) => self.went_back(code, *a),
+            _ => false,
+        }
+    }
+
+    #[inline]
+    fn pushed(&mut self, v: Flat) -> bool
+        requires { self.old.at + 1 < 2 ^ 64 }
+        ensures done { (s : State) → result ≡ true → quiet (machine_at s self.new) ≡ pushes (Some (flat_value v)) (machine_at s self.old) }
+        ensures kept { result ≡ false → self.new ≡ self.old }
+    {
+        if !self.operands.push_flat(v) {
+            return false;
+        }
+        self.at += 1;
+        true
+    }
+
+    #[inline]
+    fn loaded(&mut self, i: u32) -> bool
+        requires { self.old.at + 1 < 2 ^ 64 }
+        ensures done { (s : State) → result ≡ true → quiet (machine_at s self.new) ≡ pushes (slice_get (machine_at s self.old).locals i) (machine_at s self.old) }
+        ensures kept { result ≡ false → self.new ≡ self.old }
+    {
+        match self.locals.flat_at(i as usize) {
+            None => false,
+            Some(v) => self.pushed(v),
+        }
+    }
+
+    #[inline]
+    fn stored(&mut self, i: u32) -> bool
+        requires { self.old.at + 1 < 2 ^ 64 }
+        ensures done { (s : State) → result ≡ true → quiet (machine_at s self.new) ≡ on_top (machine_at s self.old).operands (λ v vs. needs_slot i (machine_at s self.old) (quiet (record (machine_at s self.old) { at = (machine_at s self.old).at + 1; operands = vs; locals = set_local (machine_at s self.old).locals i v }))) }
+        ensures kept { result ≡ false → self.new ≡ self.old }
+    {
+        let Some(v) = self.operands.newest_flat() else {
+            return false;
+        };
+        if !self.locals.has(i as usize) {
+            return false;
+        }
+        let _ = self.locals.put_flat(i as usize, v);
+        self.operands.drop_newest();
+        self.at += 1;
+        true
+    }
+
+    #[inline]
+    fn computed(&mut self, op: &Op, at: u32) -> bool
+        requires { self.old.at + 1 < 2 ^ 64 }
+        ensures done { (s : State) → result ≡ true → quiet (machine_at s self.new) ≡ on_some (arity op.now) (machine_at s self.old).operands (λ args vs. answers at op.now args vs (machine_at s self.old)) }
+        ensures kept { result ≡ false → self.new ≡ self.old }
+    {
+        // named for the contract alone: the operation does not trap here
+        let _at = at;
+        match self.operands.newest_two() {
+            None => self.computed_one(op, at),
+            Some((left, right)) => match flat_two(op, left, right) {
+                None => self.computed_one(op, at),
+                Some(v) => {
+                    self.operands.drop_newest();
+                    self.operands.replace_newest(v);
+                    self.at += 1;
+                    true
+                }
+            },
+        }
+    }
+
+    #[inline]
+    fn computed_one(&mut self, op: &Op, at: u32) -> bool
+        requires { self.old.at + 1 < 2 ^ 64 }
+        ensures done { (s : State) → result ≡ true → quiet (machine_at s self.new) ≡ on_some (arity op.now) (machine_at s self.old).operands (λ args vs. answers at op.now args vs (machine_at s self.old)) }
+        ensures kept { result ≡ false → self.new ≡ self.old }
+    {
+        // named for the contract alone: the operation does not trap here
+        let _at = at;
+        let Some(operand) = self.operands.newest_flat() else {
+            return false;
+        };
+        let Some(v) = flat_one(op, operand) else {
+            return false;
+        };
+        self.operands.replace_newest(v);
+        self.at += 1;
+        true
+    }
+
+    #[inline]
+    fn took_field(&mut self, schema: &Schema, i: usize, at: u32) -> bool
+        requires { self.old.at + 1 < 2 ^ 64 }
+        ensures done { (s : State) → result ≡ true → quiet (machine_at s self.new) ≡ on_some 1 (machine_at s self.old).operands (λ args vs. answers at (Op.Field schema.now i) args vs (machine_at s self.old)) }
+        ensures kept { result ≡ false → self.new ≡ self.old }
+    {
+        // named for the contract alone: the operation does not trap
+        let _at = at;
+        let Some(v) = self.operands.newest_field(schema, i) else {
+            return false;
+        };
+        self.operands.replace_newest(v);
+        self.at += 1;
+        true
+    }
+
+    #[inline]
+    fn jumped(&mut self, code: &Code, a: u32) -> bool
+        ensures done { (s : State) → result ≡ true → quiet (machine_at s self.new) ≡ goes_to code.now a (machine_at s self.old) }
+        ensures kept { result ≡ false → self.new ≡ self.old }
+    {
+        if (a as usize) >= code.instrs.len() {
+            return false;
+        }
+        self.at = a as usize;
+        true
+    }
+
+    #[inline]
+    fn parted(&mut self, code: &Code, a: u32) -> bool
+        requires { self.old.at + 1 < 2 ^ 64 }
+        ensures done { (s : State) → result ≡ true → quiet (machine_at s self.new) ≡ on_top (machine_at s self.old).operands (λ v vs. needs_address code.now a (by_bool v (quiet (on_with vs (machine_at s self.old))) (quiet (record (machine_at s self.old) { at = a; operands = vs })))) }
+        ensures kept { result ≡ false → self.new ≡ self.old }
+    {
+        let Some(Flat::Bool(b)) = self.operands.newest_flat() else {
+            return false;
+        };
+        if (a as usize) >= code.instrs.len() {
+            return false;
+        }
+        self.operands.drop_newest();
+        if b {
+            self.at += 1;
+        } else {
+            self.at = a as usize;
+        }
+        true
+    }
+
+    #[inline]
+    fn went_back(&mut self, code: &Code, a: u32) -> bool
+        ensures done { (s : State) → result ≡ true → quiet (machine_at s self.new) ≡ needs_address code.now a (spends (machine_at s self.old).turns (λ n. quiet (record (machine_at s self.old) { at = a; turns = n }))) }
+        ensures kept { result ≡ false → self.new ≡ self.old }
+    {
+        if (a as usize) >= code.instrs.len() || self.turns == 0 {
+            return false;
+        }
+        self.turns -= 1;
+        self.at = a as usize;
+        true
+    }
+}

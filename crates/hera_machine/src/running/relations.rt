@@ -1,0 +1,224 @@
+//! Operations that read relations where they stand: no row of them is collected.
+ghost use Rattle.std.specs.Prelude.{◌≡◌, ◌≢◌, ◌+◌, ◌<◌, ◌^◌, [], ◌∷◌, ◌⊎◌, ℕ, true, false, drop, IfOk, IsOk, OnOk, MatchOption};
+ghost use Rattle.hera_meaning.specs.Deltas.{State};
+ghost use Rattle.hera_meaning.specs.Values.{table};
+ghost use Rattle.hera_meaning.specs.Fits.{arity};
+ghost use Rattle.hera_code.specs.Machine.{ends, stuck, on_some, answers};
+ghost use Rattle.hera_prims.specs.Tables.{is_relational, takes_memory, takes_relations, tables};
+ghost use Rattle.hera_frames.specs.Items.{plain_of, held};
+ghost use Rattle.hera_frames.specs.Seeing.{rows_seen};
+ghost use Rattle.hera_machine.specs.Finding.{IsFound, found_step, is_measure};
+ghost use Rattle.hera_machine.specs.Over.{state_over};
+ghost use Rattle.hera_machine.specs.Telling.{step_at};
+ghost use Rattle.hera_machine.specs.Working.{machine_at};
+
+use super::{Running, stuck};
+use crate::events::{End, Told};
+use delta_atoms::Delta;
+use hera_frames::{Datum, Seen, let_go};
+use hera_meaning::{Op, TrapName};
+use hera_prims::{PrimEnd, arity, fits_rel, prim_rel};
+use hera_rows::{RowSet, Sorted};
+use rel_pages::Base;
+use std::alloc::{AllocError, Global};
+
+/// What an operation finds of its operands.
+#[derive(Drop)]
+pub(crate) enum Found {
+    /// They do not fit it.
+    Misfit,
+    /// It traps.
+    Trap(TrapName),
+    /// What it gives.
+    Answer(Datum),
+}
+
+/// What the operation gives of relations, of which one that takes a single operand has the first.
+fn found_of<A: Sorted, B: Sorted>(alloc: Global, op: &Op, a: &A, b: &B) -> Result<Found, AllocError>
+    requires op { takes_relations op.now ≡ is_relational op.now }
+    requires some { 0 < arity op.now }
+    ensures found { IfOk result (IsFound op.now (tables op.now (A.rows a.now) (B.rows b.now))) }
+    ensures spared { takes_memory op.now ≡ false → IsOk result }
+{
+    if !fits_rel(op, a, b) {
+        return Ok(Found::Misfit);
+    }
+    match prim_rel(alloc, op, a, b) {
+        Ok(v) => Ok(Found::Answer(Datum::new(alloc, v)?)),
+        Err(PrimEnd::Trap(name)) => Ok(Found::Trap(name)),
+        Err(PrimEnd::Memory) => Err(AllocError),
+    }
+}
+
+/// How many rows a set has. It takes no memory.
+fn counted(rows: &RowSet) -> Found
+    ensures { IsFound Op.Count (table rows.now ∷ []) result }
+{
+    let count = rows.len();
+    if count < 1 << 63 {
+        Found::Answer(Datum::Int(count as i64))
+    } else {
+        Found::Trap(TrapName::Overflow)
+    }
+}
+
+/// What a count, or a test for no tuples, gives of a relation. It takes no memory.
+fn measured(alloc: Global, op: &Op, rows: &Seen<'_>) -> Result<Found, AllocError>
+    requires { is_measure op.now ≡ true }
+    ensures found { IfOk result (IsFound op.now (table (rows_seen rows.now) ∷ [])) }
+    ensures spared { IsOk result }
+{
+    match (op, rows) {
+        (Op::Count, Seen::Held(set)) => Ok(counted(set)),
+        _ => found_of(alloc, op, rows, &Seen::Nothing),
+    }
+}
+
+impl Running {
+    /// Counts the tuples of the newest operand, or tells whether it has none. It takes no memory.
+    pub(super) fn measure(
+        &mut self,
+        base: &Base,
+        commits: &[Delta],
+        op: &Op,
+        at: u32,
+    ) -> Result<Told, AllocError>
+        requires next { self.old.at + 1 < 2 ^ 64 }
+        requires op { is_measure op.now ≡ true }
+        ensures step { let s = state_over base.now.state commits.now in IfOk result (λ told. step_at s told self.new ≡ on_some 1 (machine_at s self.old).operands (λ args vs. answers at op.now args vs (machine_at s self.old))) }
+        ensures no_copy { IsOk result }
+    {
+        match self.measured_here(base, commits, op)? {
+            None => Ok(Told::Ended(End::Stuck)),
+            Some(found) => self.answer(1, found, at),
+        }
+    }
+
+    /// What a count, or a test for no tuples, gives of the newest operand; nothing where that is no relation.
+    /// It takes no memory.
+    fn measured_here(
+        &self,
+        base: &Base,
+        commits: &[Delta],
+        op: &Op,
+    ) -> Result<Option<Found>, AllocError>
+        requires { is_measure op.now ≡ true }
+        ensures found { let s = state_over base.now.state commits.now in IfOk result (λ r. MatchOption r ((at : ℕ) → ends stuck ≡ on_some 1 (machine_at s self.now).operands (λ args vs. answers at op.now args vs (machine_at s self.now))) (λ found. (self.now.operands ≢ []) × ((at : ℕ) → found_step at (drop 1 (machine_at s self.now).operands) (machine_at s self.now) found ≡ on_some 1 (machine_at s self.now).operands (λ args vs. answers at op.now args vs (machine_at s self.now))))) }
+        ensures spared { IsOk result }
+    {
+        let Some(newest) = self.operands.newest(0) else {
+            return Ok(None);
+        };
+        let Some(rows) = newest.seen(&self.changes, base, commits) else {
+            return Ok(None);
+        };
+        Ok(Some(measured(self.alloc, op, &rows)?))
+    }
+
+    /// Tells whether the tuple before the newest operand is one of this relation's. It takes no memory.
+    pub(super) fn ask(
+        &mut self,
+        base: &Base,
+        commits: &[Delta],
+        at: u32,
+    ) -> Result<Told, AllocError>
+        requires { self.old.at + 1 < 2 ^ 64 }
+        ensures step { let s = state_over base.now.state commits.now in IfOk result (λ told. step_at s told self.new ≡ on_some 2 (machine_at s self.old).operands (λ args vs. answers at Op.In args vs (machine_at s self.old))) }
+        ensures no_copy { IsOk result }
+    {
+        let Some(relation) = self.operands.pop() else {
+            return stuck();
+        };
+        let Some(tuple) = self.operands.pop() else {
+            return stuck();
+        };
+        let Some(row) = tuple.into_row() else {
+            return stuck();
+        };
+        match relation.seen(&self.changes, base, commits) {
+            None => stuck(),
+            Some(rows) => {
+                self.operands.push(Datum::Bool(rows.has(row.bytes())))?;
+                self.at += 1;
+                Ok(Told::Quiet)
+            }
+        }
+    }
+
+    /// An operation other than a count, a test for no tuples, `in` and one that makes a delta of tuples.
+    pub(super) fn relate(
+        &mut self,
+        base: &Base,
+        commits: &[Delta],
+        op: &Op,
+        at: u32,
+    ) -> Result<Told, AllocError>
+        requires next { self.old.at + 1 < 2 ^ 64 }
+        requires op { takes_relations op.now ≡ is_relational op.now }
+        ensures { let s = state_over base.now.state commits.now in IfOk result (λ told. step_at s told self.new ≡ on_some (arity op.now) (machine_at s self.old).operands (λ args vs. answers at op.now args vs (machine_at s self.old))) }
+    {
+        match self.related(base, commits, op)? {
+            None => self.compute(base, commits, op, at),
+            Some(found) => self.answer(arity(op), found, at),
+        }
+    }
+
+    /// What an operation with one operand, or two, finds of relations; nothing of other operands.
+    fn related(&self, base: &Base, commits: &[Delta], op: &Op) -> Result<Option<Found>, AllocError>
+        requires op { takes_relations op.now ≡ is_relational op.now }
+        ensures { let s = state_over base.now.state commits.now in IfOk result (λ r. MatchOption r (Unit {0}) (λ found. ((arity op.now ≡ 1) ⊎ (arity op.now ≡ 2)) × (self.now.operands ≢ []) × ((at : ℕ) → found_step at (drop (arity op.now) (machine_at s self.now).operands) (machine_at s self.now) found ≡ on_some (arity op.now) (machine_at s self.now).operands (λ args vs. answers at op.now args vs (machine_at s self.now))))) }
+    {
+        let Some(newest) = self.operands.newest(0) else {
+            return Ok(None);
+        };
+        let Some(right) = newest.seen(&self.changes, base, commits) else {
+            return Ok(None);
+        };
+        if arity(op) == 1 {
+            return Ok(Some(found_of(self.alloc, op, &right, &Seen::Nothing)?));
+        }
+        let Some(before) = self.operands.newest(1) else {
+            return Ok(None);
+        };
+        let Some(left) = before.seen(&self.changes, base, commits) else {
+            return Ok(None);
+        };
+        if arity(op) != 2 {
+            return Ok(None);
+        }
+        Ok(Some(found_of(self.alloc, op, &left, &right)?))
+    }
+
+    /// Puts what an operation found in the place of its operands, one or two. It takes no memory.
+    fn answer(&mut self, count: usize, found: Found, at: u32) -> Result<Told, AllocError>
+        requires next { self.old.at + 1 < 2 ^ 64 }
+        requires count { (count ≡ 1) ⊎ (count ≡ 2) }
+        requires some { self.old.operands ≢ [] }
+        ensures step { (s : State) → IfOk result (λ told. step_at s told self.new ≡ found_step at (drop count (machine_at s self.old).operands) (machine_at s self.old) found) }
+        ensures no_copy { IsOk result }
+    {
+        match found {
+            Found::Misfit => stuck(),
+            Found::Trap(name) => Ok(Told::Ended(End::Trap(name, at))),
+            Found::Answer(v) => {
+                self.put(count, v)?;
+                self.at += 1;
+                Ok(Told::Quiet)
+            }
+        }
+    }
+
+    /// Puts a value in the place of the newest operand, or of two. It takes no memory.
+    fn put(&mut self, count: usize, v: Datum) -> Result<(), AllocError>
+        requires count { (count ≡ 1) ⊎ (count ≡ 2) }
+        requires some { self.old.operands ≢ [] }
+        ensures items { OnOk result (self.new ≡ record self.old { operands = held (plain_of v) ∷ drop count self.old.operands; spare = self.new.spare }) }
+        ensures no_copy { IsOk result }
+    {
+        if count == 2 {
+            let_go(self.operands.pop());
+        }
+        let_go(self.operands.pop());
+        self.operands.push(v)
+    }
+}
