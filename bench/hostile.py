@@ -19,6 +19,7 @@ import argparse
 import multiprocessing
 import os
 import random
+import resource
 import signal
 import sys
 import time
@@ -87,7 +88,9 @@ def try_scripts(program, folder, draw, number, processes):
     while True:
         script = scripts.draw_one()
         folder.write("script", script)
-        turns = draw.choice(["0", "7", "300", "18446744073709551615" if b"while" not in script else "50"])
+        # A script without loops and calls ends by itself.
+        ends = not any(word in script for word in (b"while", b"func", b"proc"))
+        turns = draw.choice(["0", "7", "300", "18446744073709551615" if ends else "5000"])
         yield try_script(program, folder, script, turns)
         if draw.random() < 0.05:
             yield try_run(program, folder, script, turns)
@@ -130,6 +133,8 @@ def try_run(program, folder, script, turns):
     return 4
 
 
+# What a call may take of memory, in bytes: far more than any of these scripts wants.
+MEMORY = 4 << 30
 PARTS = {"bytes": try_bytes, "halves": try_halves, "scripts": try_scripts}
 
 
@@ -179,6 +184,7 @@ def main():
     parser.add_argument("--cases")
     options = parser.parse_args()
     options.program = os.path.abspath(options.program)
+    resource.setrlimit(resource.RLIMIT_AS, (MEMORY, MEMORY))
     reader.check_itself()
     try:
         for part in PARTS:

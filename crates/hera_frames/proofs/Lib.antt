@@ -8,3 +8,5 @@ pub mod Branching
 pub mod Settled
 pub mod Upheld
 pub mod FieldsGiven
+pub mod Doubting
+pub mod Alike

@@ -3,3 +3,4 @@ pub mod Items
 pub mod Seeing
 pub mod Walking
 pub mod Waiting
+pub mod Kinds

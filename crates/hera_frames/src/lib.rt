@@ -8,6 +8,7 @@
 #![tactic(auto)]
 
 mod changes;
+mod fitting;
 mod flats;
 mod frames;
 mod locals;
@@ -20,6 +21,7 @@ mod values;
 mod walks;
 
 pub use changes::Changes;
+pub use fitting::fits_seen;
 pub use frames::Frame;
 pub use locals::Locals;
 pub use operands::{Operand, Operands};

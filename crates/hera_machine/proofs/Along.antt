@@ -1,5 +1,5 @@
 -- A machine that is moved step by step goes on as the code does.
-use Rattle.std.proofs.Common.{◌≡◌, ℕ, suc, ◌+◌, List, [], ◌∷◌, ◌++◌, length, Some, None, refl, sym, ap, ◌∙◌, arith, append_assoc, append-nil, zero-add, length-append}
+use Rattle.std.proofs.Common.{◌≡◌, ℕ, suc, ◌+◌, List, [], ◌∷◌, ◌++◌, length, Some, None, refl, sym, ap, ◌∙◌, arith, subst, append_assoc, append-nil, zero-add, length-append}
 use Rattle.hera_meaning.specs.declared.schemas.RelDecl.{RelDecl}
 use Rattle.hera_meaning.specs.Deltas.{Delta, State, apply_of}
 use Rattle.hera_meaning.specs.Hosts.{Hosts}
@@ -13,7 +13,7 @@ use Rattle.hera_machine.specs.declared.events.End.{End}
 use Rattle.hera_machine.specs.declared.events.Event.TheVariants.{Quiet, Out, Commit, Ended}
 use Rattle.hera_machine.specs.declared.events.Status.TheVariants.{Working}
 use Rattle.hera_machine.specs.Over.{state_over}
-use Rattle.hera_machine.specs.Standing.{Standing, machine_over, event_over, commit_over, stop_of}
+use Rattle.hera_machine.specs.Standing.{Standing, machine_over, event_over, commit_over, stop_of, GoesQuietly, Tells}
 
 -- ---- events
 
@@ -89,40 +89,44 @@ module _ (code : Code) (rels : List RelDecl) (hosts : Hosts) (s : State) (turns 
     count_is = refl;
   }
 
-  -- a step further
-  further : (bytes : List ℕ) (ds : List Delta) (m : Standing) (a : IsAlong bytes ds m) (t : Step) → t ≡ code_step m.code m.relations hosts (state_over s ds) (machine_over (state_over s ds) m) →
-      (j : ℕ) → code_at code rels s hosts turns ((a.steps + 1) + j) ≡ after_step t (state_over s ds) a.events (λ s m es. exec_code code rels hosts j s m es)
-  further bytes ds m a t e j =
-      let more : (a.steps + 1) + j ≡ a.steps + suc j = omega arith in
+  -- a step further, behind quiet ones
+  further : (bytes : List ℕ) (ds : List Delta) (m : Standing) (mid : Machine) (a : IsAlong bytes ds m) → (quietly : GoesQuietly m.code m.relations hosts (state_over s ds) (machine_over (state_over s ds) m) mid)
+      → (t : Step) → t ≡ code_step m.code m.relations hosts (state_over s ds) mid →
+      (j : ℕ) → code_at code rels s hosts turns ((a.steps + quietly.0 + 1) + j) ≡ after_step t (state_over s ds) a.events (λ s m es. exec_code code rels hosts j s m es)
+  further bytes ds m mid a (k, go) t e j =
+      let more : (a.steps + k + 1) + j ≡ a.steps + (k + suc j) = omega arith in
       let over_it : Machine = machine_over (state_over s ds) m in
-      let here : code_step code rels hosts (state_over s ds) over_it ≡ t =
-      ap (λ c. code_step c rels hosts (state_over s ds) over_it) (sym a.code_is) ∙ ap (λ r. code_step m.code r hosts (state_over s ds) over_it) (sym a.rels_are) ∙ sym e in
-      ap (λ k. code_at code rels s hosts turns k) more ∙ a.goes_on (suc j)
+      let here : code_step code rels hosts (state_over s ds) mid ≡ t =
+      ap (λ c. code_step c rels hosts (state_over s ds) mid) (sym a.code_is) ∙ ap (λ r. code_step m.code r hosts (state_over s ds) mid) (sym a.rels_are) ∙ sym e in
+      let own : exec_code code rels hosts (k + suc j) (state_over s ds) over_it a.events ≡ exec_code code rels hosts (suc j) (state_over s ds) mid a.events =
+      subst (λ (c : Code). exec_code c rels hosts (k + suc j) (state_over s ds) over_it a.events ≡ exec_code c rels hosts (suc j) (state_over s ds) mid a.events) a.code_is
+      (subst (λ (r : List RelDecl). exec_code m.code r hosts (k + suc j) (state_over s ds) over_it a.events ≡ exec_code m.code r hosts (suc j) (state_over s ds) mid a.events) a.rels_are (go (suc j) a.events)) in
+      ap (λ k. code_at code rels s hosts turns k) more ∙ a.goes_on (k + suc j) ∙ own
       ∙ ap (λ t. after_step t (state_over s ds) a.events (λ s m es. exec_code code rels hosts j s m es)) here
 
   pub along_quiet : (bytes : List ℕ) (ds : List Delta) (m new : Standing) → IsAlong bytes ds m →
-      event_over (state_over s ds) Quiet new ≡ code_step m.code m.relations hosts (state_over s ds) (machine_over (state_over s ds) m) → new.status ≡ Working → new.code ≡ m.code → new.relations ≡ m.relations → IsAlong bytes ds new
-  along_quiet bytes ds m new a e w c r = record {
-    steps = a.steps + 1;
+      Tells m.code m.relations hosts (state_over s ds) Quiet m new → new.status ≡ Working → new.code ≡ m.code → new.relations ≡ m.relations → IsAlong bytes ds new
+  along_quiet bytes ds m new a (mid, quietly, e) w c r = record {
+    steps = a.steps + quietly.0 + 1;
     events = a.events;
     works = w;
     code_is = c ∙ a.code_is;
     rels_are = r ∙ a.rels_are;
-    goes_on = further bytes ds m a (quiet (machine_over (state_over s ds) new)) e;
+    goes_on = further bytes ds m mid a quietly (quiet (machine_over (state_over s ds) new)) e;
     printed_is = a.printed_is;
     stored_is = a.stored_is;
     count_is = a.count_is;
   }
 
   pub along_out : (bytes : List ℕ) (ds : List Delta) (m new : Standing) (line : List ℕ) → IsAlong bytes ds m →
-      event_over (state_over s ds) (Out line) new ≡ code_step m.code m.relations hosts (state_over s ds) (machine_over (state_over s ds) m) → new.status ≡ Working → new.code ≡ m.code → new.relations ≡ m.relations → IsAlong (bytes ++ line) ds new
-  along_out bytes ds m new line a e w c r = record {
-    steps = a.steps + 1;
+      Tells m.code m.relations hosts (state_over s ds) (Out line) m new → new.status ≡ Working → new.code ≡ m.code → new.relations ≡ m.relations → IsAlong (bytes ++ line) ds new
+  along_out bytes ds m new line a (mid, quietly, e) w c r = record {
+    steps = a.steps + quietly.0 + 1;
     events = a.events ++ out line ∷ [];
     works = w;
     code_is = c ∙ a.code_is;
     rels_are = r ∙ a.rels_are;
-    goes_on = further bytes ds m a (says line (machine_over (state_over s ds) new)) e;
+    goes_on = further bytes ds m mid a quietly (says line (machine_over (state_over s ds) new)) e;
     printed_is = printed-append a.events (out line ∷ []) ∙ ap (λ bs. printed a.events ++ bs) (append-nil line) ∙ ap (λ bs. bs ++ line) a.printed_is;
     stored_is = state_after-append s a.events (out line ∷ []) ∙ a.stored_is;
     count_is = let more : stores (a.events ++ out line ∷ []) ≡ stores a.events + 0 = stores-append a.events (out line ∷ []) in omega (arith, more, a.count_is);
@@ -130,12 +134,12 @@ module _ (code : Code) (rels : List RelDecl) (hosts : Hosts) (s : State) (turns 
 
   -- behind a commit, whose delta was taken: the line of a commit has its number, counted from 1
   pub along_commit : (bytes : List ℕ) (ds : List Delta) (m new : Standing) (d : Delta) (line : List ℕ) → IsAlong bytes ds m →
-      event_over (state_over s ds) Commit new ≡ code_step m.code m.relations hosts (state_over s ds) (machine_over (state_over s ds) m) → new.waits ≡ Some d → new.status ≡ Working → new.code ≡ m.code → new.relations ≡ m.relations →
+      Tells m.code m.relations hosts (state_over s ds) Commit m new → new.waits ≡ Some d → new.status ≡ Working → new.code ≡ m.code → new.relations ≡ m.relations →
       line ≡ commit_text (length (ds ++ d ∷ [])) →
       IsAlong (bytes ++ line) (ds ++ d ∷ []) (record new { waits = None })
-  along_commit bytes ds m new d line a e waits w c r l =
+  along_commit bytes ds m new d line a (mid, quietly, e) waits w c r l =
       let taken : Standing = record new { waits = None } in
-      let t : commits d (machine_over (apply_of (state_over s ds) d) new) ≡ code_step m.code m.relations hosts (state_over s ds) (machine_over (state_over s ds) m) =
+      let t : commits d (machine_over (apply_of (state_over s ds) d) new) ≡ code_step m.code m.relations hosts (state_over s ds) mid =
       ap (λ o. commit_over (state_over s ds) o new) (sym waits) ∙ e in
       let more : List Event = store (apply_of (state_over s ds) d) d ∷ out (commit_text (suc (stores a.events))) ∷ [] in
       let over_is : state_over s (ds ++ d ∷ []) ≡ apply_of (state_over s ds) d = state_over-push s ds d in
@@ -143,23 +147,23 @@ module _ (code : Code) (rels : List RelDecl) (hosts : Hosts) (s : State) (turns 
       let count : length (ds ++ d ∷ []) ≡ suc (stores a.events) = omega (arith, long, a.count_is) in
       let text : commit_text (suc (stores a.events)) ++ [] ≡ line = append-nil (commit_text (suc (stores a.events))) ∙ ap commit_text (sym count) ∙ sym l in
       record {
-        steps = a.steps + 1;
+        steps = a.steps + quietly.0 + 1;
         events = a.events ++ more;
         works = w;
         code_is = c ∙ a.code_is;
         rels_are = r ∙ a.rels_are;
-        goes_on = λ j. further bytes ds m a (commits d (machine_over (apply_of (state_over s ds) d) new)) t j ∙ ap (λ t. exec_code code rels hosts j t (machine_over t taken) (a.events ++ more)) (sym over_is);
+        goes_on = λ j. further bytes ds m mid a quietly (commits d (machine_over (apply_of (state_over s ds) d) new)) t j ∙ ap (λ t. exec_code code rels hosts j t (machine_over t taken) (a.events ++ more)) (sym over_is);
         printed_is = printed-append a.events more ∙ ap (λ bs. printed a.events ++ bs) text ∙ ap (λ bs. bs ++ line) a.printed_is;
         stored_is = state_after-append s a.events more ∙ sym over_is;
         count_is = let n : stores (a.events ++ more) ≡ stores a.events + 1 = stores-append a.events more in omega (arith, n, count);
       }
 
   pub along_end : (bytes : List ℕ) (ds : List Delta) (m new : Standing) (end : End) → IsAlong bytes ds m →
-      event_over (state_over s ds) (Ended end) new ≡ code_step m.code m.relations hosts (state_over s ds) (machine_over (state_over s ds) m) → EndsAs (bytes ++ last_text end) ds end
-  along_end bytes ds m new end a e = record {
-    steps = a.steps + 1 + 0;
+      Tells m.code m.relations hosts (state_over s ds) (Ended end) m new → EndsAs (bytes ++ last_text end) ds end
+  along_end bytes ds m new end a (mid, quietly, e) = record {
+    steps = a.steps + quietly.0 + 1 + 0;
     events = with_line a.events (stop_of end);
-    ends = further bytes ds m a (ends (stop_of end)) e 0;
+    ends = further bytes ds m mid a quietly (ends (stop_of end)) e 0;
     printed_is = printed_line a.events (stop_of end) ∙ ap (λ bs. bs ++ last_text end) a.printed_is;
     stored_is = state_line s a.events (stop_of end) ∙ a.stored_is;
   }

@@ -6,3 +6,4 @@ pub mod Instructing
 pub mod Relating
 pub mod Answering
 pub mod Advancing
+pub mod Quietly

@@ -1,18 +1,21 @@
 -- What contracts see of a machine, and what its events tell.
-use Rattle.std.specs.Prelude.{◌≡◌, ◌≢◌, ℕ, List, Option, Some, None, Result, Ok, Err}
+use Rattle.std.specs.Prelude.{◌≡◌, ◌≢◌, ◌+◌, ◌<◌, ℕ, List, Option, Some, None, Result, Ok, Err}
 use Rattle.std.specs.declared.alloc.AllocError.{AllocError}
 use Rattle.hera_meaning.specs.declared.schemas.RelDecl.{RelDecl}
 use Rattle.hera_meaning.specs.Deltas.{Delta, State, apply_of}
+use Rattle.hera_meaning.specs.Hosts.{Hosts}
 use Rattle.hera_meaning.specs.Run.{finished, stopped, out_of_turns}
+use Rattle.hera_meaning.specs.Worlds as worlds
 use Rattle.hera_code.specs.declared.instrs.Code.{Code}
-use Rattle.hera_code.specs.Machine.{Machine, Stop, ended, stuck, Step, quiet, says, commits, ends}
+use Rattle.hera_code.specs.Machine.{Machine, Stop, ended, stuck, Step, quiet, says, commits, ends, code_step}
+use Rattle.hera_code.specs.Reached.{exec_code}
 use Rattle.hera_machine.specs.declared.events.End.{End}
 use Rattle.hera_machine.specs.declared.events.End.TheVariants.{Done, Trap, Spent, Stuck}
 use Rattle.hera_machine.specs.declared.events.Event.{Event}
 use Rattle.hera_machine.specs.declared.events.Event.TheVariants.{Quiet, Out, Commit, Ended}
 use Rattle.hera_machine.specs.declared.events.Status.{Status}
 use Rattle.hera_machine.specs.declared.events.Status.TheVariants.{Working, Over, GaveUp}
-use Rattle.hera_machine.specs.Descends.{IsLower}
+use Rattle.hera_machine.specs.Descends.{left, IsLower}
 use Rattle.hera_machine.specs.Working.{Work, machine_at}
 
 -- the code and its relations, the machine at work, whether it works, and the delta of a commit that was not
@@ -74,3 +77,18 @@ IsNearer l old new Quiet = IsLower l old new
 IsNearer l old new (Out line) = IsLower l old new
 IsNearer l old new Commit = IsLower l old new
 IsNearer l old new (Ended end) = Unit {0}
+
+-- from one machine some quiet instructions lead to the other one: what comes of the code goes on there
+abbrev pub GoesQuietly : Code → List RelDecl → Hosts → State → Machine → Machine → Type 0
+GoesQuietly code rels hosts s m n = (k : ℕ) × ((j : ℕ) → (es : List worlds.Event) → exec_code code rels hosts (k + j) s m es ≡ exec_code code rels hosts j s n es)
+
+-- some quiet instructions, and then one that an event and the machine behind it tell
+abbrev pub Tells : Code → List RelDecl → Hosts → State → Event → (old new : Standing) → Type 0
+Tells code rels hosts s e old new = (m : Machine) × GoesQuietly code rels hosts s (machine_over s old) m × (event_over s e new ≡ code_step code rels hosts s m)
+
+-- unless the run ended, less is left of code of this length, as one number
+abbrev pub IsLess : ℕ → Machine → Machine → Event → Type 0
+IsLess l old new Quiet = left l new < left l old
+IsLess l old new (Out line) = left l new < left l old
+IsLess l old new Commit = left l new < left l old
+IsLess l old new (Ended end) = Unit {0}

@@ -9,8 +9,6 @@
 mod events;
 mod machine;
 mod running;
-#[cfg(test)]
-mod tests;
 
 pub use events::{End, Event, Status};
 pub use machine::Machine;

@@ -1,13 +1,15 @@
 //! A machine that runs a program's code.
 ghost use Rattle.std.specs.Prelude.{◌≡◌, ◌≢◌, ◌≤◌, [], true, Some, None, IfOk, IsErr, IsOk, OnOk, OnErr, length, slice_get};
 ghost use Rattle.hera_meaning.specs.Deltas.{State};
+ghost use Rattle.hera_meaning.specs.Hosts.{Hosts};
 ghost use Rattle.hera_host.specs.Tables.{specs_of};
 ghost use Rattle.hera_code.specs.Forward.{Forward};
 ghost use Rattle.hera_code.specs.Machine.{code_step};
 ghost use Rattle.hera_code.specs.Reached.{start_of};
 ghost use Rattle.hera_machine.specs.Over.{state_over};
 ghost use Rattle.hera_machine.specs.Sparing.{is_sparing};
-ghost use Rattle.hera_machine.specs.Standing.{machine_over, event_over, status_by, status_after, WaitsBy, IsNearer};
+ghost use Rattle.hera_machine.specs.Descends.{left};
+ghost use Rattle.hera_machine.specs.Standing.{machine_over, event_over, status_by, status_after, WaitsBy, IsNearer, GoesQuietly, Tells, IsLess};
 
 use crate::events::{End, Event, Status, Told};
 use crate::running::Running;
@@ -132,8 +134,23 @@ impl<'c> Machine<'c> {
         }
     }
 
-    /// Executes one instruction as `step` does, with the place for one more operand made before it. A
-    /// refusal of the place is want of memory, behind which the machine is as it was.
+    /// Executes the instructions at hand that are quiet and take no memory, some 4096 at most.
+    fn hurry(&mut self)
+        ensures quietly { self.old.status ≡ Status.Working → (hosts : Hosts) → (s : State) → GoesQuietly self.old.code self.old.relations hosts s (machine_over s self.old) (machine_over s self.new) }
+        ensures less { Forward self.old.code → left (length self.old.code.instrs) self.new.state ≤ left (length self.old.code.instrs) self.old.state }
+        ensures status { self.new.status ≡ self.old.status }
+        ensures waits { self.new.waits ≡ self.old.waits }
+        ensures code { self.new.code ≡ self.old.code }
+        ensures relations { self.new.relations ≡ self.old.relations }
+    {
+        if let Status::Working = self.status {
+            self.work.hurry(self.code);
+        }
+    }
+
+    /// Executes quiet instructions that take no memory, as many as come and some 4096 at most, and then one as
+    /// `step` does, with the place for one more operand made before it. A refusal of the place is want of
+    /// memory.
     pub fn advance(
         &mut self,
         base: &Base,
@@ -141,13 +158,14 @@ impl<'c> Machine<'c> {
         hosts: &HostTable,
     ) -> Result<Event, AllocError>
         requires { self.old.waits ≡ None }
-        ensures steps { self.old.status ≡ Status.Working → let stored = state_over base.now.state commits.now in IfOk result (λ e. event_over stored e self.new ≡ code_step self.old.code self.old.relations (specs_of hosts.now.names) stored (machine_over stored self.old)) }
-        ensures nearer { Forward self.old.code → IfOk result (IsNearer (length self.old.code.instrs) self.old.state self.new.state) }
+        ensures tells { self.old.status ≡ Status.Working → let stored = state_over base.now.state commits.now in IfOk result (λ e. Tells self.old.code self.old.relations (specs_of hosts.now.names) stored e self.old self.new) }
+        ensures less { Forward self.old.code → IfOk result (IsLess (length self.old.code.instrs) self.old.state self.new.state) }
         ensures status { IfOk result (λ e. self.new.status ≡ status_by e) }
         ensures waits { IfOk result (WaitsBy self.new.waits) }
         ensures code { self.new.code ≡ self.old.code }
         ensures relations { self.new.relations ≡ self.old.relations }
     {
+        self.hurry();
         self.reserve(1)?;
         self.step(base, commits, hosts)
     }

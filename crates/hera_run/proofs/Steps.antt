@@ -15,7 +15,7 @@ use Rattle.hera_code.specs.Reached.{still, after_step, stores, with_line, exec_c
 use Rattle.hera_code.specs.Forward.{Forward}
 use Rattle.hera_codegen.specs.Correct.{events_in, AreStoresOf}
 use Rattle.hera_machine.specs.Over.{state_over}
-use Rattle.hera_machine.specs.Standing.{Standing, machine_over, event_over, commit_over, stop_of, status_by, IsNearer}
+use Rattle.hera_machine.specs.Standing.{Standing, machine_over, event_over, commit_over, stop_of, status_by, GoesQuietly, Tells, IsLess}
 use Rattle.hera_machine.specs.declared.events.End.{End}
 use Rattle.hera_machine.specs.declared.events.End.TheVariants.{Done, Trap, Spent, Stuck}
 use Rattle.hera_machine.specs.declared.events.Event as machine_event
@@ -101,11 +101,11 @@ ending_keeps s Spent = refl
 ending_keeps s Stuck = refl
 
 -- what a step lowers, of this code
-pub comes_nearer : (code : Code) (m n : Standing) (e told : machine_event.Event) → m.code ≡ code → Forward code → (Forward m.code → IsNearer (length m.code.instrs) m.state n.state e) → e ≡ told
-    → IsNearer (length code.instrs) m.state n.state told
+pub comes_nearer : (code : Code) (m n : Standing) (e told : machine_event.Event) → m.code ≡ code → Forward code → (Forward m.code → IsLess (length m.code.instrs) m.state n.state e) → e ≡ told
+    → IsLess (length code.instrs) m.state n.state told
 comes_nearer code m n e told same forward nearer event =
-    subst (λ (own : Code). IsNearer (length own.instrs) m.state n.state told) same
-    (subst (λ (x : machine_event.Event). IsNearer (length m.code.instrs) m.state n.state x) event (nearer (subst Forward (sym same) forward)))
+    subst (λ (own : Code). IsLess (length own.instrs) m.state n.state told) same
+    (subst (λ (x : machine_event.Event). IsLess (length m.code.instrs) m.state n.state x) event (nearer (subst Forward (sym same) forward)))
 
 module _ (code : Code) (rels : List RelDecl) (hosts : Hosts) (db : Database) (turns : ℕ) where
   -- a machine at work stands where the code stands after some steps, with these events so far
@@ -119,7 +119,7 @@ module _ (code : Code) (rels : List RelDecl) (hosts : Hosts) (db : Database) (tu
   -- from there it made a step, and told this
   pub record Steps (events : List Event) (m new : Standing) (told : machine_event.Event) : Type 0 where
     pub at : IsAt events m
-    pub step : event_over (state_after db.state events) told new ≡ code_step m.code m.relations hosts (state_after db.state events) (machine_over (state_after db.state events) m)
+    pub step : Tells m.code m.relations hosts (state_after db.state events) told m new
     pub status : new.status ≡ status_by told
     pub code_kept : new.code ≡ m.code
     pub rels_kept : new.relations ≡ m.relations
@@ -134,46 +134,49 @@ module _ (code : Code) (rels : List RelDecl) (hosts : Hosts) (db : Database) (tu
   }
 
   pub stepped : (events : List Event) (m new : Standing) (given : State) (e told : machine_event.Event) → IsAt events m → given ≡ state_after db.state events → e ≡ told
-      → event_over given e new ≡ code_step m.code m.relations hosts given (machine_over given m)
+      → Tells m.code m.relations hosts given e m new
       → new.status ≡ status_by e → new.code ≡ m.code → new.relations ≡ m.relations → Steps events m new told
   stepped events m new given e told at same event is status code_kept rels_kept =
-      let first : event_over given told new ≡ code_step m.code m.relations hosts given (machine_over given m) =
-      subst (λ (x : machine_event.Event). event_over given x new ≡ code_step m.code m.relations hosts given (machine_over given m)) event is in
+      let first : Tells m.code m.relations hosts given told m new = subst (λ (x : machine_event.Event). Tells m.code m.relations hosts given x m new) event is in
       record {
         at = at;
-        step = subst (λ (s : State). event_over s told new ≡ code_step m.code m.relations hosts s (machine_over s m)) same first;
+        step = subst (λ (s : State). Tells m.code m.relations hosts s told m new) same first;
         status = status ∙ ap status_by event;
         code_kept = code_kept;
         rels_kept = rels_kept;
       }
 
-  -- where the code stands a step later
-  further : (events : List Event) (m : Standing) (at : IsAt events m) (t : Step) → t ≡ code_step m.code m.relations hosts (state_after db.state events) (machine_over (state_after db.state events) m)
-      → (j : ℕ) → code_at code rels db.state hosts turns ((at.steps + 1) + j) ≡ after_step t (state_after db.state events) events (λ s m es. exec_code code rels hosts j s m es)
-  further events m at t is j =
-      let more : (at.steps + 1) + j ≡ at.steps + suc j = omega arith in
+  -- where the code stands behind some quiet steps and one more
+  further : (events : List Event) (m : Standing) (at : IsAt events m) (mid : Machine) (quietly : GoesQuietly m.code m.relations hosts (state_after db.state events) (machine_over (state_after db.state events) m) mid)
+      (t : Step) → t ≡ code_step m.code m.relations hosts (state_after db.state events) mid
+      → (j : ℕ) → code_at code rels db.state hosts turns ((at.steps + quietly.0 + 1) + j) ≡ after_step t (state_after db.state events) events (λ s m es. exec_code code rels hosts j s m es)
+  further events m at mid (k, go) t is j =
+      let more : (at.steps + k + 1) + j ≡ at.steps + (k + suc j) = omega arith in
       let here = state_after db.state events in
-      let own : code_step code rels hosts here (machine_over here m) ≡ t =
-      ap (λ (c : Code). code_step c rels hosts here (machine_over here m)) (sym at.code_is) ∙ ap (λ (r : List RelDecl). code_step m.code r hosts here (machine_over here m)) (sym at.rels_are) ∙ sym is in
-      ap (λ (k : ℕ). code_at code rels db.state hosts turns k) more ∙ at.goes_on (suc j)
+      let own : code_step code rels hosts here mid ≡ t =
+      ap (λ (c : Code). code_step c rels hosts here mid) (sym at.code_is) ∙ ap (λ (r : List RelDecl). code_step m.code r hosts here mid) (sym at.rels_are) ∙ sym is in
+      let gone : exec_code code rels hosts (k + suc j) here (machine_over here m) events ≡ exec_code code rels hosts (suc j) here mid events =
+      subst (λ (c : Code). exec_code c rels hosts (k + suc j) here (machine_over here m) events ≡ exec_code c rels hosts (suc j) here mid events) at.code_is
+      (subst (λ (r : List RelDecl). exec_code m.code r hosts (k + suc j) here (machine_over here m) events ≡ exec_code m.code r hosts (suc j) here mid events) at.rels_are (go (suc j) events)) in
+      ap (λ (n : ℕ). code_at code rels db.state hosts turns n) more ∙ at.goes_on (k + suc j) ∙ gone
       ∙ ap (λ (t : Step). after_step t here events (λ s m es. exec_code code rels hosts j s m es)) own
 
   pub at_quiet : (events : List Event) (m new : Standing) → Steps events m new Quiet → IsAt events new
   at_quiet events m new to = record {
-    steps = to.at.steps + 1;
+    steps = to.at.steps + to.step.1.0 + 1;
     works = to.status;
     code_is = to.code_kept ∙ to.at.code_is;
     rels_are = to.rels_kept ∙ to.at.rels_are;
-    goes_on = further events m to.at (quiet (machine_over (state_after db.state events) new)) to.step;
+    goes_on = further events m to.at to.step.0 to.step.1 (quiet (machine_over (state_after db.state events) new)) to.step.2;
   }
 
   pub at_out : (events : List Event) (m new : Standing) (line : List ℕ) → Steps events m new (Out line) → IsAt (events ++ out line ∷ []) new
   at_out events m new line to = record {
-    steps = to.at.steps + 1;
+    steps = to.at.steps + to.step.1.0 + 1;
     works = to.status;
     code_is = to.code_kept ∙ to.at.code_is;
     rels_are = to.rels_kept ∙ to.at.rels_are;
-    goes_on = λ j. further events m to.at (says line (machine_over (state_after db.state events) new)) to.step j
+    goes_on = λ j. further events m to.at to.step.0 to.step.1 (says line (machine_over (state_after db.state events) new)) to.step.2 j
         ∙ ap (λ (s : State). exec_code code rels hosts j s (machine_over s new) (events ++ out line ∷ [])) (sym (state_after-append db.state events (out line ∷ [])));
   }
 
@@ -185,11 +188,11 @@ module _ (code : Code) (rels : List RelDecl) (hosts : Hosts) (db : Database) (tu
       → IsAt (events ++ committing events d) taken
   at_commit events m new taken d to waits is =
       subst (λ (x : Standing). IsAt (events ++ committing events d) x) (sym is) (record {
-        steps = to.at.steps + 1;
+        steps = to.at.steps + to.step.1.0 + 1;
         works = to.status;
         code_is = to.code_kept ∙ to.at.code_is;
         rels_are = to.rels_kept ∙ to.at.rels_are;
-        goes_on = λ j. further events m to.at (commits d (machine_over (apply_of (state_after db.state events) d) new)) (sym waits ∙ to.step) j
+        goes_on = λ j. further events m to.at to.step.0 to.step.1 (commits d (machine_over (apply_of (state_after db.state events) d) new)) (sym waits ∙ to.step.2) j
             ∙ ap (λ (s : State). exec_code code rels hosts j s (machine_over s new) (events ++ committing events d)) (sym (state_after-append db.state events (committing events d)));
       })
 
@@ -198,35 +201,37 @@ module _ (code : Code) (rels : List RelDecl) (hosts : Hosts) (db : Database) (tu
   -- a step that adds these events
   pub record Adds (events more : List Event) (m : Standing) : Type 0 where
     pub at : IsAt events m
-    pub now : events_in (code_at code rels db.state hosts turns (at.steps + 1)) ≡ events ++ more
+    pub after : ℕ
+    pub now : events_in (code_at code rels db.state hosts turns after) ≡ events ++ more
 
-  events_next : (events : List Event) (m : Standing) (at : IsAt events m) (t : Step) → t ≡ code_step m.code m.relations hosts (state_after db.state events) (machine_over (state_after db.state events) m)
-      → events_in (code_at code rels db.state hosts turns (at.steps + 1)) ≡ events_in (after_step t (state_after db.state events) events (λ s m es. still s m es))
-  events_next events m at t is =
-      let none : at.steps + 1 ≡ (at.steps + 1) + 0 = omega arith in
-      ap (λ (k : ℕ). events_in (code_at code rels db.state hosts turns k)) none ∙ ap events_in (further events m at t is 0)
+  events_next : (events : List Event) (m : Standing) (at : IsAt events m) (mid : Machine) (quietly : GoesQuietly m.code m.relations hosts (state_after db.state events) (machine_over (state_after db.state events) m) mid)
+      (t : Step) → t ≡ code_step m.code m.relations hosts (state_after db.state events) mid
+      → events_in (code_at code rels db.state hosts turns (at.steps + quietly.0 + 1)) ≡ events_in (after_step t (state_after db.state events) events (λ s m es. still s m es))
+  events_next events m at mid quietly t is =
+      let none : at.steps + quietly.0 + 1 ≡ (at.steps + quietly.0 + 1) + 0 = omega arith in
+      ap (λ (k : ℕ). events_in (code_at code rels db.state hosts turns k)) none ∙ ap events_in (further events m at mid quietly t is 0)
 
   pub adds_out : (events : List Event) (m new : Standing) (line : List ℕ) → Steps events m new (Out line) → Adds events (out line ∷ []) m
-  adds_out events m new line to = record { at = to.at; now = events_next events m to.at (says line (machine_over (state_after db.state events) new)) to.step }
+  adds_out events m new line to = record { at = to.at; after = to.at.steps + to.step.1.0 + 1; now = events_next events m to.at to.step.0 to.step.1 (says line (machine_over (state_after db.state events) new)) to.step.2 }
 
   pub adds_commit : (events : List Event) (m new : Standing) (d : Delta) → Steps events m new Commit → commit_over (state_after db.state events) new.waits new ≡ commits d (machine_over (apply_of (state_after db.state events) d) new) → Adds events (committing events d) m
-  adds_commit events m new d to waits = record { at = to.at; now = events_next events m to.at (commits d (machine_over (apply_of (state_after db.state events) d) new)) (sym waits ∙ to.step) }
+  adds_commit events m new d to waits = record { at = to.at; after = to.at.steps + to.step.1.0 + 1; now = events_next events m to.at to.step.0 to.step.1 (commits d (machine_over (apply_of (state_after db.state events) d) new)) (sym waits ∙ to.step.2) }
 
   pub adds_end : (events : List Event) (m new : Standing) (end : End) → Steps events m new (Ended end) → Adds events (ending_of end) m
-  adds_end events m new end to = record { at = to.at; now = events_next events m to.at (ends (stop_of end)) to.step ∙ line_behind events (stop_of end) }
+  adds_end events m new end to = record { at = to.at; after = to.at.steps + to.step.1.0 + 1; now = events_next events m to.at to.step.0 to.step.1 (ends (stop_of end)) to.step.2 ∙ line_behind events (stop_of end) }
 
   -- ---- and what it comes to, where the journal of the database ends at this gate
 
   module _ (gate : ℕ) where
     fit_next : (events more : List Event) (m : Standing) (adds : Adds events more m) → all_fit gate events ≡ true → all_fit (gate_after gate events) more ≡ true
-        → all_fit gate (events_in (code_at code rels db.state hosts turns (adds.at.steps + 1))) ≡ true
+        → all_fit gate (events_in (code_at code rels db.state hosts turns (adds.after))) ≡ true
     fit_next events more m adds fit next = ap (all_fit gate) adds.now ∙ all_fit-append gate events more fit ∙ next
 
     -- a cut of the events that a step adds is one of the code's events
     pub cut_next : (events more : List Event) (m : Standing) (now : Database) (start mid : Option (List ℕ)) (c : Image) → Adds events more m → all_fit gate events ≡ true → all_fit (gate_after gate events) more ≡ true
         → now ≡ with_state db (state_after db.state events) → Appends start mid (printed events) → IsCut more now mid c → IsCodeCut code rels hosts db gate turns start c
     cut_next events more m now start mid c adds fit next is said cut = record {
-      steps = adds.at.steps + 1;
+      steps = adds.after;
       fit = fit_next events more m adds fit next;
       cut = subst (λ (es : List Event). IsCut es db start c) (sym adds.now)
           (cut-behind events more db (state_after db.state events) start mid c said refl (subst (λ (x : Database). IsCut more x mid c) is cut));
@@ -244,10 +249,10 @@ module _ (code : Code) (rels : List RelDecl) (hosts : Hosts) (db : Database) (tu
     pub part_next : (events more : List Event) (m : Standing) (start mid now : Option (List ℕ)) → Adds events more m → all_fit gate events ≡ true → all_fit (gate_after gate events) more ≡ true
         → Appends start mid (printed events) → ((n : ℕ) × Appends mid now (take n (printed more))) → IsPartDone code rels hosts db gate turns start now
     part_next events more m start mid now adds fit next said (n, then) =
-        let front : take (length (printed events) + n) (printed (events_in (code_at code rels db.state hosts turns (adds.at.steps + 1)))) ≡ printed events ++ take n (printed more) =
+        let front : take (length (printed events) + n) (printed (events_in (code_at code rels db.state hosts turns (adds.after)))) ≡ printed events ++ take n (printed more) =
         ap (λ (es : List Event). take (length (printed events) + n) (printed es)) adds.now ∙ ap (λ (l : List ℕ). take (length (printed events) + n) l) (printed-append events more) ∙ take-append-add (printed events) (printed more) n in
         record {
-          steps = adds.at.steps + 1;
+          steps = adds.after;
           fit = fit_next events more m adds fit next;
           front = length (printed events) + n;
           said = subst (λ (l : List ℕ). Appends start now l) (sym front) (Appends-trans _ _ _ _ _ said then);
@@ -295,9 +300,9 @@ module _ (code : Code) (rels : List RelDecl) (hosts : Hosts) (db : Database) (tu
     all_done events m new end left start mid now to fit is said then =
         let behind = line_behind events (stop_of end) in
         record {
-          steps = (to.at.steps + 1) + 0;
+          steps = (to.at.steps + to.step.1.0 + 1) + 0;
           events = with_line events (stop_of end);
-          ends = further events m to.at (ends (stop_of end)) to.step 0;
+          ends = further events m to.at to.step.0 to.step.1 (ends (stop_of end)) to.step.2 0;
           fit = ap (all_fit gate) behind ∙ all_fit-append gate events (ending_of end) fit ∙ ending_fits (gate_after gate events) end;
           said = subst (λ (l : List ℕ). Appends start now l) (sym (ap printed behind ∙ printed-append events (ending_of end))) (Appends-trans _ _ _ _ _ said then);
           stored = is ∙ ap (λ (s : State). with_state db s) (sym (ap (λ (es : List Event). state_after db.state es) behind ∙ state_after-append db.state events (ending_of end) ∙ ending_keeps (state_after db.state events) end));
@@ -306,7 +311,7 @@ module _ (code : Code) (rels : List RelDecl) (hosts : Hosts) (db : Database) (tu
     pub done_up_to : (events more : List Event) (m : Standing) (left : Database) (start now : Option (List ℕ)) → Adds events more m → all_fit gate events ≡ true → overfills (gate_after gate events) more ≡ true
         → left ≡ with_state db (state_after db.state events) → Appends start now (printed events) → IsDoneUpToFull code rels hosts db gate turns start now left
     done_up_to events more m left start now adds fit full is said = record {
-      steps = adds.at.steps + 1;
+      steps = adds.after;
       events = events;
       next = more;
       reaches = adds.now;
@@ -320,5 +325,5 @@ module _ (code : Code) (rels : List RelDecl) (hosts : Hosts) (db : Database) (tu
   pub proper_commit : (events : List Event) (m : Standing) (d : Delta) (own : List RelDecl) → Adds events (committing events d) m → own ≡ db.catalogue
       → ((k : ℕ) → AreStoresOf db.catalogue (events_in (code_at code rels db.state hosts turns k))) → (is_fail d ≡ false) × IsDeltaOf own d
   proper_commit events m d own adds same are =
-      let of = stores_behind db.catalogue events (committing events d) (subst (λ (es : List Event). AreStoresOf db.catalogue es) adds.now (are (adds.at.steps + 1))) in
+      let of = stores_behind db.catalogue events (committing events d) (subst (λ (es : List Event). AreStoresOf db.catalogue es) adds.now (are (adds.after))) in
       (of.0.3, subst (λ (r : List RelDecl). IsDeltaOf r d) (sym same) of.0.2)

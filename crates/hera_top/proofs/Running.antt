@@ -22,7 +22,7 @@ use Rattle.hera_codegen.specs.Correct.{events_in, IsPrefix}
 use Rattle.hera_machine.specs.declared.events.End.{End}
 use Rattle.hera_machine.specs.declared.events.End.TheVariants.{Stuck}
 use Rattle.hera_machine.specs.declared.events.Event as machine_event
-use Rattle.hera_machine.specs.Standing.{Standing, stop_of, machine_over, event_over, IsNearer}
+use Rattle.hera_machine.specs.Standing.{Standing, stop_of, machine_over, event_over, Tells, IsLess}
 use Rattle.hera_machine.specs.Over.{state_over}
 use Rattle.hera_machine.proofs.Along.{IsAlong, EndsAs, printed-append}
 use Rattle.rel_pages.specs.Stored.{empty_state}
@@ -67,19 +67,17 @@ module _ (code : Code) (rels : List RelDecl) (hosts : Hosts) (s : State) (turns 
 
   -- what a step tells, of the commits so far
   pub stepped : (m new : Standing) (ds given : List Delta) (e told : machine_event.Event) → given ≡ ds → e ≡ told
-      → event_over (state_over s given) e new ≡ code_step m.code m.relations hosts (state_over s given) (machine_over (state_over s given) m)
-      → event_over (state_over s ds) told new ≡ code_step m.code m.relations hosts (state_over s ds) (machine_over (state_over s ds) m)
+      → Tells m.code m.relations hosts (state_over s given) e m new → Tells m.code m.relations hosts (state_over s ds) told m new
   stepped m new ds given e told same event is =
-      let first : event_over (state_over s given) told new ≡ code_step m.code m.relations hosts (state_over s given) (machine_over (state_over s given) m) =
-      subst (λ (x : machine_event.Event). event_over (state_over s given) x new ≡ code_step m.code m.relations hosts (state_over s given) (machine_over (state_over s given) m)) event is in
-      subst (λ (l : List Delta). event_over (state_over s l) told new ≡ code_step m.code m.relations hosts (state_over s l) (machine_over (state_over s l) m)) same first
+      subst (λ (l : List Delta). Tells m.code m.relations hosts (state_over s l) told m new) same
+      (subst (λ (x : machine_event.Event). Tells m.code m.relations hosts (state_over s given) x m new) event is)
 
   -- what a step lowers, of this code
-  pub comes_nearer : (m n : Standing) (e told : machine_event.Event) → m.code ≡ code → Forward code → (Forward m.code → IsNearer (length m.code.instrs) m.state n.state e) → e ≡ told
-      → IsNearer (length code.instrs) m.state n.state told
+  pub comes_nearer : (m n : Standing) (e told : machine_event.Event) → m.code ≡ code → Forward code → (Forward m.code → IsLess (length m.code.instrs) m.state n.state e) → e ≡ told
+      → IsLess (length code.instrs) m.state n.state told
   comes_nearer m n e told same forward nearer event =
-      subst (λ (own : Code). IsNearer (length own.instrs) m.state n.state told) same
-      (subst (λ (x : machine_event.Event). IsNearer (length m.code.instrs) m.state n.state x) event (nearer (subst Forward (sym same) forward)))
+      subst (λ (own : Code). IsLess (length own.instrs) m.state n.state told) same
+      (subst (λ (x : machine_event.Event). IsLess (length m.code.instrs) m.state n.state x) event (nearer (subst Forward (sym same) forward)))
 
   -- the next line was cut
   pub along_cut : (before mid now : Option (List ℕ)) (bytes line : List ℕ) (ds : List Delta) (m : Standing) → IsAlong code rels hosts s turns (bytes ++ line) ds m

@@ -11,8 +11,6 @@ mod refusal;
 mod run;
 mod say;
 mod status;
-#[cfg(test)]
-mod tests;
 mod top;
 mod words;
 

@@ -1,6 +1,6 @@
 //! The quick way of common instructions on ints and bools. It takes no memory, and where it does not answer
 //! true nothing has changed, and the instruction is done as any other.
-ghost use Rattle.std.specs.Prelude.{◌≡◌, ◌+◌, ◌<◌, ◌^◌, List, [], Some, true, false, length, slice_get};
+ghost use Rattle.std.specs.Prelude.{◌≡◌, ◌+◌, ◌<◌, ◌≤◌, ◌^◌, List, [], Some, true, false, length, slice_get};
 ghost use Rattle.hera_meaning.specs.Deltas.{State};
 ghost use Rattle.hera_meaning.specs.Hosts.{Hosts};
 ghost use Rattle.hera_meaning.specs.Fits.{arity};
@@ -10,7 +10,8 @@ ghost use Rattle.hera_flat.specs.Flats.{flat_value};
 ghost use Rattle.hera_code.specs.Forward.{Forward};
 ghost use Rattle.hera_code.specs.Machine as machine;
 ghost use Rattle.hera_code.specs.Machine.{code_step, quiet, on_with, on_top, on_some, pushes, answers, needs_slot, needs_address, goes_to, spends, by_bool};
-ghost use Rattle.hera_machine.specs.Descends.{IsLower};
+ghost use Rattle.hera_machine.specs.Descends.{left, IsLower};
+ghost use Rattle.hera_machine.specs.Standing.{GoesQuietly};
 ghost use Rattle.hera_machine.specs.Working.{machine_at};
 
 use super::Running;
@@ -18,7 +19,23 @@ use hera_code::{Code, Instr};
 use hera_flat::{Flat, flat_one, flat_two};
 use hera_meaning::{Const, Op, Scalar, Schema};
 
+/// The most instructions that are executed at once.
+const AT_ONCE: usize = 4096;
+
 impl Running {
+    /// Executes the instructions at hand, as long as they are common ones on ints and bools, and at most
+    /// 4096 of them.
+    pub(crate) fn hurry(&mut self, code: &Code)
+        ensures quietly { (rels : List PlainDecl) → (hosts : Hosts) → (s : State) → GoesQuietly code.now rels hosts s (machine_at s self.old) (machine_at s self.new) }
+        ensures less { Forward code.now → left (length code.now.instrs) (machine_at [] self.new) ≤ left (length code.now.instrs) (machine_at [] self.old) }
+    {
+        for _ in 0..AT_ONCE {
+            if !self.quick(code) {
+                return;
+            }
+        }
+    }
+
     /// Executes the instruction at hand, if that is a common one on ints and bools.
     #[inline]
     pub(crate) fn quick(&mut self, code: &Code) -> bool

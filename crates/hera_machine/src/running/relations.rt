@@ -15,9 +15,9 @@ ghost use Rattle.hera_machine.specs.Working.{machine_at};
 use super::{Running, stuck};
 use crate::events::{End, Told};
 use delta_atoms::Delta;
-use hera_frames::{Datum, Seen, let_go};
+use hera_frames::{Datum, Seen, fits_seen, let_go};
 use hera_meaning::{Op, TrapName};
-use hera_prims::{PrimEnd, arity, fits_rel, prim_rel};
+use hera_prims::{PrimEnd, arity, prim_rel};
 use hera_rows::{RowSet, Sorted};
 use rel_pages::Base;
 use std::alloc::{AllocError, Global};
@@ -34,13 +34,13 @@ pub(crate) enum Found {
 }
 
 /// What the operation gives of relations, of which one that takes a single operand has the first.
-fn found_of<A: Sorted, B: Sorted>(alloc: Global, op: &Op, a: &A, b: &B) -> Result<Found, AllocError>
+fn found_of(alloc: Global, op: &Op, a: &Seen<'_>, b: &Seen<'_>) -> Result<Found, AllocError>
     requires op { takes_relations op.now ≡ is_relational op.now }
     requires some { 0 < arity op.now }
-    ensures found { IfOk result (IsFound op.now (tables op.now (A.rows a.now) (B.rows b.now))) }
+    ensures found { IfOk result (IsFound op.now (tables op.now (rows_seen a.now) (rows_seen b.now))) }
     ensures spared { takes_memory op.now ≡ false → IsOk result }
 {
-    if !fits_rel(op, a, b) {
+    if !fits_seen(op, a, b) {
         return Ok(Found::Misfit);
     }
     match prim_rel(alloc, op, a, b) {

@@ -63,7 +63,7 @@ steps-preserved-in-Quiet g c =
     let start = g.W.Output.emitted c.args.outside.now in
     let mid = g.W.Output.emitted c.steps.outside in
     let same = state_read old db (state_after db.state i.events) c.base.result.now c.commits.result.now c.base.ensures.base c.commits.ensures.commits i.carried.stored in
-    let to = stepped c.args.code.now c.args.relations.now (specs_of c.args.hosts.now.names) db c.args.turns i.events m n (state_over c.base.result.now.state c.commits.result.now) c.in_ok-advance.field-0 (events.Quiet) i.at same c.in-Quiet.is (ens.steps i.at.works) ens.status ens.code ens.relations in
+    let to = stepped c.args.code.now c.args.relations.now (specs_of c.args.hosts.now.names) db c.args.turns i.events m n (state_over c.base.result.now.state c.commits.result.now) c.in_ok-advance.field-0 (events.Quiet) i.at same c.in-Quiet.is (ens.tells i.at.works) ens.status ens.code ens.relations in
     record {
       events = i.events;
       at = at_quiet c.args.code.now c.args.relations.now (specs_of c.args.hosts.now.names) db c.args.turns i.events m n to;
@@ -91,7 +91,7 @@ steps-preserved-in-Continue-branch-4 g c =
     let start = g.W.Output.emitted c.args.outside.now in
     let mid = g.W.Output.emitted c.steps.outside in
     let same = state_read old db (state_after db.state i.events) c.base.result.now c.commits.result.now c.base.ensures.base c.commits.ensures.commits i.carried.stored in
-    let to = stepped c.args.code.now c.args.relations.now (specs_of c.args.hosts.now.names) db c.args.turns i.events m n (state_over c.base.result.now.state c.commits.result.now) c.in_ok-advance.field-0 (events.Out c.in-Out.line) i.at same c.in-Out.is (ens.steps i.at.works) ens.status ens.code ens.relations in
+    let to = stepped c.args.code.now c.args.relations.now (specs_of c.args.hosts.now.names) db c.args.turns i.events m n (state_over c.base.result.now.state c.commits.result.now) c.in_ok-advance.field-0 (events.Out c.in-Out.line) i.at same c.in-Out.is (ens.tells i.at.works) ens.status ens.code ens.relations in
     let done = c.in_ok-carry_out-in-Out.ensures in
     record {
       events = i.events ++ out c.in-Out.line ∷ [];
@@ -120,7 +120,7 @@ returns-in_err-carry_out-in-Out-clause-cut g c =
     let start = g.W.Output.emitted c.args.outside.now in
     let mid = g.W.Output.emitted c.steps.outside in
     let same = state_read old db (state_after db.state i.events) c.base.result.now c.commits.result.now c.base.ensures.base c.commits.ensures.commits i.carried.stored in
-    let to = stepped c.args.code.now c.args.relations.now (specs_of c.args.hosts.now.names) db c.args.turns i.events m n (state_over c.base.result.now.state c.commits.result.now) c.in_ok-advance.field-0 (events.Out c.in-Out.line) i.at same c.in-Out.is (ens.steps i.at.works) ens.status ens.code ens.relations in
+    let to = stepped c.args.code.now c.args.relations.now (specs_of c.args.hosts.now.names) db c.args.turns i.events m n (state_over c.base.result.now.state c.commits.result.now) c.in_ok-advance.field-0 (events.Out c.in-Out.line) i.at same c.in-Out.is (ens.tells i.at.works) ens.status ens.code ens.relations in
     MatchResult-from_err c.from_residual-in_err-carry_out-in-Out.result _ _ c.from_residual-in_err-carry_out-in-Out.ensures.0
     (λ _. part_out c.args.code.now c.args.relations.now (specs_of c.args.hosts.now.names) db c.args.turns gate i.events m c.in-Out.line start mid _ (adds_out c.args.code.now c.args.relations.now (specs_of c.args.hosts.now.names) db c.args.turns i.events m n c.in-Out.line to) i.carried.fit i.said c.in_err-carry_out-in-Out.ensures.part)
 
@@ -137,7 +137,7 @@ returns-in_err-carry_out-in-Out-clause-any_moment g c =
     let start = g.W.Output.emitted c.args.outside.now in
     let mid = g.W.Output.emitted c.steps.outside in
     let same = state_read old db (state_after db.state i.events) c.base.result.now c.commits.result.now c.base.ensures.base c.commits.ensures.commits i.carried.stored in
-    let to = stepped c.args.code.now c.args.relations.now (specs_of c.args.hosts.now.names) db c.args.turns i.events m n (state_over c.base.result.now.state c.commits.result.now) c.in_ok-advance.field-0 (events.Out c.in-Out.line) i.at same c.in-Out.is (ens.steps i.at.works) ens.status ens.code ens.relations in
+    let to = stepped c.args.code.now c.args.relations.now (specs_of c.args.hosts.now.names) db c.args.turns i.events m n (state_over c.base.result.now.state c.commits.result.now) c.in_ok-advance.field-0 (events.Out c.in-Out.line) i.at same c.in-Out.is (ens.tells i.at.works) ens.status ens.code ens.relations in
     λ told. leaves-on _ _ (i.any_moment told) (c.carry_out.ensures.any_moment told) (λ image cut. cut_next c.args.code.now c.args.relations.now (specs_of c.args.hosts.now.names) db c.args.turns gate i.events (out c.in-Out.line ∷ []) m (database_of old) start mid image (adds_out c.args.code.now c.args.relations.now (specs_of c.args.hosts.now.names) db c.args.turns i.events m n c.in-Out.line to) i.carried.fit refl i.carried.stored i.said cut)
 
 pub commit-requires-clause-proper : goal.commit-requires-clause-proper
@@ -153,7 +153,7 @@ commit-requires-clause-proper g c =
     let start = g.W.Output.emitted c.args.outside.now in
     let mid = g.W.Output.emitted c.steps.outside in
     let same = state_read old db (state_after db.state i.events) c.base.result.now c.commits.result.now c.base.ensures.base c.commits.ensures.commits i.carried.stored in
-    let to = stepped c.args.code.now c.args.relations.now (specs_of c.args.hosts.now.names) db c.args.turns i.events m n (state_over c.base.result.now.state c.commits.result.now) c.in_ok-advance.field-0 (events.Commit) i.at same c.in-Commit.is (ens.steps i.at.works) ens.status ens.code ens.relations in
+    let to = stepped c.args.code.now c.args.relations.now (specs_of c.args.hosts.now.names) db c.args.turns i.events m n (state_over c.base.result.now.state c.commits.result.now) c.in_ok-advance.field-0 (events.Commit) i.at same c.in-Commit.is (ens.tells i.at.works) ens.status ens.code ens.relations in
     let d = c.take_pending-delta.result in
     let waits : commit_over (state_after db.state i.events) n.waits n ≡ commits d (machine_over (apply_of (state_after db.state i.events) d) n) = ap (λ o. commit_over (state_after db.state i.events) o n) c.take_pending-delta.ensures.delta in
     let adds = adds_commit c.args.code.now c.args.relations.now (specs_of c.args.hosts.now.names) db c.args.turns i.events m n d to waits in
@@ -172,7 +172,7 @@ steps-preserved g c =
     let start = g.W.Output.emitted c.args.outside.now in
     let mid = g.W.Output.emitted c.steps.outside in
     let same = state_read old db (state_after db.state i.events) c.base.result.now c.commits.result.now c.base.ensures.base c.commits.ensures.commits i.carried.stored in
-    let to = stepped c.args.code.now c.args.relations.now (specs_of c.args.hosts.now.names) db c.args.turns i.events m n (state_over c.base.result.now.state c.commits.result.now) c.in_ok-advance.field-0 (events.Commit) i.at same c.in-Commit.is (ens.steps i.at.works) ens.status ens.code ens.relations in
+    let to = stepped c.args.code.now c.args.relations.now (specs_of c.args.hosts.now.names) db c.args.turns i.events m n (state_over c.base.result.now.state c.commits.result.now) c.in_ok-advance.field-0 (events.Commit) i.at same c.in-Commit.is (ens.tells i.at.works) ens.status ens.code ens.relations in
     let d = c.take_pending-delta.result in
     let waits : commit_over (state_after db.state i.events) n.waits n ≡ commits d (machine_over (apply_of (state_after db.state i.events) d) n) = ap (λ o. commit_over (state_after db.state i.events) o n) c.take_pending-delta.ensures.delta in
     let adds = adds_commit c.args.code.now c.args.relations.now (specs_of c.args.hosts.now.names) db c.args.turns i.events m n d to waits in
@@ -208,7 +208,7 @@ returns-in_err-commit-in-Commit-clause-cut g c =
     let start = g.W.Output.emitted c.args.outside.now in
     let mid = g.W.Output.emitted c.steps.outside in
     let same = state_read old db (state_after db.state i.events) c.base.result.now c.commits.result.now c.base.ensures.base c.commits.ensures.commits i.carried.stored in
-    let to = stepped c.args.code.now c.args.relations.now (specs_of c.args.hosts.now.names) db c.args.turns i.events m n (state_over c.base.result.now.state c.commits.result.now) c.in_ok-advance.field-0 (events.Commit) i.at same c.in-Commit.is (ens.steps i.at.works) ens.status ens.code ens.relations in
+    let to = stepped c.args.code.now c.args.relations.now (specs_of c.args.hosts.now.names) db c.args.turns i.events m n (state_over c.base.result.now.state c.commits.result.now) c.in_ok-advance.field-0 (events.Commit) i.at same c.in-Commit.is (ens.tells i.at.works) ens.status ens.code ens.relations in
     let d = c.take_pending-delta.result in
     let waits : commit_over (state_after db.state i.events) n.waits n ≡ commits d (machine_over (apply_of (state_after db.state i.events) d) n) = ap (λ o. commit_over (state_after db.state i.events) o n) c.take_pending-delta.ensures.delta in
     let adds = adds_commit c.args.code.now c.args.relations.now (specs_of c.args.hosts.now.names) db c.args.turns i.events m n d to waits in
@@ -234,7 +234,7 @@ returns-in_err-commit-in-Commit-clause-any_moment g c =
     let start = g.W.Output.emitted c.args.outside.now in
     let mid = g.W.Output.emitted c.steps.outside in
     let same = state_read old db (state_after db.state i.events) c.base.result.now c.commits.result.now c.base.ensures.base c.commits.ensures.commits i.carried.stored in
-    let to = stepped c.args.code.now c.args.relations.now (specs_of c.args.hosts.now.names) db c.args.turns i.events m n (state_over c.base.result.now.state c.commits.result.now) c.in_ok-advance.field-0 (events.Commit) i.at same c.in-Commit.is (ens.steps i.at.works) ens.status ens.code ens.relations in
+    let to = stepped c.args.code.now c.args.relations.now (specs_of c.args.hosts.now.names) db c.args.turns i.events m n (state_over c.base.result.now.state c.commits.result.now) c.in_ok-advance.field-0 (events.Commit) i.at same c.in-Commit.is (ens.tells i.at.works) ens.status ens.code ens.relations in
     let d = c.take_pending-delta.result in
     let waits : commit_over (state_after db.state i.events) n.waits n ≡ commits d (machine_over (apply_of (state_after db.state i.events) d) n) = ap (λ o. commit_over (state_after db.state i.events) o n) c.take_pending-delta.ensures.delta in
     let adds = adds_commit c.args.code.now c.args.relations.now (specs_of c.args.hosts.now.names) db c.args.turns i.events m n d to waits in
@@ -259,7 +259,7 @@ returns-in_err-commit-in-Commit-clause-full g c =
     let start = g.W.Output.emitted c.args.outside.now in
     let mid = g.W.Output.emitted c.steps.outside in
     let same = state_read old db (state_after db.state i.events) c.base.result.now c.commits.result.now c.base.ensures.base c.commits.ensures.commits i.carried.stored in
-    let to = stepped c.args.code.now c.args.relations.now (specs_of c.args.hosts.now.names) db c.args.turns i.events m n (state_over c.base.result.now.state c.commits.result.now) c.in_ok-advance.field-0 (events.Commit) i.at same c.in-Commit.is (ens.steps i.at.works) ens.status ens.code ens.relations in
+    let to = stepped c.args.code.now c.args.relations.now (specs_of c.args.hosts.now.names) db c.args.turns i.events m n (state_over c.base.result.now.state c.commits.result.now) c.in_ok-advance.field-0 (events.Commit) i.at same c.in-Commit.is (ens.tells i.at.works) ens.status ens.code ens.relations in
     let d = c.take_pending-delta.result in
     let waits : commit_over (state_after db.state i.events) n.waits n ≡ commits d (machine_over (apply_of (state_after db.state i.events) d) n) = ap (λ o. commit_over (state_after db.state i.events) o n) c.take_pending-delta.ensures.delta in
     let adds = adds_commit c.args.code.now c.args.relations.now (specs_of c.args.hosts.now.names) db c.args.turns i.events m n d to waits in
@@ -285,7 +285,7 @@ returns-in_err-say_end-in-Ended-clause-cut g c =
     let start = g.W.Output.emitted c.args.outside.now in
     let mid = g.W.Output.emitted c.steps.outside in
     let same = state_read old db (state_after db.state i.events) c.base.result.now c.commits.result.now c.base.ensures.base c.commits.ensures.commits i.carried.stored in
-    let to = stepped c.args.code.now c.args.relations.now (specs_of c.args.hosts.now.names) db c.args.turns i.events m n (state_over c.base.result.now.state c.commits.result.now) c.in_ok-advance.field-0 (events.Ended c.in-Ended.end) i.at same c.in-Ended.is (ens.steps i.at.works) ens.status ens.code ens.relations in
+    let to = stepped c.args.code.now c.args.relations.now (specs_of c.args.hosts.now.names) db c.args.turns i.events m n (state_over c.base.result.now.state c.commits.result.now) c.in_ok-advance.field-0 (events.Ended c.in-Ended.end) i.at same c.in-Ended.is (ens.tells i.at.works) ens.status ens.code ens.relations in
     MatchResult-from_err c.from_residual-in_err-say_end-in-Ended.result _ _ c.from_residual-in_err-say_end-in-Ended.ensures.0
     (λ _. part_next c.args.code.now c.args.relations.now (specs_of c.args.hosts.now.names) db c.args.turns gate i.events (ending_of c.in-Ended.end) m start mid _ (adds_end c.args.code.now c.args.relations.now (specs_of c.args.hosts.now.names) db c.args.turns i.events m n c.in-Ended.end to) i.carried.fit (ending_fits _ c.in-Ended.end) i.said c.in_err-say_end-in-Ended.ensures.part)
 
@@ -302,7 +302,7 @@ returns-in_err-say_end-in-Ended-clause-any_moment g c =
     let start = g.W.Output.emitted c.args.outside.now in
     let mid = g.W.Output.emitted c.steps.outside in
     let same = state_read old db (state_after db.state i.events) c.base.result.now c.commits.result.now c.base.ensures.base c.commits.ensures.commits i.carried.stored in
-    let to = stepped c.args.code.now c.args.relations.now (specs_of c.args.hosts.now.names) db c.args.turns i.events m n (state_over c.base.result.now.state c.commits.result.now) c.in_ok-advance.field-0 (events.Ended c.in-Ended.end) i.at same c.in-Ended.is (ens.steps i.at.works) ens.status ens.code ens.relations in
+    let to = stepped c.args.code.now c.args.relations.now (specs_of c.args.hosts.now.names) db c.args.turns i.events m n (state_over c.base.result.now.state c.commits.result.now) c.in_ok-advance.field-0 (events.Ended c.in-Ended.end) i.at same c.in-Ended.is (ens.tells i.at.works) ens.status ens.code ens.relations in
     λ told. leaves-on _ _ (i.any_moment told) (c.say_end.ensures.any_moment told) (λ image cut. cut_next c.args.code.now c.args.relations.now (specs_of c.args.hosts.now.names) db c.args.turns gate i.events (ending_of c.in-Ended.end) m (database_of old) start mid image (adds_end c.args.code.now c.args.relations.now (specs_of c.args.hosts.now.names) db c.args.turns i.events m n c.in-Ended.end to) i.carried.fit (ending_fits _ c.in-Ended.end) i.carried.stored i.said cut)
 
 pub returns-in-Ended-clause-any_moment : goal.returns-in-Ended-clause-any_moment
@@ -318,7 +318,7 @@ returns-in-Ended-clause-any_moment g c =
     let start = g.W.Output.emitted c.args.outside.now in
     let mid = g.W.Output.emitted c.steps.outside in
     let same = state_read old db (state_after db.state i.events) c.base.result.now c.commits.result.now c.base.ensures.base c.commits.ensures.commits i.carried.stored in
-    let to = stepped c.args.code.now c.args.relations.now (specs_of c.args.hosts.now.names) db c.args.turns i.events m n (state_over c.base.result.now.state c.commits.result.now) c.in_ok-advance.field-0 (events.Ended c.in-Ended.end) i.at same c.in-Ended.is (ens.steps i.at.works) ens.status ens.code ens.relations in
+    let to = stepped c.args.code.now c.args.relations.now (specs_of c.args.hosts.now.names) db c.args.turns i.events m n (state_over c.base.result.now.state c.commits.result.now) c.in_ok-advance.field-0 (events.Ended c.in-Ended.end) i.at same c.in-Ended.is (ens.tells i.at.works) ens.status ens.code ens.relations in
     λ told. leaves-on _ _ (i.any_moment told) (c.say_end.ensures.any_moment told) (λ image cut. cut_next c.args.code.now c.args.relations.now (specs_of c.args.hosts.now.names) db c.args.turns gate i.events (ending_of c.in-Ended.end) m (database_of old) start mid image (adds_end c.args.code.now c.args.relations.now (specs_of c.args.hosts.now.names) db c.args.turns i.events m n c.in-Ended.end to) i.carried.fit (ending_fits _ c.in-Ended.end) i.carried.stored i.said cut)
 
 pub returns-in-Ended-clause-whole : goal.returns-in-Ended-clause-whole
@@ -334,5 +334,5 @@ returns-in-Ended-clause-whole g c =
     let start = g.W.Output.emitted c.args.outside.now in
     let mid = g.W.Output.emitted c.steps.outside in
     let same = state_read old db (state_after db.state i.events) c.base.result.now c.commits.result.now c.base.ensures.base c.commits.ensures.commits i.carried.stored in
-    let to = stepped c.args.code.now c.args.relations.now (specs_of c.args.hosts.now.names) db c.args.turns i.events m n (state_over c.base.result.now.state c.commits.result.now) c.in_ok-advance.field-0 (events.Ended c.in-Ended.end) i.at same c.in-Ended.is (ens.steps i.at.works) ens.status ens.code ens.relations in
+    let to = stepped c.args.code.now c.args.relations.now (specs_of c.args.hosts.now.names) db c.args.turns i.events m n (state_over c.base.result.now.state c.commits.result.now) c.in_ok-advance.field-0 (events.Ended c.in-Ended.end) i.at same c.in-Ended.is (ens.tells i.at.works) ens.status ens.code ens.relations in
     all_done c.args.code.now c.args.relations.now (specs_of c.args.hosts.now.names) db c.args.turns gate i.events m n c.in-Ended.end (database_of old) start mid _ to i.carried.fit i.carried.stored i.said c.in_ok-say_end-in-Ended.ensures.whole

@@ -5,7 +5,7 @@ use Rattle.hera_meaning.specs.Deltas.{Delta}
 use Rattle.hera_meaning.specs.Printed.{commit_text}
 use Rattle.hera_host.specs.Tables.{specs_of}
 use Rattle.hera_machine.specs.declared.events.Event.TheVariants as events
-use Rattle.hera_machine.specs.Descends.{left, IsLower}
+use Rattle.hera_machine.specs.Descends.{left}
 use Rattle.hera_machine.specs.Standing.{Standing, status_by, WaitsBy}
 use Rattle.hera_machine.proofs.Along.{IsAlong, along_start, along_quiet, along_out, along_commit, along_end}
 use Rattle.hera_volume.proofs.Moments.{leaves-none, leaves-on}
@@ -41,7 +41,7 @@ steps-preserved-in-Quiet g c =
     let n = c.advance.new.self in
     let ens = c.in_ok-advance.ensures in
     let told = stepped c.args.code.now c.args.relations.now (specs_of c.args.hosts.now.names) c.args.base.now.state c.args.turns m n c.steps.commits.items c.deref.result.now c.in_ok-advance.field-0 events.Quiet
-    c.deref.ensures.value c.in-Quiet.is (ens.steps i.along.works) in
+    c.deref.ensures.value c.in-Quiet.is (ens.tells i.along.works) in
     record {
       still = i.still;
       files = i.files;
@@ -60,7 +60,7 @@ returns-in_err-say-in-Out-clause-cut g c =
     let n = c.advance.new.self in
     let ens = c.in_ok-advance.ensures in
     let told = stepped c.args.code.now c.args.relations.now (specs_of c.args.hosts.now.names) c.args.base.now.state c.args.turns m n c.steps.commits.items c.deref.result.now c.in_ok-advance.field-0 (events.Out c.in-Out.line)
-    c.deref.ensures.value c.in-Out.is (ens.steps i.along.works) in
+    c.deref.ensures.value c.in-Out.is (ens.tells i.along.works) in
     let next = along_out c.args.code.now c.args.relations.now (specs_of c.args.hosts.now.names) c.args.base.now.state c.args.turns i.bytes c.steps.commits.items m n c.in-Out.line i.along told (ens.status ∙ ap (λ e. status_by e) c.in-Out.is) ens.code ens.relations in
     MatchResult-from_err c.from_residual-in_err-say-in-Out.result _ _ c.from_residual-in_err-say-in-Out.ensures.0
     (λ _. along_cut c.args.code.now c.args.relations.now (specs_of c.args.hosts.now.names) c.args.base.now.state c.args.turns _ _ _ i.bytes c.in-Out.line c.steps.commits.items n next i.said (same_part _ _ _ _ c.bytes.ensures c.in_err-say-in-Out.ensures.part))
@@ -72,7 +72,7 @@ returns-in_err-say-in-Out-clause-any_moment g c =
     let n = c.advance.new.self in
     let ens = c.in_ok-advance.ensures in
     let told = stepped c.args.code.now c.args.relations.now (specs_of c.args.hosts.now.names) c.args.base.now.state c.args.turns m n c.steps.commits.items c.deref.result.now c.in_ok-advance.field-0 (events.Out c.in-Out.line)
-    c.deref.ensures.value c.in-Out.is (ens.steps i.along.works) in
+    c.deref.ensures.value c.in-Out.is (ens.tells i.along.works) in
     let next = along_out c.args.code.now c.args.relations.now (specs_of c.args.hosts.now.names) c.args.base.now.state c.args.turns i.bytes c.steps.commits.items m n c.in-Out.line i.along told (ens.status ∙ ap (λ e. status_by e) c.in-Out.is) ens.code ens.relations in
     λ t. leaves-on _ _ (i.any_moment t) (c.say.ensures.any_moment t) (image_amid c.args.code.now c.args.relations.now (specs_of c.args.hosts.now.names) c.args.base.now.state c.args.turns (g.W.Outside.disk c.args.outside.now) (g.W.Outside.disk c.steps.outside) (g.W.Output.emitted c.args.outside.now) (g.W.Output.emitted c.steps.outside) i.bytes c.in-Out.line c.bytes.result.now c.steps.commits.items n next i.said (i.files t) c.bytes.ensures)
 
@@ -83,7 +83,7 @@ steps-preserved-in-Out g c =
     let n = c.advance.new.self in
     let ens = c.in_ok-advance.ensures in
     let told = stepped c.args.code.now c.args.relations.now (specs_of c.args.hosts.now.names) c.args.base.now.state c.args.turns m n c.steps.commits.items c.deref.result.now c.in_ok-advance.field-0 (events.Out c.in-Out.line)
-    c.deref.ensures.value c.in-Out.is (ens.steps i.along.works) in
+    c.deref.ensures.value c.in-Out.is (ens.tells i.along.works) in
     let next = along_out c.args.code.now c.args.relations.now (specs_of c.args.hosts.now.names) c.args.base.now.state c.args.turns i.bytes c.steps.commits.items m n c.in-Out.line i.along told (ens.status ∙ ap (λ e. status_by e) c.in-Out.is) ens.code ens.relations in
     record {
       still = c.in_ok-say-in-Out.ensures.cause.still ∙ i.still;
@@ -115,7 +115,7 @@ returns-in_err-say-in-Commit-clause-cut g c =
     let d = c.take_pending.result in
     let line = commit_text c.len.result in
     let told = stepped c.args.code.now c.args.relations.now (specs_of c.args.hosts.now.names) c.args.base.now.state c.args.turns m n c.steps.commits.items c.deref.result.now c.in_ok-advance.field-0 events.Commit
-    c.deref.ensures.value c.in-Commit.is (ens.steps i.along.works) in
+    c.deref.ensures.value c.in-Commit.is (ens.tells i.along.works) in
     let pushed = c.in_ok-push-in-Commit.ensures.items in
     let long : c.len.result ≡ length (c.steps.commits.items ++ d ∷ []) = c.len.ensures ∙ c.push.new.self.ok.0 ∙ ap (λ (ds : List Delta). length ds) pushed in
     let next = along_commit c.args.code.now c.args.relations.now (specs_of c.args.hosts.now.names) c.args.base.now.state c.args.turns i.bytes c.steps.commits.items m n d line i.along told c.take_pending.ensures.delta (ens.status ∙ ap (λ e. status_by e) c.in-Commit.is) ens.code ens.relations (ap commit_text long) in
@@ -131,7 +131,7 @@ returns-in_err-say-in-Commit-clause-any_moment g c =
     let d = c.take_pending.result in
     let line = commit_text c.len.result in
     let told = stepped c.args.code.now c.args.relations.now (specs_of c.args.hosts.now.names) c.args.base.now.state c.args.turns m n c.steps.commits.items c.deref.result.now c.in_ok-advance.field-0 events.Commit
-    c.deref.ensures.value c.in-Commit.is (ens.steps i.along.works) in
+    c.deref.ensures.value c.in-Commit.is (ens.tells i.along.works) in
     let pushed = c.in_ok-push-in-Commit.ensures.items in
     let long : c.len.result ≡ length (c.steps.commits.items ++ d ∷ []) = c.len.ensures ∙ c.push.new.self.ok.0 ∙ ap (λ (ds : List Delta). length ds) pushed in
     let next = along_commit c.args.code.now c.args.relations.now (specs_of c.args.hosts.now.names) c.args.base.now.state c.args.turns i.bytes c.steps.commits.items m n d line i.along told c.take_pending.ensures.delta (ens.status ∙ ap (λ e. status_by e) c.in-Commit.is) ens.code ens.relations (ap commit_text long) in
@@ -146,7 +146,7 @@ steps-preserved g c =
     let d = c.take_pending.result in
     let line = commit_text c.len.result in
     let told = stepped c.args.code.now c.args.relations.now (specs_of c.args.hosts.now.names) c.args.base.now.state c.args.turns m n c.steps.commits.items c.deref.result.now c.in_ok-advance.field-0 events.Commit
-    c.deref.ensures.value c.in-Commit.is (ens.steps i.along.works) in
+    c.deref.ensures.value c.in-Commit.is (ens.tells i.along.works) in
     let pushed = c.in_ok-push-in-Commit.ensures.items in
     let long : c.len.result ≡ length (c.steps.commits.items ++ d ∷ []) = c.len.ensures ∙ c.push.new.self.ok.0 ∙ ap (λ (ds : List Delta). length ds) pushed in
     let next = along_commit c.args.code.now c.args.relations.now (specs_of c.args.hosts.now.names) c.args.base.now.state c.args.turns i.bytes c.steps.commits.items m n d line i.along told c.take_pending.ensures.delta (ens.status ∙ ap (λ e. status_by e) c.in-Commit.is) ens.code ens.relations (ap commit_text long) in
@@ -166,9 +166,9 @@ pub steps-smaller : goal.steps-smaller
 steps-smaller g c =
     let m = c.steps.machine in
     let n = c.advance.new.self in
-    let lower : IsLower (length c.args.code.now.instrs) m.state n.state =
-    comes_nearer c.args.code.now c.args.relations.now (specs_of c.args.hosts.now.names) c.args.base.now.state c.args.turns m n c.in_ok-advance.field-0 events.Commit c.steps.invariant.along.code_is c.requires.forward c.in_ok-advance.ensures.nearer c.in-Commit.is in
-    subst (λ (x : Standing). left (length c.args.code.now.instrs) x.state < left (length c.args.code.now.instrs) m.state) (sym c.take_pending.ensures.taken) lower.less_left
+    let lower : left (length c.args.code.now.instrs) n.state < left (length c.args.code.now.instrs) m.state =
+    comes_nearer c.args.code.now c.args.relations.now (specs_of c.args.hosts.now.names) c.args.base.now.state c.args.turns m n c.in_ok-advance.field-0 events.Commit c.steps.invariant.along.code_is c.requires.forward c.in_ok-advance.ensures.less c.in-Commit.is in
+    subst (λ (x : Standing). left (length c.args.code.now.instrs) x.state < left (length c.args.code.now.instrs) m.state) (sym c.take_pending.ensures.taken) lower
 
 pub returns-in_err-line-in-Ended-clause-cut : goal.returns-in_err-line-in-Ended-clause-cut
 returns-in_err-line-in-Ended-clause-cut g c =
@@ -182,7 +182,7 @@ returns-in_err-say-in-Ended-clause-cut g c =
     let n = c.advance.new.self in
     let ens = c.in_ok-advance.ensures in
     let told = stepped c.args.code.now c.args.relations.now (specs_of c.args.hosts.now.names) c.args.base.now.state c.args.turns m n c.steps.commits.items c.deref.result.now c.in_ok-advance.field-0 (events.Ended c.in-Ended.end)
-    c.deref.ensures.value c.in-Ended.is (ens.steps i.along.works) in
+    c.deref.ensures.value c.in-Ended.is (ens.tells i.along.works) in
     let ends = along_end c.args.code.now c.args.relations.now (specs_of c.args.hosts.now.names) c.args.base.now.state c.args.turns i.bytes c.steps.commits.items m n c.in-Ended.end i.along told in
     MatchResult-from_err c.from_residual-in_err-say-in-Ended.result _ _ c.from_residual-in_err-say-in-Ended.ensures.0
     (λ _. ends_cut c.args.code.now c.args.relations.now (specs_of c.args.hosts.now.names) c.args.base.now.state c.args.turns _ _ _ i.bytes c.steps.commits.items c.in-Ended.end ends i.said (same_part _ _ _ _ (c.bytes-in-Ended.ensures ∙ c.in_ok-line-in-Ended.ensures) c.in_err-say-in-Ended.ensures.part))
@@ -194,7 +194,7 @@ returns-in_err-say-in-Ended-clause-any_moment g c =
     let n = c.advance.new.self in
     let ens = c.in_ok-advance.ensures in
     let told = stepped c.args.code.now c.args.relations.now (specs_of c.args.hosts.now.names) c.args.base.now.state c.args.turns m n c.steps.commits.items c.deref.result.now c.in_ok-advance.field-0 (events.Ended c.in-Ended.end)
-    c.deref.ensures.value c.in-Ended.is (ens.steps i.along.works) in
+    c.deref.ensures.value c.in-Ended.is (ens.tells i.along.works) in
     let ends = along_end c.args.code.now c.args.relations.now (specs_of c.args.hosts.now.names) c.args.base.now.state c.args.turns i.bytes c.steps.commits.items m n c.in-Ended.end i.along told in
     λ t. leaves-on _ _ (i.any_moment t) (c.say-in-Ended.ensures.any_moment t) (image_end c.args.code.now c.args.relations.now (specs_of c.args.hosts.now.names) c.args.base.now.state c.args.turns (g.W.Outside.disk c.args.outside.now) (g.W.Outside.disk c.steps.outside) (g.W.Output.emitted c.args.outside.now) (g.W.Output.emitted c.steps.outside) i.bytes c.bytes-in-Ended.result.now c.steps.commits.items c.in-Ended.end ends i.said (i.files t) (c.bytes-in-Ended.ensures ∙ c.in_ok-line-in-Ended.ensures))
 
@@ -205,7 +205,7 @@ returns-in-Ended-clause-whole g c =
     let n = c.advance.new.self in
     let ens = c.in_ok-advance.ensures in
     let told = stepped c.args.code.now c.args.relations.now (specs_of c.args.hosts.now.names) c.args.base.now.state c.args.turns m n c.steps.commits.items c.deref.result.now c.in_ok-advance.field-0 (events.Ended c.in-Ended.end)
-    c.deref.ensures.value c.in-Ended.is (ens.steps i.along.works) in
+    c.deref.ensures.value c.in-Ended.is (ens.tells i.along.works) in
     let ends = along_end c.args.code.now c.args.relations.now (specs_of c.args.hosts.now.names) c.args.base.now.state c.args.turns i.bytes c.steps.commits.items m n c.in-Ended.end i.along told in
     ends_said c.args.code.now c.args.relations.now (specs_of c.args.hosts.now.names) c.args.base.now.state c.args.turns _ _ _ i.bytes c.steps.commits.items c.in-Ended.end ends i.said (same_said _ _ _ _ (c.bytes-in-Ended.ensures ∙ c.in_ok-line-in-Ended.ensures) c.in_ok-say-in-Ended.ensures.whole)
 
@@ -216,6 +216,6 @@ returns-in-Ended-clause-any_moment g c =
     let n = c.advance.new.self in
     let ens = c.in_ok-advance.ensures in
     let told = stepped c.args.code.now c.args.relations.now (specs_of c.args.hosts.now.names) c.args.base.now.state c.args.turns m n c.steps.commits.items c.deref.result.now c.in_ok-advance.field-0 (events.Ended c.in-Ended.end)
-    c.deref.ensures.value c.in-Ended.is (ens.steps i.along.works) in
+    c.deref.ensures.value c.in-Ended.is (ens.tells i.along.works) in
     let ends = along_end c.args.code.now c.args.relations.now (specs_of c.args.hosts.now.names) c.args.base.now.state c.args.turns i.bytes c.steps.commits.items m n c.in-Ended.end i.along told in
     λ t. leaves-on _ _ (i.any_moment t) (c.say-in-Ended.ensures.any_moment t) (image_end c.args.code.now c.args.relations.now (specs_of c.args.hosts.now.names) c.args.base.now.state c.args.turns (g.W.Outside.disk c.args.outside.now) (g.W.Outside.disk c.steps.outside) (g.W.Output.emitted c.args.outside.now) (g.W.Output.emitted c.steps.outside) i.bytes c.bytes-in-Ended.result.now c.steps.commits.items c.in-Ended.end ends i.said (i.files t) (c.bytes-in-Ended.ensures ∙ c.in_ok-line-in-Ended.ensures))

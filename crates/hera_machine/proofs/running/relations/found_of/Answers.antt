@@ -1,7 +1,8 @@
 use Rattle.std.proofs.Common.{◌∙◌, sym}
+use Rattle.hera_frames.specs.Seeing.{rows_seen}
 use Rattle.hera_machine.proofs.Relating.{misfit}
 use Rattle.hera_machine.proofs.running.relations.found_of.Goals as goal
 
-pub returns-then-not-fits_rel-clause-found : goal.returns-then-not-fits_rel-clause-found
-returns-then-not-fits_rel-clause-found g c =
-    misfit c.args.op.now (g.A.Sorted.rows c.args.a.now) (g.B.Sorted.rows c.args.b.now) c.requires.op c.requires.some (sym c.fits_rel.ensures ∙ c.if-not-fits_rel.true)
+pub returns-then-not-fits_seen-clause-found : goal.returns-then-not-fits_seen-clause-found
+returns-then-not-fits_seen-clause-found c =
+    misfit c.args.op.now (rows_seen c.args.a.now) (rows_seen c.args.b.now) c.requires.op c.requires.some (sym c.fits_seen.ensures ∙ c.if-not-fits_seen.true)

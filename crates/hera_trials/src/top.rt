@@ -1,6 +1,7 @@
-use crate::{files_of, folder_of, hera};
+//! The top call: its words, its sources that fail, and its output that fails.
 use hera_causes::{MemSource, Piece};
 use hera_host::HostTable;
+use hera_top::{files_of, folder_of, hera};
 use hera_volume::MemOutside;
 use std::alloc::{AllocError, Global};
 use std::process::Abort;
