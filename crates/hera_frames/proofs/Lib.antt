@@ -1,6 +1,5 @@
 pub mod Taking
 pub mod Slots
-pub mod Padding
 pub mod Drops
 pub mod Bounds
 pub mod Naming
@@ -10,3 +9,9 @@ pub mod Upheld
 pub mod FieldsGiven
 pub mod Doubting
 pub mod Alike
+pub mod Tops
+pub mod Gathering
+pub mod Goings
+pub mod Resting
+pub mod Moved
+pub mod Collecting

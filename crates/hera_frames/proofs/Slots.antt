@@ -1,5 +1,5 @@
 -- Slots, which are kept as values of the machine.
-use Rattle.std.proofs.Common.{◌≡◌, ℕ, zero, suc, ◌<◌, ◌≤◌, true, false, List, [], ◌∷◌, length, map, refl, ap, arith, is_some}
+use Rattle.std.proofs.Common.{◌≡◌, ℕ, zero, suc, ◌<◌, ◌≤◌, true, false, List, [], ◌∷◌, length, map, get_or, refl, ap, ◌∙◌, arith, is_some}
 use Rattle.std.specs.Prelude.{slice_set, slice_get}
 use Rattle.std.proofs.lemmas.Option.{slice_get-map}
 use Rattle.hera_meaning.specs.Values.{Value}
@@ -24,6 +24,14 @@ pub slot-within : {A : Type 0} → (f : A → Value) (xs : List A) (i : ℕ) →
 slot-within f [] i h = absurd (omega (arith, h))
 slot-within f (x ∷ xs) zero h = refl
 slot-within f (x ∷ xs) (suc i) h = slot-within f xs i (omega (arith, h))
+
+-- a slot whose value is as it was
+pub set_same-map : {A : Type 0} → (f : A → Value) (xs : List A) (i : ℕ) (d v : A) → d ≡ get_or xs i d → f v ≡ f d → map f (slice_set xs i v) ≡ map f xs
+set_same-map f [] i d v g h = refl
+set_same-map f (x ∷ xs) zero d v g h = ap (λ y. y ∷ map f xs) (h ∙ ap f g)
+set_same-map f (x ∷ xs) (suc i) d v g h = ap (λ ys. f x ∷ ys) (set_same-map f xs i d v g h)
+
+pub ruleset fits = (set_same-map, set_local-map, slot-within)
 
 pub ruleset slots = (set_local-map, set_local-past, slot-past, slot-within)
 

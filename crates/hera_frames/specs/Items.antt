@@ -7,7 +7,7 @@ use Rattle.hera_meaning.specs.Values.{Value, scalar, tuple, table, delta, int_va
 use Rattle.delta_atoms.specs.Plain.{value_of}
 use Rattle.when_overlay.specs.declared.layers.Layer.{Layer}
 use Rattle.hera_frames.specs.declared.values.Datum.{Datum}
-use Rattle.hera_frames.specs.declared.values.Datum.TheVariants.{Int, Bool as Truth, Large}
+use Rattle.hera_frames.specs.declared.values.Datum.TheVariants.{Int, Bool as Truth, Tuple, Large}
 use Rattle.hera_frames.specs.declared.operands.Operand.{Operand}
 use Rattle.hera_frames.specs.declared.operands.Operand.TheVariants.{Held, Named}
 use Rattle.hera_frames.specs.Branched.{seen_at}
@@ -25,6 +25,7 @@ pub record Shelf : Type 0 where
 abbrev pub plain_of : Datum → Value
 plain_of (Int n) = scalar (int_scalar n)
 plain_of (Truth b) = scalar (bool_scalar b)
+plain_of (Tuple row) = tuple row.value.items
 plain_of (Large v) = value_of v.value
 
 abbrev pub item_of : Operand → Item

@@ -4,3 +4,4 @@ pub mod Seeing
 pub mod Walking
 pub mod Waiting
 pub mod Kinds
+pub mod Calling

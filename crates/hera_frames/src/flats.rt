@@ -1,19 +1,20 @@
-//! Ints and bools among operands and slots, and in the rows among them. None of this takes memory.
-ghost use Rattle.std.specs.Prelude.{◌≡◌, ◌≤◌, [], ◌∷◌, true, false, Some, IfSome, MatchOption, drop, length, slice_get};
+//! Ints, bools and tuples among operands and slots, without memory but where a tuple has no buffer that it
+//! can go into.
+ghost use Rattle.std.specs.Prelude.{◌≡◌, ◌≤◌, [], ◌∷◌, true, false, Some, IfOk, IfSome, MatchOption, drop, length, slice_get};
 ghost use Rattle.std.specs.Option.{is_some};
 ghost use Rattle.hera_meaning.specs.Values.{scalar, tuple};
 ghost use Rattle.hera_meaning.specs.Worlds.{set_local};
 ghost use Rattle.hera_row.specs.Fields.{told};
 ghost use Rattle.hera_flat.specs.Flats.{flat_value, IsGiven};
-ghost use Rattle.delta_atoms.specs.Plain.{value_of};
 ghost use Rattle.hera_frames.specs.Items.{plain_of, item_of, held, held_in, newest_in, reach};
 
-use crate::values::{Datum, let_go};
+use crate::values::{Datum, let_go, refill};
 use crate::{Locals, Operand, Operands};
-use delta_atoms::Value;
 use hera_flat::Flat;
 use hera_meaning::{Op, ScalarRef, Schema};
 use hera_row::{check_row, field};
+use std::alloc::{AllocError, Global};
+use std::mem::replace;
 
 /// The int or bool, where the scalar is one.
 #[inline]
@@ -37,19 +38,6 @@ fn row_field(schema: &Schema, i: usize, row: &[u8]) -> Option<Flat>
     flat_scalar(field(schema, row, i))
 }
 
-/// The int or bool at a place of a tuple, where there is one and the tuple is of the schema.
-#[inline]
-fn value_field(schema: &Schema, i: usize, v: &Value) -> Option<Flat>
-    ensures { IfSome result (IsGiven (Op.Field schema.now i) (value_of v.now ∷ [])) }
-{
-    match v {
-        Value::Row(row) => row_field(schema, i, row.bytes()),
-        Value::Scalar(_) => None,
-        Value::Rel(_) => None,
-        Value::Delta(_) => None,
-    }
-}
-
 impl Datum {
     /// The int or bool at a place of a tuple, where there is one and the tuple is of the schema.
     #[inline]
@@ -59,7 +47,8 @@ impl Datum {
         match self {
             Datum::Int(_) => None,
             Datum::Bool(_) => None,
-            Datum::Large(v) => value_field(schema, i, v),
+            Datum::Tuple(row) => row_field(schema, i, row),
+            Datum::Large(_) => None,
         }
     }
 
@@ -71,13 +60,13 @@ impl Datum {
         match self {
             Datum::Int(n) => Some(Flat::Int(*n)),
             Datum::Bool(b) => Some(Flat::Bool(*b)),
-            Datum::Large(_) => None,
+            _ => None,
         }
     }
 
     /// The value of an int or a bool.
     #[inline]
-    fn of_flat(v: Flat) -> Datum
+    pub(crate) fn of_flat(v: Flat) -> Datum
         ensures { plain_of result ≡ flat_value v }
     {
         match v {
@@ -189,6 +178,28 @@ impl Operands {
         }
     }
 
+    /// Puts a tuple upon the others, if its place is there. Its row goes into the idle buffer, or into a new
+    /// one. Where memory for it is refused all is as before.
+    #[inline]
+    #[tactic(auto, using(hera_prims::proofs::Stacks::newest_push))]
+    pub fn push_tuple(&mut self, row: &[u8]) -> bool
+        ensures pushed { result ≡ true → self.new.items ≡ held (tuple row.now) ∷ self.old.items }
+        ensures full { result ≡ false → self.new ≡ self.old }
+    {
+        if self.items.len() >= self.items.capacity() {
+            return false;
+        }
+        let alloc = *self.items.allocator();
+        match filled(alloc, self.idle.take(), row) {
+            Err(_) => false,
+            Ok(buffer) => {
+                self.items
+                    .push_reserved(Operand::Held(Datum::Tuple(buffer)));
+                true
+            }
+        }
+    }
+
     /// Takes the newest operand off and drops it, if there is one. Its place stays.
     #[inline]
     pub fn drop_newest(&mut self)
@@ -198,6 +209,20 @@ impl Operands {
     {
         if let Some(operand) = self.pop() {
             let_go(operand);
+        }
+    }
+
+    /// Puts an int or a bool in the place of the newest operand. Where that was a tuple its buffer is idle.
+    #[inline]
+    #[tactic(auto, using(hera_prims::proofs::Stacks::newest_push))]
+    pub fn replace_tuple(&mut self, v: Flat)
+        requires { 1 ≤ length self.old.items }
+        ensures items { self.new.items ≡ held (flat_value v) ∷ drop 1 self.old.items }
+        ensures within { reach self.new.items ≤ reach self.old.items }
+    {
+        if let Some(operand) = self.items.pop() {
+            self.items.push_reserved(Operand::Held(Datum::of_flat(v)));
+            let_go(replace(&mut self.idle, into_buffer(operand)));
         }
     }
 
@@ -211,6 +236,38 @@ impl Operands {
     {
         self.drop_newest();
         self.items.push_reserved(Operand::Held(Datum::of_flat(v)));
+    }
+}
+
+/// The row in the buffer, or in a new one where there is none.
+fn filled(alloc: Global, idle: Option<Box<Vec<u8>>>, row: &[u8]) -> Result<Box<Vec<u8>>, AllocError>
+    ensures { IfOk result (λ buffer. buffer.value.items ≡ row.now) }
+{
+    match idle {
+        Some(mut buffer) => {
+            refill(&mut buffer, row)?;
+            Ok(buffer)
+        }
+        None => new_buffer(alloc, row),
+    }
+}
+
+/// A new buffer with the row.
+#[inline(never)]
+fn new_buffer(alloc: Global, row: &[u8]) -> Result<Box<Vec<u8>>, AllocError>
+    ensures { IfOk result (λ buffer. buffer.value.items ≡ row.now) }
+{
+    Ok(Box::new(alloc, Vec::from_slice(alloc, row)?)?)
+}
+
+/// The buffer of a tuple that is dropped.
+fn into_buffer(operand: Operand) -> Option<Box<Vec<u8>>> {
+    match operand {
+        Operand::Held(Datum::Tuple(buffer)) => Some(buffer),
+        other => {
+            let_go(other);
+            None
+        }
     }
 }
 

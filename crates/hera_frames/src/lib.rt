@@ -7,11 +7,14 @@
 //! the layer stays as long as it is named.
 #![tactic(auto)]
 
+mod callers;
+mod calling;
 mod changes;
 mod fitting;
 mod flats;
 mod frames;
 mod locals;
+mod newest_walk;
 mod operands;
 mod past;
 mod seen;
@@ -20,9 +23,10 @@ mod stack;
 mod values;
 mod walks;
 
+pub use callers::Callers;
 pub use changes::Changes;
 pub use fitting::fits_seen;
-pub use frames::Frame;
+pub use frames::{Frame, Point};
 pub use locals::Locals;
 pub use operands::{Operand, Operands};
 pub use seen::Seen;

@@ -1,23 +1,45 @@
 //! Slots.
-ghost use Rattle.std.specs.Prelude.{◌≡◌, map, slice_get, IfOk, OnOk};
+ghost use Rattle.std.specs.Prelude.{◌≡◌, ◌≤◌, ◌+◌, ◌++◌, true, false, [], pos, Some, length, map, take, replicate, slice_get, IfOk, IfSome, OnOk, OnErr};
+ghost use Rattle.std.specs.Vec.{vec_len, vec_capacity};
 ghost use Rattle.std.specs.Option.{option_map, is_some};
+ghost use Rattle.hera_meaning.specs.Values.{tuple};
 ghost use Rattle.hera_meaning.specs.Worlds.{set_local, locals_from};
-ghost use Rattle.hera_frames.specs.Items.{plain_of};
+ghost use Rattle.hera_frames.specs.Items.{plain_of, AreHeld};
+ghost use Rattle.hera_frames.specs.Calling.{IsBegun};
 
+use crate::Operands;
 use crate::values::{Datum, let_go};
-use hera_prims::Args;
 use std::alloc::{AllocError, Global};
 use std::marker::Model;
 use std::mem::replace;
 
-/// Puts the int 0 behind the values until there are so many slots.
-fn fill(items: &mut Vec<Datum>, slots: usize) -> Result<(), AllocError>
-    ensures { OnOk result (map plain_of items.new.items ≡ locals_from slots (map plain_of items.old.items)) }
+/// Puts so many ints 0 behind the values.
+#[inline]
+fn fill(items: &mut Vec<Datum>, count: usize)
+    requires { vec_len items.old + count ≤ vec_capacity items.old }
+    ensures items { items.new.items ≡ items.old.items ++ replicate count (Datum.Int (pos 0)) }
+    ensures len { vec_len items.new ≡ vec_len items.old + count }
+    ensures capacity { vec_capacity items.new ≡ vec_capacity items.old }
 {
-    'zeros: while items.len() < slots {
-        items.push(Datum::Int(0))?;
+    for _ in 0..count {
+        items.push_reserved(Datum::Int(0));
     }
-    Ok(())
+}
+
+/// Lays a body's slots in the place of the values: its arguments, which are the newest operands and are taken
+/// off, in the order in which they were pushed, and the int 0 in each other slot. It takes no memory.
+#[inline]
+fn lay(items: &mut Vec<Datum>, operands: &mut Operands, params: usize, slots: usize)
+    requires fit { params ≤ slots }
+    requires room { slots ≤ vec_capacity items.old }
+    requires there { params ≤ length operands.old.items }
+    requires held { AreHeld (take params operands.old.items) }
+    ensures { IsBegun params slots operands.old.items operands.new.items (map plain_of items.new.items) }
+{
+    items.clear();
+    fill(items, slots - params);
+    operands.move_newest(items, params);
+    items.reverse();
 }
 
 /// The slots of a body.
@@ -71,15 +93,107 @@ impl Locals {
         }
     }
 
-    /// A body's slots as it starts: its arguments, and the int 0 in each other one.
-    pub fn start(alloc: Global, mut args: Args, slots: u32) -> Result<Locals, AllocError>
-        ensures { IfOk result (λ locals. locals ≡ locals_from slots args) }
+    /// Puts a tuple into a slot, if the slot is there. Where that has one, its buffer takes the row.
+    #[tactic(auto, using(crate::proofs::Slots::slots))]
+    pub fn put_tuple(&mut self, alloc: Global, i: usize, row: &[u8]) -> Result<bool, AllocError>
+        ensures there { IfOk result (λ there. there ≡ is_some (slice_get self.old i)) }
+        ensures put { OnOk result (self.new ≡ set_local self.old i (tuple row.now)) }
+    {
+        if i < self.items.len() {
+            self.items[i].put_tuple(alloc, row)?;
+            Ok(true)
+        } else {
+            Ok(false)
+        }
+    }
+
+    /// Puts a tuple into a slot that has one, if its buffer has the room. It takes no memory.
+    #[inline]
+    #[tactic(auto, using(crate::proofs::Slots::fits))]
+    pub fn fit_tuple(&mut self, i: usize, row: &[u8]) -> bool
+        ensures there { result ≡ true → is_some (slice_get self.old i) ≡ true }
+        ensures put { result ≡ true → self.new ≡ set_local self.old i (tuple row.now) }
+        ensures kept { result ≡ false → self.new ≡ self.old }
+    {
+        if i < self.items.len() {
+            self.items[i].fit_tuple(row)
+        } else {
+            false
+        }
+    }
+
+    /// The row in a slot, where that has a tuple in a buffer of its own.
+    #[inline]
+    #[tactic(auto, using(crate::proofs::Slots::copies))]
+    pub fn row_at(&self, i: usize) -> Option<&[u8]>
+        ensures { IfSome result (λ row. slice_get self.now i ≡ Some (tuple row.now)) }
+    {
+        match self.items.get(i) {
+            None => None,
+            Some(v) => v.row(),
+        }
+    }
+
+    /// No slots. It takes no memory.
+    pub(crate) fn new(alloc: Global) -> Locals
+        ensures { result ≡ [] }
+    {
+        Locals {
+            items: Vec::new(alloc),
+        }
+    }
+
+    /// The slots of a body without parameters as it starts: the int 0 in each one.
+    pub fn start(alloc: Global, slots: u32) -> Result<Locals, AllocError>
+        ensures { IfOk result (λ locals. locals ≡ locals_from slots []) }
     {
         let mut items = Vec::with_capacity(alloc, slots as usize)?;
-        while let Some(v) = args.pop_front() {
-            items.push(Datum::new(alloc, v)?)?;
-        }
-        fill(&mut items, slots as usize)?;
+        fill(&mut items, slots as usize);
         Ok(Locals { items })
+    }
+
+    /// Drops all slots. Their memory stays.
+    #[inline]
+    pub(crate) fn clear(&mut self)
+        ensures { self.new ≡ [] }
+    {
+        self.items.truncate(0);
+    }
+
+    /// Begins a body's slots in the memory of these: its arguments, which are the newest operands and are taken
+    /// off, in the order in which they were pushed, and the int 0 in each other slot. False where the arguments
+    /// are not there, where one names a relation, or where the memory is less; the operands are then as
+    /// before. It takes no memory.
+    #[inline]
+    pub(crate) fn begin(&mut self, operands: &mut Operands, params: usize, slots: usize) -> bool
+        requires { params ≤ slots }
+        ensures begun { result ≡ true → IsBegun params slots operands.old.items operands.new.items self.new }
+        ensures kept { result ≡ false → operands.new ≡ operands.old }
+    {
+        if self.items.capacity() < slots || !operands.are_held(params) {
+            return false;
+        }
+        lay(&mut self.items, operands, params, slots);
+        true
+    }
+
+    /// Begins a body's slots as `begin` does, with memory of their own where these have less. Without memory the
+    /// operands are as before.
+    pub(crate) fn begin_anew(
+        &mut self,
+        operands: &mut Operands,
+        params: usize,
+        slots: usize,
+    ) -> Result<(), AllocError>
+        requires fit { params ≤ slots }
+        requires there { params ≤ length operands.old.items }
+        requires held { AreHeld (take params operands.old.items) }
+        ensures begun { OnOk result (IsBegun params slots operands.old.items operands.new.items self.new) }
+        ensures kept { OnErr result (operands.new ≡ operands.old) }
+    {
+        self.clear();
+        self.items.reserve(slots)?;
+        lay(&mut self.items, operands, params, slots);
+        Ok(())
     }
 }

@@ -123,6 +123,8 @@ fn named_rows(
 #[derive(Drop)]
 pub struct Operands {
     pub(crate) items: Vec<Operand>,
+    /// The buffer of a tuple that was taken off, into which the next one's row goes.
+    pub(crate) idle: Option<Box<Vec<u8>>>,
 }
 
 impl Model for Operands {
@@ -143,6 +145,7 @@ impl Operands {
     {
         Operands {
             items: Vec::new(alloc),
+            idle: None,
         }
     }
 
@@ -210,6 +213,7 @@ impl Operands {
 
     /// The operand at place `i`, the newest of which is 0.
     #[tactic(auto, using(hera_prims::proofs::Stacks::places))]
+    #[inline]
     pub fn newest(&self, i: usize) -> Option<&Operand>
         ensures { option_map (λ o. item_of o.now) result ≡ slice_get self.now.items i }
     {
@@ -245,19 +249,6 @@ impl Operands {
         Ok(Some(args))
     }
 
-    /// Takes all operands off. Where there are none, the memory for further ones stays. It takes no
-    /// memory.
-    pub fn take_all(&mut self, alloc: Global) -> Operands
-        ensures all { result.items ≡ self.old.items }
-        ensures none { self.new.items ≡ [] }
-    {
-        if self.items.len() == 0 {
-            Operands::new(alloc)
-        } else {
-            replace(self, Operands::new(alloc))
-        }
-    }
-
     /// How many of `most` layers have to be there, the oldest ones, for what the operands name.
     pub fn reach(&self, most: usize) -> usize
         ensures { result ≡ min most (reach self.now.items) }
@@ -270,6 +261,7 @@ impl Operands {
     }
 
     /// Whether some operand names a relation.
+    #[inline]
     pub fn has_names(&self) -> bool
         ensures { result ≡ false → AreHeld self.now.items }
     {
@@ -291,15 +283,15 @@ impl Operands {
     ) -> Result<Operands, AllocError>
         ensures { let s = after_all base.now.state commits.now in IfOk result (λ settled. settled ≡ record { items = map (collected s changes.now.layers) self.items; spare = self.spare }) }
     {
-        let Operands { mut items } = self;
+        let Operands { mut items, idle } = self;
         collect_all(alloc, &mut items, changes, base, commits)?;
-        Ok(Operands { items })
+        Ok(Operands { items, idle })
     }
 }
 
 impl Operand {
     /// Whether it names a relation.
-    fn is_named(&self) -> bool
+    pub(crate) fn is_named(&self) -> bool
         ensures { result ≡ is_relation (item_of self.now) }
     {
         match self {

@@ -1,44 +1,31 @@
-//! The rows of a set past a bound.
-ghost use Rattle.std.specs.Prelude.{◌≡◌};
+//! The rows past a bound of a relation that is named.
+ghost use Rattle.std.specs.Prelude.{◌≡◌, IfOk};
 ghost use Rattle.std.specs.List.{filter};
 ghost use Rattle.std.specs.Option.{option_copied};
 ghost use Rattle.hera_sets.specs.Rows.{is_past};
 
-use hera_rows::Sorted;
-use hera_sets::is_below;
+use hera_rows::RowSet;
+use std::alloc::{AllocError, Global};
+use when_overlay::{Hyp, Mark};
 
-/// The rows of a set past a bound, seen without a copy.
-#[derive(Drop)]
-pub(crate) struct Past<'a, S> {
-    pub(crate) rows: &'a S,
-    pub(crate) bound: Option<&'a [u8]>,
-}
-
-/// Whether the row lies past the bound. No bound lets every row pass.
-fn is_past(bound: Option<&[u8]>, row: &[u8]) -> bool
-    ensures { result ≡ is_past (option_copied bound.entry) row.now }
+/// The rows past the bound, as a set. No bound lets every row pass.
+pub(crate) fn collect_past(
+    alloc: Global,
+    rows: &Hyp<'_>,
+    bound: Option<&[u8]>,
+) -> Result<RowSet, AllocError>
+    ensures { IfOk result (λ set. set ≡ filter (is_past (option_copied bound.entry)) rows.now) }
 {
-    match bound {
-        None => true,
-        Some(least) => is_below(least, row),
-    }
-}
-
-impl<S: Sorted> Sorted for Past<'_, S> {
-    ghost rows = { λ s. filter (is_past (option_copied s.bound)) (S.rows s.rows.now) };
-
-    fn above<'s>(&'s self, bound: Option<&[u8]>) -> Option<&'s [u8]> {
-        match bound {
-            None => self.rows.above(self.bound),
-            Some(row) => if is_past(self.bound, row) {
-                self.rows.above(Some(row))
-            } else {
-                self.rows.above(self.bound)
-            },
-        }
-    }
-
-    fn has(&self, row: &[u8]) -> bool {
-        self.rows.has(row) && is_past(self.bound, row)
+    let mut set = RowSet::new(alloc);
+    let mut last = bound;
+    let mut mark = Mark::start();
+    loop {
+        let next = rows.above_near(last, mark);
+        let Some(row) = next.row else {
+            return Ok(set);
+        };
+        set.push_last(row)?;
+        last = Some(row);
+        mark = next.mark;
     }
 }

@@ -1,5 +1,5 @@
 //! Relations that are operands, seen where they stand.
-ghost use Rattle.std.specs.Prelude.{◌≡◌};
+ghost use Rattle.std.specs.Prelude.{◌≡◌, ◌≤◌, ◌<◌, ◌^◌, length, MatchOption};
 ghost use Rattle.hera_frames.specs.Seeing.{rows_seen};
 
 use hera_rows::{RowSet, Sorted};
@@ -14,6 +14,28 @@ pub enum Seen<'a> {
     Held(&'a RowSet),
     /// The rows of a relation that is named.
     Named(Hyp<'a>),
+}
+
+impl Seen<'_> {
+    /// How many rows there are; none for more than 2^63 - 1. It takes no memory, and of a relation that is named
+    /// it looks at no row that no delta names.
+    pub fn count(&self) -> Option<u64>
+        ensures { MatchOption result (2 ^ 63 ≤ length (rows_seen self.now)) (λ n. (n ≡ length (rows_seen self.now)) × (n < 2 ^ 63)) }
+    {
+        match self {
+            Seen::Nothing => Some(0),
+            Seen::Held(rows) => held_count(rows),
+            Seen::Named(rows) => rows.count(),
+        }
+    }
+}
+
+/// How many rows a set has; none for more than 2^63 - 1.
+fn held_count(rows: &RowSet) -> Option<u64>
+    ensures { MatchOption result (2 ^ 63 ≤ length rows.now) (λ n. (n ≡ length rows.now) × (n < 2 ^ 63)) }
+{
+    let count = rows.len() as u64;
+    if count < 1 << 63 { Some(count) } else { None }
 }
 
 impl Sorted for Seen<'_> {

@@ -7,7 +7,7 @@ ghost use Rattle.hera_frames.specs.Items.{reach};
 ghost use Rattle.hera_frames.specs.Walking.{settled, AreGiven, walks_reach};
 ghost use Rattle.hera_frames.specs.Waiting.{poured, frame_settled};
 
-use crate::{Changes, Frame, Operands, Stack, Walk};
+use crate::{Callers, Changes, Frame, Operands, Stack, Walk};
 use delta_atoms::Delta;
 use rel_pages::Base;
 use std::alloc::{AllocError, Global};
@@ -110,20 +110,22 @@ fn settle_frames_into(
 /// The frames with rows in the place of all names.
 pub fn settle_frames(
     alloc: Global,
-    mut frames: Stack<Frame>,
+    callers: Callers,
     changes: &Changes,
     base: &Base,
     commits: &[Delta],
-) -> Result<Stack<Frame>, AllocError>
-    ensures { IfOk result (λ fs. fs ≡ map (frame_settled (after_all base.now.state commits.now) changes.now.layers) frames) }
+) -> Result<Callers, AllocError>
+    ensures { IfOk result (λ fs. fs ≡ map (frame_settled (after_all base.now.state commits.now) changes.now.layers) callers) }
 {
+    let mut frames = callers.into_frames();
     let mut done = Stack::new(alloc);
     settle_frames_into(alloc, &mut frames, &mut done, changes, base, commits)?;
     pour(&mut done, &mut frames)?;
-    Ok(frames)
+    Ok(Callers::of(frames))
 }
 
 /// Whether some walk names a relation.
+#[inline]
 pub fn any_named(walks: &Stack<Walk>) -> bool
     ensures { result ≡ false → AreGiven walks.now }
 {

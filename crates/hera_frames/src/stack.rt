@@ -8,7 +8,7 @@ use std::marker::Model;
 /// A stack, seen with the newest first.
 #[derive(Drop)]
 pub struct Stack<T> {
-    items: Vec<T>,
+    pub(crate) items: Vec<T>,
 }
 
 impl<T> Model for Stack<T> {
@@ -28,6 +28,29 @@ impl<T: Drop> Stack<T> {
         Stack {
             items: Vec::new(alloc),
         }
+    }
+
+    /// The stack of these items, the oldest of which comes first. It takes no memory.
+    pub(crate) fn of(items: Vec<T>) -> Stack<T>
+        ensures { result ≡ newest (λ x. x) items.items }
+    {
+        Stack { items }
+    }
+
+    /// The items, the oldest first. It takes no memory.
+    pub(crate) fn into_items(self) -> Vec<T>
+        ensures { self ≡ newest (λ x. x) result.items }
+    {
+        let Stack { items } = self;
+        items
+    }
+
+    /// Drops all items. Their places stay.
+    #[inline]
+    pub(crate) fn clear(&mut self)
+        ensures { self.new ≡ [] }
+    {
+        self.items.clear();
     }
 
     /// Puts an item upon the others. Without memory the item is gone, and the others stay.

@@ -1,7 +1,9 @@
 //! Values in little place.
-ghost use Rattle.std.specs.Prelude.{◌≡◌, true, IfOk, IsOk};
+ghost use Rattle.std.specs.Prelude.{◌≡◌, ◌≤◌, true, false, length, IfOk, IfSome, IsOk, OnOk};
 ghost use Rattle.std.specs.Option.{option_copied};
+ghost use Rattle.std.specs.Vec.{vec_capacity};
 ghost use Rattle.hera_meaning.specs.Expressions.{const_value};
+ghost use Rattle.hera_meaning.specs.Values.{tuple};
 ghost use Rattle.hera_code.specs.Machine.{as_bool, as_tuple, as_table, as_delta};
 ghost use Rattle.delta_atoms.specs.Plain.{value_of};
 ghost use Rattle.hera_frames.specs.Items.{plain_of, is_small};
@@ -10,6 +12,7 @@ use delta_atoms::{Delta, Value, copy_value};
 use hera_meaning::{Const, Scalar};
 use hera_rows::{RowBuf, RowSet};
 use std::alloc::{AllocError, Global};
+use std::mem::replace;
 
 /// A value. What is larger than an int stands on the heap.
 #[derive(Drop)]
@@ -18,6 +21,8 @@ pub enum Datum {
     Int(i64),
     /// A bool.
     Bool(bool),
+    /// A tuple's row, in a buffer that another row can be put into.
+    Tuple(Box<Vec<u8>>),
     /// A value of any kind.
     Large(Box<Value>),
 }
@@ -32,7 +37,7 @@ impl Datum {
             Value::Scalar(Scalar::Int(n)) => Ok(Datum::Int(n)),
             Value::Scalar(Scalar::Bool(b)) => Ok(Datum::Bool(b)),
             Value::Scalar(Scalar::Text(t)) => large(alloc, Value::Scalar(Scalar::Text(t))),
-            Value::Row(row) => large(alloc, Value::Row(row)),
+            Value::Row(row) => Ok(Datum::Tuple(Box::new(alloc, row.into_vec())?)),
             Value::Rel(rows) => large(alloc, Value::Rel(rows)),
             Value::Delta(delta) => large(alloc, Value::Delta(delta)),
         }
@@ -45,6 +50,7 @@ impl Datum {
         match self {
             Datum::Int(n) => Value::Scalar(Scalar::Int(n)),
             Datum::Bool(b) => Value::Scalar(Scalar::Bool(b)),
+            Datum::Tuple(row) => Value::Row(RowBuf::from_vec(Box::into_inner(row))),
             Datum::Large(v) => Box::into_inner(v),
         }
     }
@@ -56,6 +62,7 @@ impl Datum {
         match self {
             Datum::Int(n) => Ok(Datum::Int(*n)),
             Datum::Bool(b) => Ok(Datum::Bool(*b)),
+            Datum::Tuple(row) => Datum::of_row(alloc, row),
             Datum::Large(v) => large(alloc, copy_value(v)?),
         }
     }
@@ -67,6 +74,7 @@ impl Datum {
         match self {
             Datum::Int(_) => None,
             Datum::Bool(b) => Some(*b),
+            Datum::Tuple(_) => None,
             Datum::Large(v) => bool_of(v),
         }
     }
@@ -78,9 +86,71 @@ impl Datum {
         match self {
             Datum::Int(_) => None,
             Datum::Bool(_) => None,
+            Datum::Tuple(_) => None,
             Datum::Large(v) => rows_of(v),
         }
     }
+
+    /// A tuple, with a copy of its row.
+    fn of_row(alloc: Global, row: &[u8]) -> Result<Datum, AllocError>
+        ensures { IfOk result (λ d. plain_of d ≡ tuple row.now) }
+    {
+        Ok(Datum::Tuple(Box::new(alloc, Vec::from_slice(alloc, row)?)?))
+    }
+
+    /// Puts a tuple in the value's place. Where that is one too, its buffer takes the row.
+    pub(crate) fn put_tuple(&mut self, alloc: Global, row: &[u8]) -> Result<(), AllocError>
+        ensures { OnOk result (plain_of self.new ≡ tuple row.now) }
+    {
+        match self {
+            Datum::Tuple(buffer) => refill(buffer, row),
+            _ => {
+                let_go(replace(self, Datum::of_row(alloc, row)?));
+                Ok(())
+            }
+        }
+    }
+
+    /// Puts a tuple in the place of another one whose buffer has the room. It takes no memory.
+    pub(crate) fn fit_tuple(&mut self, row: &[u8]) -> bool
+        ensures done { result ≡ true → plain_of self.new ≡ tuple row.now }
+        ensures kept { result ≡ false → plain_of self.new ≡ plain_of self.old }
+    {
+        match self {
+            Datum::Tuple(buffer) => fit(buffer, row),
+            _ => false,
+        }
+    }
+
+    /// The row, where the value is a tuple that stands in a buffer of its own.
+    pub(crate) fn row(&self) -> Option<&[u8]>
+        ensures { IfSome result (λ row. plain_of self.now ≡ tuple row.now) }
+    {
+        match self {
+            Datum::Tuple(row) => Some(row),
+            _ => None,
+        }
+    }
+}
+
+/// Puts other bytes in the place of those in the buffer.
+pub(crate) fn refill(buffer: &mut Vec<u8>, bytes: &[u8]) -> Result<(), AllocError>
+    ensures items { OnOk result (buffer.new.items ≡ bytes.now) }
+    ensures fits { length bytes.now ≤ vec_capacity buffer.old → IsOk result }
+{
+    buffer.clear();
+    buffer.extend_from_slice(bytes)
+}
+
+/// Puts other bytes in the place of those in the buffer, if that has the room. It takes no memory.
+pub(crate) fn fit(buffer: &mut Vec<u8>, bytes: &[u8]) -> bool
+    ensures done { result ≡ true → buffer.new.items ≡ bytes.now }
+    ensures kept { result ≡ false → buffer.new.items ≡ buffer.old.items }
+{
+    if bytes.len() > buffer.capacity() {
+        return false;
+    }
+    refill(buffer, bytes).is_ok()
 }
 
 /// A value that stands on the heap.

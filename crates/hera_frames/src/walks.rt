@@ -1,24 +1,26 @@
 //! Walks.
-ghost use Rattle.std.specs.Prelude.{◌≡◌, ◌≤◌, [], ◌∷◌, None, Some, min, OnOk, IfOk, MatchOption};
+ghost use Rattle.std.specs.Prelude.{◌≡◌, ◌≤◌, List, [], ◌∷◌, ◌++◌, true, is_some, None, Some, min, slice_get, OnOk, OnErr, IfOk, IsSomeAnd, MatchBool, MatchOption};
 ghost use Rattle.std.specs.List.{filter};
 ghost use Rattle.std.specs.Option.{option_copied};
-ghost use Rattle.hera_sets.specs.Rows.{put, is_past};
-ghost use Rattle.hera_meaning.specs.Deltas.{rows_at};
-ghost use Rattle.hera_code.specs.Machine.{with_current};
+ghost use Rattle.hera_sets.specs.Rows.{put, is_past, IsAscending};
+ghost use Rattle.hera_meaning.specs.Deltas.{State, rows_at};
+ghost use Rattle.when_overlay.specs.declared.layers.Layer.{Layer};
 ghost use Rattle.when_overlay.specs.Changed.{after_all};
 ghost use Rattle.hera_frames.specs.Branched.{seen_at};
-ghost use Rattle.hera_frames.specs.Walking.{given, named, rest_of, to_come, walk_at, settled, is_named, rest_reach, IsAtEnd, IsAtRow};
+ghost use Rattle.hera_frames.specs.Walking.{given, named, rest_of, current_of, first_of, past_first, to_come, walk_at, gone_on, with_kept, with_gathered, settled, is_named, IsGiven, rest_reach};
 
 use crate::Changes;
-use crate::past::Past;
-use crate::values::let_go;
+use crate::past::collect_past;
+use crate::values::{let_go, refill};
 use delta_atoms::Delta;
 use hera_meaning::RelId;
-use hera_rows::{RowBuf, RowSet, Sorted, collect};
+use hera_rows::{RowBuf, RowSet};
+use hera_sets::is_below;
 use rel_pages::Base;
 use std::alloc::{AllocError, Global};
 use std::marker::Model;
 use std::mem::replace;
+use when_overlay::Mark;
 
 /// What a walk goes over: rows of its own, from a place on; or a relation as it is under a layer, of which
 /// what lies past the current row is still to come.
@@ -32,8 +34,10 @@ pub(crate) enum Source {
 #[derive(Drop)]
 pub struct Walk {
     source: Source,
-    /// The row that the last step found.
-    current: Option<RowBuf>,
+    /// The row that the last step found, if it is none of the walk's own rows.
+    last: Option<RowBuf>,
+    /// About where that row stands in the relation that is named. It only saves time.
+    mark: Mark,
     gathered: RowSet,
 }
 
@@ -47,24 +51,56 @@ fn bytes_of(row: &Option<RowBuf>) -> Option<&[u8]>
     }
 }
 
-/// A copy of the next row past the bound in a relation under a layer.
+/// The row at a place, if there is one.
+fn row_at(rows: &RowSet, i: usize) -> Option<&[u8]>
+    ensures { option_copied result ≡ slice_get rows.now i }
+{
+    if i < rows.len() {
+        Some(rows.row(i))
+    } else {
+        None
+    }
+}
+
+/// Puts another row in the place of the last one, whose buffer takes it.
+fn put_last(last: &mut Option<RowBuf>, alloc: Global, row: &[u8]) -> Result<(), AllocError>
+    ensures { OnOk result (last.new ≡ Some row.now) }
+{
+    let mut buffer = match last.take() {
+        None => Vec::new(alloc),
+        Some(old) => old.into_vec(),
+    };
+    refill(&mut buffer, row)?;
+    *last = Some(RowBuf::from_vec(buffer));
+    Ok(())
+}
+
+/// Goes on from the last row to the next one past it in a relation under a layer, if there is one. It is
+/// looked for beside the last one's mark.
 fn row_past(
+    last: &mut Option<RowBuf>,
+    mark: &mut Mark,
     alloc: Global,
     changes: &Changes,
     base: &Base,
     commits: &[Delta],
     rel: RelId,
     tip: usize,
-    bound: Option<&[u8]>,
-) -> Result<Option<RowBuf>, AllocError>
-    ensures { let rows = rows_at (seen_at (after_all base.now.state commits.now) changes.now.layers tip) rel.0 in IfOk result (λ r. MatchOption r (filter (is_past (option_copied bound.entry)) rows ≡ []) (λ x. filter (is_past (option_copied bound.entry)) rows ≡ x ∷ filter (is_past (Some x)) rows)) }
+) -> Result<bool, AllocError>
+    ensures { let rows = rows_at (seen_at (after_all base.now.state commits.now) changes.now.layers tip) rel.0 in IfOk result (λ found. MatchBool found (IsSomeAnd last.new (λ x. filter (is_past last.old) rows ≡ x ∷ filter (is_past (Some x)) rows)) (filter (is_past last.old) rows ≡ [])) }
 {
     if usize::from(rel.0) >= base.catalogue().len() {
-        return Ok(None);
+        return Ok(false);
     }
-    match changes.rel(base, commits, rel, tip).above(bound) {
-        None => Ok(None),
-        Some(row) => Ok(Some(RowBuf::new(alloc, row)?)),
+    let rows = changes.rel(base, commits, rel, tip);
+    let next = rows.above_near(bytes_of(last), *mark);
+    match next.row {
+        None => Ok(false),
+        Some(row) => {
+            put_last(last, alloc, row)?;
+            *mark = next.mark;
+            Ok(true)
+        }
     }
 }
 
@@ -84,63 +120,75 @@ pub fn rows_past(
         return Ok(RowSet::new(alloc));
     }
     let rows = changes.rel(base, commits, rel, tip);
-    collect(alloc, &Past { rows: &rows, bound })
+    collect_past(alloc, &rows, bound)
+}
+
+/// Whether all rows of a set are below this one.
+fn is_last(rows: &RowSet, row: &[u8]) -> bool
+    ensures { result ≡ true → IsAscending (rows.now ++ row.now ∷ []) × (put row.now rows.now ≡ rows.now ++ row.now ∷ []) }
+{
+    let count = rows.len();
+    count == 0 || is_below(rows.row(count - 1), row)
+}
+
+/// Takes a row into a set. Rows mostly come in their order, so that it is the last one. Without memory all is
+/// as before.
+fn take_in(rows: &mut RowSet, row: &[u8]) -> Result<(), AllocError>
+    ensures ok { OnOk result (rows.new ≡ put row.now rows.old) }
+    ensures err { OnErr result (rows.new ≡ rows.old) }
+{
+    if is_last(rows, row) {
+        return rows.push_last(row);
+    }
+    rows.insert(row)?;
+    Ok(())
 }
 
 impl Source {
-    /// Goes on to the next row, past the last one, of which it gives a copy, or finds none left.
-    #[tactic(auto, using(crate::proofs::Drops::drops))]
-    fn next(
-        &mut self,
-        alloc: Global,
-        last: Option<&[u8]>,
-        changes: &Changes,
-        base: &Base,
-        commits: &[Delta],
-    ) -> Result<Option<RowBuf>, AllocError>
-        ensures names { rest_reach (rest_of self.new) ≡ rest_reach (rest_of self.old) }
-        ensures step { let s = after_all base.now.state commits.now in IfOk result (λ r. MatchOption r (to_come s changes.now.layers (option_copied last.entry) (rest_of self.old) ≡ []) (λ x. to_come s changes.now.layers (option_copied last.entry) (rest_of self.old) ≡ x ∷ to_come s changes.now.layers (Some x) (rest_of self.new))) }
+    /// The row that the last step found, where one was found.
+    fn current<'a>(&'a self, last: &'a Option<RowBuf>) -> Option<&'a [u8]>
+        ensures { option_copied result ≡ current_of self.now last.now }
     {
         match self {
             Source::Rows { rows, next } => {
-                if *next < rows.len() {
-                    let row = RowBuf::new(alloc, rows.row(*next))?;
-                    *next += 1;
-                    Ok(Some(row))
+                if *next == 0 {
+                    bytes_of(last)
                 } else {
-                    Ok(None)
+                    row_at(rows, *next - 1)
                 }
             }
-            Source::Named { rel, tip } => row_past(alloc, changes, base, commits, *rel, *tip, last),
+            Source::Named { .. } => bytes_of(last),
         }
     }
 
-    /// What lies past the last row in the relation that is named, where one is.
-    fn left(
-        &self,
-        alloc: Global,
-        last: Option<&[u8]>,
-        changes: &Changes,
-        base: &Base,
-        commits: &[Delta],
-    ) -> Result<Option<RowSet>, AllocError>
-        ensures { let s = after_all base.now.state commits.now in IfOk result (λ r. MatchOption r (rest_of self.now ≡ given (to_come s changes.now.layers (option_copied last.entry) (rest_of self.now))) (λ rows. rows ≡ to_come s changes.now.layers (option_copied last.entry) (rest_of self.now))) }
+    /// The next one of the walk's own rows, if it has some and one is left.
+    #[tactic(auto, using(crate::proofs::Drops::lefts))]
+    fn coming(&self) -> Option<&[u8]>
+        ensures { option_copied result ≡ first_of (rest_of self.now) }
     {
         match self {
-            Source::Rows { .. } => Ok(None),
-            Source::Named { rel, tip } => {
-                Ok(Some(rows_past(alloc, changes, base, commits, *rel, *tip, last)?))
-            }
+            Source::Rows { rows, next } => row_at(rows, *next),
+            Source::Named { .. } => None,
+        }
+    }
+
+    /// The relation and the layer that are named, where they are.
+    fn name(&self) -> Option<(RelId, usize)>
+        ensures { MatchOption result (IsGiven (rest_of self.now)) (λ p. rest_of self.now ≡ named p.0.0 p.1) }
+    {
+        match self {
+            Source::Rows { .. } => None,
+            Source::Named { rel, tip } => Some((*rel, *tip)),
         }
     }
 }
 
 impl Model for Walk {
-    ghost use Rattle.hera_frames.specs.Walking.{Pace, rest_of};
+    ghost use Rattle.hera_frames.specs.Walking.{Pace, rest_of, current_of};
 
     ghost Value = { Pace };
 
-    ghost view = { λ w. record { rest = rest_of w.source; current = w.current; gathered = w.gathered } };
+    ghost view = { λ w. record { rest = rest_of w.source; current = current_of w.source w.last; gathered = w.gathered } };
 }
 
 impl Walk {
@@ -150,7 +198,8 @@ impl Walk {
     {
         Walk {
             source: Source::Rows { rows, next: 0 },
-            current: None,
+            last: None,
+            mark: Mark::start(),
             gathered: RowSet::new(alloc),
         }
     }
@@ -162,7 +211,8 @@ impl Walk {
     {
         Walk {
             source: Source::Named { rel, tip },
-            current: None,
+            last: None,
+            mark: Mark::start(),
             gathered: RowSet::new(alloc),
         }
     }
@@ -187,40 +237,114 @@ impl Walk {
         }
     }
 
-    /// Goes on to the next row, of which it gives a copy, or finds none left.
-    pub fn next(
+    /// The row that the last step found, where one was found.
+    pub(crate) fn current(&self) -> Option<&[u8]>
+        ensures { option_copied result ≡ self.now.current }
+    {
+        self.source.current(&self.last)
+    }
+
+    /// The next row, where the walk has rows of its own and one is left.
+    pub(crate) fn coming(&self) -> Option<&[u8]>
+        ensures { option_copied result ≡ first_of self.now.rest }
+    {
+        self.source.coming()
+    }
+
+    /// Goes on to the next row, where the walk has rows of its own and one is left, and answers whether it
+    /// did. It takes no memory.
+    pub(crate) fn pass(&mut self) -> bool
+        ensures found { result ≡ is_some (first_of self.old.rest) }
+        ensures past { self.new ≡ past_first self.old }
+    {
+        match &mut self.source {
+            Source::Rows { rows, next } => {
+                if *next < rows.len() {
+                    *next += 1;
+                    true
+                } else {
+                    false
+                }
+            }
+            Source::Named { .. } => false,
+        }
+    }
+
+    /// Ends the walk, which has no row left. It takes no memory.
+    fn end(&mut self, alloc: Global)
+        ensures { self.new ≡ record { rest = given []; current = None; gathered = self.old.gathered } }
+    {
+        let rows = RowSet::new(alloc);
+        let_go(replace(&mut self.source, Source::Rows { rows, next: 0 }));
+        let_go(replace(&mut self.last, None));
+    }
+
+    /// Goes on to the next row of a relation under a layer, or ends.
+    #[tactic(auto, using(crate::proofs::Goings::goings))]
+    fn seek(
         &mut self,
         alloc: Global,
         changes: &Changes,
         base: &Base,
         commits: &[Delta],
-    ) -> Result<Option<RowBuf>, AllocError>
-        ensures step { let s = after_all base.now.state commits.now in IfOk result (λ r. MatchOption r (IsAtEnd (walk_at s changes.now.layers self.old) (walk_at s changes.now.layers self.new)) (λ x. IsAtRow x (walk_at s changes.now.layers self.old) (walk_at s changes.now.layers self.new))) }
+        rel: RelId,
+        tip: usize,
+    ) -> Result<(), AllocError>
+        requires { self.old.rest ≡ named rel.0 tip }
+        ensures step { let s = after_all base.now.state commits.now in OnOk result (walk_at s changes.now.layers self.new ≡ gone_on (walk_at s changes.now.layers self.old)) }
         ensures names { rest_reach self.new.rest ≤ rest_reach self.old.rest }
     {
-        let last = bytes_of(&self.current);
-        match self.source.next(alloc, last, changes, base, commits)? {
-            Some(row) => {
-                let copy = row.copy()?;
-                let_go(replace(&mut self.current, Some(row)));
-                Ok(Some(copy))
-            }
+        if row_past(
+            &mut self.last,
+            &mut self.mark,
+            alloc,
+            changes,
+            base,
+            commits,
+            rel,
+            tip,
+        )? {
+            return Ok(());
+        }
+        self.end(alloc);
+        Ok(())
+    }
+
+    /// Goes on to the next one of the walk's own rows, or ends. It takes no memory.
+    #[tactic(auto, using(crate::proofs::Goings::goings))]
+    fn go_on(&mut self, alloc: Global)
+        requires { IsGiven self.old.rest }
+        ensures step { (s : State) → (ls : List Layer) → walk_at s ls self.new ≡ gone_on (walk_at s ls self.old) }
+        ensures names { rest_reach self.new.rest ≤ rest_reach self.old.rest }
+    {
+        if self.pass() {
+            return;
+        }
+        self.end(alloc);
+    }
+
+    /// Goes on to the next row, or finds none left.
+    pub(crate) fn next(
+        &mut self,
+        alloc: Global,
+        changes: &Changes,
+        base: &Base,
+        commits: &[Delta],
+    ) -> Result<(), AllocError>
+        ensures step { let s = after_all base.now.state commits.now in OnOk result (walk_at s changes.now.layers self.new ≡ gone_on (walk_at s changes.now.layers self.old)) }
+        ensures names { rest_reach self.new.rest ≤ rest_reach self.old.rest }
+    {
+        match self.source.name() {
+            Some((rel, tip)) => self.seek(alloc, changes, base, commits, rel, tip),
             None => {
-                let none = RowSet::new(alloc);
-                let_go(replace(
-                    &mut self.source,
-                    Source::Rows {
-                        rows: none,
-                        next: 0,
-                    },
-                ));
-                let_go(replace(&mut self.current, None));
-                Ok(None)
+                self.go_on(alloc);
+                Ok(())
             }
         }
     }
 
     /// The walk with the rows that are left of it, collected where it names a relation.
+    #[tactic(auto, using(crate::proofs::Goings::settlings))]
     pub fn settle(
         mut self,
         alloc: Global,
@@ -230,29 +354,34 @@ impl Walk {
     ) -> Result<Walk, AllocError>
         ensures { IfOk result (λ w. w ≡ settled (after_all base.now.state commits.now) changes.now.layers self) }
     {
-        let last = bytes_of(&self.current);
-        if let Some(rows) = self.source.left(alloc, last, changes, base, commits)? {
-            let_go(replace(&mut self.source, Source::Rows { rows, next: 0 }));
+        match self.source.name() {
+            None => Ok(self),
+            Some((rel, tip)) => {
+                let last = bytes_of(&self.last);
+                let rows = rows_past(alloc, changes, base, commits, rel, tip, last)?;
+                let_go(replace(&mut self.source, Source::Rows { rows, next: 0 }));
+                Ok(self)
+            }
         }
-        Ok(self)
     }
 
-    /// Gathers the current row, if there is one.
-    pub fn keep(&mut self) -> Result<(), AllocError>
-        ensures { OnOk result (self.new ≡ record self.old { gathered = with_current self.old.current self.old.gathered }) }
+    /// Gathers the current row, if there is one. Without memory the walk stays as it is.
+    pub(crate) fn keep(&mut self) -> Result<(), AllocError>
+        ensures ok { OnOk result (self.new ≡ with_kept self.old) }
+        ensures err { OnErr result (self.new ≡ self.old) }
     {
-        if let Some(row) = &self.current {
-            self.gathered.insert(row.bytes())?;
+        match self.source.current(&self.last) {
+            None => Ok(()),
+            Some(row) => take_in(&mut self.gathered, row),
         }
-        Ok(())
     }
 
-    /// Gathers a row.
-    pub fn gather(&mut self, row: &[u8]) -> Result<(), AllocError>
-        ensures { OnOk result (self.new ≡ record self.old { gathered = put row.now self.old.gathered }) }
+    /// Gathers a row. Without memory the walk stays as it is.
+    pub(crate) fn gather(&mut self, row: &[u8]) -> Result<(), AllocError>
+        ensures ok { OnOk result (self.new ≡ with_gathered row.now self.old) }
+        ensures err { OnErr result (self.new ≡ self.old) }
     {
-        self.gathered.insert(row)?;
-        Ok(())
+        take_in(&mut self.gathered, row)
     }
 
     /// The gathered rows.
@@ -261,7 +390,8 @@ impl Walk {
     {
         let Walk {
             source: _,
-            current: _,
+            last: _,
+            mark: _,
             gathered,
         } = self;
         gathered

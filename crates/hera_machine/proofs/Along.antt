@@ -13,7 +13,7 @@ use Rattle.hera_machine.specs.declared.events.End.{End}
 use Rattle.hera_machine.specs.declared.events.Event.TheVariants.{Quiet, Out, Commit, Ended}
 use Rattle.hera_machine.specs.declared.events.Status.TheVariants.{Working}
 use Rattle.hera_machine.specs.Over.{state_over}
-use Rattle.hera_machine.specs.Standing.{Standing, machine_over, event_over, commit_over, stop_of, GoesQuietly, Tells}
+use Rattle.hera_machine.specs.Standing.{Standing, machine_over, commit_over, stop_of, GoesQuietly, Tells}
 
 -- ---- events
 

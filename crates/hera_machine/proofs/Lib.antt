@@ -7,3 +7,5 @@ pub mod Relating
 pub mod Answering
 pub mod Advancing
 pub mod Quietly
+pub mod Walked
+pub mod Calling

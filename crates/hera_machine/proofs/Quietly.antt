@@ -1,9 +1,8 @@
 -- Instructions that are quiet.
-use Rattle.std.proofs.Common.{◌≡◌, ℕ, suc, ◌+◌, List, refl, sym, ap, ◌∙◌, subst, arith, zero-add}
+use Rattle.std.proofs.Common.{◌≡◌, suc, ◌+◌, List, sym, ap, ◌∙◌, subst, arith, zero-add}
 use Rattle.hera_meaning.specs.declared.schemas.RelDecl.{RelDecl}
 use Rattle.hera_meaning.specs.Deltas.{State}
 use Rattle.hera_meaning.specs.Hosts.{Hosts}
-use Rattle.hera_meaning.specs.Worlds.{Event}
 use Rattle.hera_code.specs.declared.instrs.Code.{Code}
 use Rattle.hera_code.specs.Machine.{Machine, Step, quiet, code_step}
 use Rattle.hera_code.specs.Reached.{after_step, exec_code}

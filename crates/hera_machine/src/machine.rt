@@ -134,7 +134,8 @@ impl<'c> Machine<'c> {
         }
     }
 
-    /// Executes the instructions at hand that are quiet and take no memory, some 4096 at most.
+    /// Executes the instructions at hand that have the quick way, some 4096 at most. It stops in front of one for
+    /// which memory is refused.
     fn hurry(&mut self)
         ensures quietly { self.old.status ≡ Status.Working → (hosts : Hosts) → (s : State) → GoesQuietly self.old.code self.old.relations hosts s (machine_over s self.old) (machine_over s self.new) }
         ensures less { Forward self.old.code → left (length self.old.code.instrs) self.new.state ≤ left (length self.old.code.instrs) self.old.state }
@@ -148,7 +149,7 @@ impl<'c> Machine<'c> {
         }
     }
 
-    /// Executes quiet instructions that take no memory, as many as come and some 4096 at most, and then one as
+    /// Executes instructions that have the quick way, as many as come and some 4096 at most, and then one as
     /// `step` does, with the place for one more operand made before it. A refusal of the place is want of
     /// memory.
     pub fn advance(

@@ -18,6 +18,7 @@ mod hosts;
 mod jumps;
 mod prims;
 mod quick;
+mod quick_calls;
 mod relations;
 mod values;
 mod walks;
@@ -25,10 +26,9 @@ mod walks;
 use crate::events::{End, Told};
 use delta_atoms::Delta;
 use hera_code::{Code, Instr};
-use hera_frames::{Changes, Frame, Locals, Operands, Stack, Walk, release};
+use hera_frames::{Callers, Changes, Locals, Operands, Stack, Walk, release};
 use hera_host::HostTable;
 use hera_meaning::RelDecl;
-use hera_prims::Args;
 use rel_pages::Base;
 use std::alloc::{AllocError, Global};
 use std::marker::Model;
@@ -46,7 +46,7 @@ pub(crate) struct Running {
     own: usize,
     /// The number of the first layer that no frame that waits names.
     floor: usize,
-    callers: Stack<Frame>,
+    callers: Callers,
     /// Whether a frame that waits may name a relation.
     names_below: bool,
     turns: u64,
@@ -90,12 +90,12 @@ impl Running {
             alloc,
             at: 0,
             operands: Operands::new(alloc),
-            locals: Locals::start(alloc, Args::new(alloc), slots)?,
+            locals: Locals::start(alloc, slots)?,
             walks: Stack::new(alloc),
             changes: Changes::new(alloc)?,
             own: 0,
             floor: 0,
-            callers: Stack::new(alloc),
+            callers: Callers::new(alloc),
             names_below: false,
             turns,
         })

@@ -1,6 +1,6 @@
 -- Rows of one length.
 use Rattle.std.proofs.Common.{◌≡◌, ◌≤◌, ◌<◌, ℕ, zero, suc, ◌+◌, ◌-◌, ◌*◌, Bool, true, false, cond, List, [], ◌∷◌, ◌++◌, length, drop, length-drop, Option, Some, None, refl, sym, ap, subst, ◌∙◌, arith}
-use Rattle.std.specs.Prelude.{is_some, nat_lt}
+use Rattle.std.specs.Prelude.{nat_lt}
 use Rattle.std.specs.List.{slice_get}
 use Rattle.std.specs.Option.{option_and_then}
 use Rattle.std.proofs.Math.Nat.{suc-mul}
@@ -150,7 +150,8 @@ rows_on schema width (suc n) (suc k) bytes even all le h =
 -- the row of a number
 pub record RowHere (schema : List Attr) (width n k : ℕ) (bytes : List ℕ) : Type 0 where
   pub within : k * width ≤ length bytes
-  pub some : is_some (row_len_of schema (drop (k * width) bytes)) ≡ true
+  pub len : row_len_of schema (drop (k * width) bytes) ≡ Some width
+  pub fits : width ≤ length (drop (k * width) bytes)
   pub rest : List Row
   pub rows : rows_from schema n bytes ≡ rows_from schema k bytes ++ leading schema (drop (k * width) bytes) ∷ rest
 
@@ -160,9 +161,11 @@ row_here schema width n k bytes even all lt h =
     let count : n - k ≡ suc (n - (k + 1)) = omega (arith, lt) in
     let at : List ℕ = drop (k * width) bytes in
     let run = subst (λ (m : ℕ). IsRun schema m at) count from.run in
+    let len : row_len_of schema at ≡ Some width = run.1 ∙ ap Some (even at run.0 run.1) in
     record {
       within = from.within;
-      some = ap is_some run.1;
+      len = len;
+      fits = (row_len_some schema at (Some width) (AreBytes-drop (k * width) bytes all) (sym len)).0;
       rest = rows_from schema (n - (k + 1)) (drop (length (leading schema at)) at);
       rows = from.rows ∙ ap (λ (m : ℕ). rows_from schema k bytes ++ rows_from schema m at) count;
     }

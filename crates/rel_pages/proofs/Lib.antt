@@ -8,3 +8,5 @@ pub mod Prints
 pub mod Halves
 pub mod Bases
 pub mod Evens
+pub mod Nears
+pub mod Counts

@@ -3,3 +3,4 @@ pub mod Reading
 pub mod Rels
 pub mod Parts
 pub mod Halves
+pub mod Looks

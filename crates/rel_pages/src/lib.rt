@@ -4,12 +4,15 @@
 mod base;
 mod fields;
 mod half;
+mod near;
 mod page_rel;
 mod pages;
 mod parts;
+mod place;
 
 pub use base::{Base, read_half};
 pub use page_rel::PageRel;
+pub use place::{Near, Place};
 pub use rel_format::PageFault;
 
 #[cfg(test)]
@@ -107,9 +110,124 @@ mod tests {
         let rows = base.rel(RelId(0));
         let one = b"\x80\0\0\0\0\0\0\x01".as_slice();
         let two = b"\x80\0\0\0\0\0\0\x02".as_slice();
+        assert_eq!(rt; rows.len(), 2);
         assert_eq!(rt; rows.above(None), Some(one));
         assert_eq!(rt; rows.above(Some(one)), Some(two));
         assert!(rt; rows.above(Some(two)).is_none() && rows.has(two) && !rows.has(b""));
+        Ok(())
+    }
+
+    /// The row of this int.
+    fn row(n: u16) -> [u8; 8] {
+        let low = n.to_be_bytes();
+        [128, 0, 0, 0, 0, 0, low[0], low[1]]
+    }
+
+    /// A base with the relation R(a int), which holds the ints 1 to 1025 on two pages.
+    fn two_pages(alloc: Global) -> Result<Base, Fail> {
+        let mut bytes = Vec::from_slice(alloc, b"HERA0001\0\x01\x01R\x01\x01a\x01\0\0\0\x02")?;
+        bytes.extend_from_slice(b"\0\0\x03\xff")?;
+        for n in 1..1024 {
+            bytes.extend_from_slice(&row(n))?;
+        }
+        bytes.extend_from_slice(b"\0\0\0\0\0\0\0\x02")?;
+        for n in 1024..1026 {
+            bytes.extend_from_slice(&row(n))?;
+        }
+        for _ in bytes.len()..16404 {
+            bytes.push(0)?;
+        }
+        Ok(read_half(alloc, bytes)?)
+    }
+
+    #[test]
+    fn a_walk_finds_each_row_at_its_place(rt: HostRuntime) -> Result<(), Fail> {
+        let base = two_pages(rt.alloc())?;
+        assert_eq!(rt; base.catalogue().len(), 1);
+        let rows = base.rel(RelId(0));
+        let mut near = rows.above_near(None, Place::start());
+        for n in 0..1025 {
+            assert_eq!(rt; near.row, Some(row(n + 1).as_slice()));
+            assert_eq!(rt; near.place.page, (n / 1023) as usize);
+            assert_eq!(rt; near.place.row, (n % 1023) as usize);
+            near = rows.above_near(near.row, near.place);
+        }
+        assert!(rt; near.row.is_none());
+        Ok(())
+    }
+
+    /// The row of a text of 200 bytes, of which the last is this one.
+    fn text(alloc: Global, last: u8) -> Result<Vec<u8>, Fail> {
+        let mut row = Vec::new(alloc);
+        for _ in 0..199 {
+            row.push(b'a')?;
+        }
+        row.push(last)?;
+        row.push(0)?;
+        Ok(row)
+    }
+
+    /// A base with the relation R(a text), which holds texts that end with the bytes 33 to 82 on two pages.
+    fn two_pages_of_texts(alloc: Global) -> Result<Base, Fail> {
+        let mut bytes = Vec::from_slice(alloc, b"HERA0001\0\x01\x01R\x01\x01a\x03\0\0\0\x02")?;
+        bytes.extend_from_slice(b"\0\0\0\x28")?;
+        for last in 33..73 {
+            bytes.extend_from_slice(&text(alloc, last)?)?;
+        }
+        for _ in bytes.len()..8212 {
+            bytes.push(0)?;
+        }
+        bytes.extend_from_slice(b"\0\0\0\x0a")?;
+        for last in 73..83 {
+            bytes.extend_from_slice(&text(alloc, last)?)?;
+        }
+        for _ in bytes.len()..16405 {
+            bytes.push(0)?;
+        }
+        Ok(read_half(alloc, bytes)?)
+    }
+
+    #[test]
+    fn a_walk_over_texts_finds_each_row(rt: HostRuntime) -> Result<(), Fail> {
+        let base = two_pages_of_texts(rt.alloc())?;
+        assert_eq!(rt; base.catalogue().len(), 1);
+        let rows = base.rel(RelId(0));
+        let mut near = rows.above_near(None, Place::start());
+        for last in 33..83 {
+            let row = text(rt.alloc(), last)?;
+            assert_eq!(rt; near.row, Some(row.as_slice()));
+            near = rows.above_near(Some(&row), near.place);
+            for page in [0, 1, 2, usize::MAX] {
+                let found = rows.above_near(Some(&row), Place { page, row: 7 });
+                assert_eq!(rt; found.row, near.row);
+            }
+        }
+        assert!(rt; near.row.is_none());
+        Ok(())
+    }
+
+    #[test]
+    fn a_wrong_place_changes_no_row(rt: HostRuntime) -> Result<(), Fail> {
+        let base = two_pages(rt.alloc())?;
+        assert_eq!(rt; base.catalogue().len(), 1);
+        let rows = base.rel(RelId(0));
+        for page in [0, 1, 2, usize::MAX] {
+            for row_number in [0, 1, 511, 1021, 1022, 1023, usize::MAX] {
+                let place = Place {
+                    page,
+                    row: row_number,
+                };
+                assert_eq!(rt; rows.above_near(None, place).row, rows.above(None));
+                for n in [0, 1, 2, 512, 1022, 1023, 1024, 1025, 1026] {
+                    let bound = row(n);
+                    assert_eq!(rt;
+                        rows.above_near(Some(&bound), place).row,
+                        rows.above(Some(&bound))
+                    );
+                }
+            }
+        }
+        assert!(rt; rows.above_near(None, Place::nowhere()).row.is_some());
         Ok(())
     }
 }

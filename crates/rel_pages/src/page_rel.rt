@@ -1,5 +1,5 @@
 //! The rows of one relation, in the bytes of its pages.
-ghost use Rattle.std.specs.Prelude.{◌≡◌, ◌<◌, ◌≤◌, ◌+◌, ◌*◌, ◌++◌, length, List, ℕ, true, is_some, Option, IfSome, None, Some, take, drop};
+ghost use Rattle.std.specs.Prelude.{◌≡◌, ◌<◌, ◌≤◌, ◌+◌, ◌-◌, ◌*◌, ◌++◌, length, List, ℕ, true, is_some, Option, IfSome, None, Some, take, drop};
 ghost use Rattle.std.specs.List.{find};
 ghost use Rattle.std.specs.Option.{option_copied};
 ghost use Rattle.hera_sets.specs.Rows.{IsAscending};
@@ -7,13 +7,14 @@ ghost use Rattle.hera_row.specs.Reading.{row_len_of};
 ghost use Rattle.rel_pages.specs.Rels.{IsPaged, rows_in, rows_from, page_rows, pages_rows, rows_counted, leading, passes, IsPage, ArePagesOf, IsRun};
 
 use crate::fields::first_len;
+use crate::place::{Near, Place};
 use hera_meaning::{Kind, Schema};
 use hera_rows::Sorted;
 use hera_sets::{is_below, is_same};
 use std::marker::Model;
 
 /// The bytes of a page before its rows.
-const PAGE_HEAD: usize = 4;
+pub(crate) const PAGE_HEAD: usize = 4;
 
 /// The rows of one relation, in byte order. `pages` are whole pages of `page` bytes, printed as those
 /// of one relation with this schema. Rows are lent as slices of them.
@@ -37,7 +38,7 @@ impl<'a> Model for PageRel<'a> {
 
 /// Which rows are looked for: any, those past a row, or those that are not below one.
 #[derive(Clone, Copy)]
-enum Bound<'b> {
+pub(crate) enum Bound<'b> {
     Any,
     Past(&'b [u8]),
     From(&'b [u8]),
@@ -51,19 +52,34 @@ impl<'a> Sorted for PageRel<'a> {
             None => Bound::Any,
             Some(row) => Bound::Past(row),
         };
-        first_in(self.schema, self.pages, self.page, bound)
+        first_in(self.schema, self.pages, self.page, bound).row
     }
 
     fn has(&self, row: &[u8]) -> bool {
-        match first_in(self.schema, self.pages, self.page, Bound::From(row)) {
+        match first_in(self.schema, self.pages, self.page, Bound::From(row)).row {
             None => false,
             Some(found) => is_same(row, found),
         }
     }
 }
 
+impl<'a> PageRel<'a> {
+    /// How many rows there are. It looks at each page's head alone, and takes no memory.
+    pub fn len(&self) -> usize
+        ensures count { result ≡ length self.now }
+        ensures ordered { IsAscending self.now }
+    {
+        count_in_pages(
+            self.schema,
+            self.pages,
+            self.page,
+            self.pages.len() / self.page,
+        )
+    }
+}
+
 /// Whether the row is one of those that are looked for.
-fn passes(bound: Bound<'_>, row: &[u8]) -> bool
+pub(crate) fn passes(bound: Bound<'_>, row: &[u8]) -> bool
     ensures { result ≡ passes bound.entry row.now }
 {
     match bound {
@@ -74,14 +90,19 @@ fn passes(bound: Bound<'_>, row: &[u8]) -> bool
 }
 
 /// The first row that is looked for. The pages before its own are passed over by their first rows.
-fn first_in<'r>(schema: &Schema, pages: &'r [u8], page: usize, bound: Bound<'_>) -> Option<&'r [u8]>
+pub(crate) fn first_in<'r>(
+    schema: &Schema,
+    pages: &'r [u8],
+    page: usize,
+    bound: Bound<'_>,
+) -> Near<'r>
     requires { IsPaged schema.now page pages.now }
-    ensures { option_copied result ≡ find (passes bound.entry) (rows_in schema.now page pages.entry.now) }
+    ensures { option_copied result.row ≡ find (passes bound.entry) (rows_in schema.now page pages.entry.now) }
 {
     let count = pages.len() / page;
     let before = pages_before(schema, pages, page, count, bound);
     let rest = pages.split_at(before * page).1;
-    first_in_pages(schema, rest, page, count - before, bound)
+    first_in_pages(schema, rest, page, before, count, bound)
 }
 
 /// So many pages that none of their rows is looked for: all before the last one whose first row is
@@ -106,7 +127,7 @@ fn pages_before(schema: &Schema, pages: &[u8], page: usize, count: usize, bound:
 }
 
 /// The first row of the page of this number.
-fn leading_at<'r>(
+pub(crate) fn leading_at<'r>(
     schema: &Schema,
     pages: &'r [u8],
     page: usize,
@@ -121,47 +142,81 @@ fn leading_at<'r>(
     first_row(schema, one.split_at(PAGE_HEAD).1).0
 }
 
-/// The first row of so many pages that is looked for.
+/// The first row that is looked for on the pages from the number `before` on, which are given, of so many.
 fn first_in_pages<'r>(
     schema: &Schema,
     pages: &'r [u8],
     page: usize,
+    before: usize,
     count: usize,
     bound: Bound<'_>,
-) -> Option<&'r [u8]>
-    requires pages { ArePagesOf schema.now page count pages.now }
-    requires ascending { IsAscending (pages_rows schema.now page count pages.now) }
-    ensures { option_copied result ≡ find (passes bound.entry) (pages_rows schema.now page count pages.entry.now) }
+) -> Near<'r>
+    requires within { before ≤ count }
+    requires pages { ArePagesOf schema.now page (count - before) pages.now }
+    requires ascending { IsAscending (pages_rows schema.now page (count - before) pages.now) }
+    ensures { option_copied result.row ≡ find (passes bound.entry) (pages_rows schema.now page (count - before) pages.entry.now) }
 {
     let mut left = pages;
-    for _ in 0..count {
+    let mut place = Place {
+        page: before,
+        row: 0,
+    };
+    for number in before..count {
         prove!(left.len() >= page);
         let (one, behind) = left.split_at(page);
-        if let Some(row) = first_in_page(schema, one, bound) {
-            return Some(row);
+        let near = first_in_page(schema, one, number, bound);
+        if let Some(row) = near.row {
+            return Near {
+                row: Some(row),
+                place: near.place,
+            };
         }
+        place = near.place;
         left = behind;
     }
-    None
+    Near { row: None, place }
 }
 
-/// The first row of a page that is looked for. Where all rows have one length it is searched, else
-/// the rows are passed over one by one.
-fn first_in_page<'r>(schema: &Schema, page: &'r [u8], bound: Bound<'_>) -> Option<&'r [u8]>
+/// How many rows so many pages have, by their heads. The number fits, since each row has a byte.
+fn count_in_pages(schema: &Schema, pages: &[u8], page: usize, count: usize) -> usize
+    requires { ArePagesOf schema.now page count pages.now }
+    ensures { result ≡ length (pages_rows schema.now page count pages.now) }
+{
+    let attributes = schema.len();
+    prove!(attributes > 0);
+    let mut rows = 0;
+    let mut rest = pages;
+    for _ in 0..count {
+        prove!(rest.len() >= page);
+        let (one, others) = rest.split_at(page);
+        rows += row_count(one);
+        rest = others;
+    }
+    rows
+}
+
+/// The first row that is looked for on a page, which has this number. Where all rows have one length it is
+/// searched, else the rows are passed over one by one.
+pub(crate) fn first_in_page<'r>(
+    schema: &Schema,
+    page: &'r [u8],
+    number: usize,
+    bound: Bound<'_>,
+) -> Near<'r>
     requires page { IsPage schema.now page.now }
     requires ascending { IsAscending (page_rows schema.now page.now) }
-    ensures { option_copied result ≡ find (passes bound.entry) (page_rows schema.now page.entry.now) }
+    ensures { option_copied result.row ≡ find (passes bound.entry) (page_rows schema.now page.entry.now) }
 {
     let count = row_count(page);
     let rows = page.split_at(PAGE_HEAD).1;
     match one_width(schema) {
-        Some(width) => first_of_even(schema, rows, width, count, bound),
-        None => first_of(schema, rows, count, bound),
+        Some(width) => first_of_even(schema, rows, width, count, number, bound),
+        None => first_of(schema, rows, 0, count, number, bound),
     }
 }
 
 /// The length of every row of the schema, where it has no text.
-fn one_width(schema: &Schema) -> Option<usize>
+pub(crate) fn one_width(schema: &Schema) -> Option<usize>
     ensures { IfSome result (λ width. (bytes : List ℕ) (n : ℕ) → row_len_of schema.now bytes ≡ Some n → n ≡ width) }
 {
     let mut width = 0;
@@ -175,24 +230,27 @@ fn one_width(schema: &Schema) -> Option<usize>
     Some(width)
 }
 
-/// The first of so many rows of one length that is looked for.
+/// The first of so many rows of one length that is looked for, on the page of this number.
 fn first_of_even<'r>(
     schema: &Schema,
     bytes: &'r [u8],
     width: usize,
     count: usize,
+    number: usize,
     bound: Bound<'_>,
-) -> Option<&'r [u8]>
+) -> Near<'r>
     requires run { IsRun schema.now count bytes.now }
     requires ascending { IsAscending (rows_from schema.now count bytes.now) }
     requires even { (front : List ℕ) (n : ℕ) → row_len_of schema.now front ≡ Some n → n ≡ width }
-    ensures { option_copied result ≡ find (passes bound.entry) (rows_from schema.now count bytes.entry.now) }
+    ensures { option_copied result.row ≡ find (passes bound.entry) (rows_from schema.now count bytes.entry.now) }
 {
     let before = rows_before(schema, bytes, width, count, bound);
     first_of(
         schema,
         bytes.split_at(before * width).1,
-        count - before,
+        before,
+        count,
+        number,
         bound,
     )
 }
@@ -220,7 +278,7 @@ fn rows_before(schema: &Schema, bytes: &[u8], width: usize, count: usize, bound:
 }
 
 /// The row of this number, of so many rows of one length.
-fn even_row<'r>(
+pub(crate) fn even_row<'r>(
     schema: &Schema,
     bytes: &'r [u8],
     width: usize,
@@ -232,36 +290,52 @@ fn even_row<'r>(
     requires within { number < count }
     ensures { result.now ≡ leading schema.now (drop (number * width) bytes.entry.now) }
 {
-    first_row(schema, bytes.split_at(number * width).1).0
+    bytes.split_at(number * width).1.split_at(width).0
 }
 
 /// How many rows a page has.
-fn row_count(page: &[u8]) -> usize
+pub(crate) fn row_count(page: &[u8]) -> usize
     requires { 4 ≤ length page.now }
     ensures { result ≡ rows_counted page.now }
 {
     u16::from_be_bytes([page[2], page[3]]) as usize
 }
 
-/// The first of so many rows that is looked for.
+/// The first row that is looked for of those from the number `before` on, which are given, of so many on the
+/// page of this number.
 fn first_of<'r>(
     schema: &Schema,
     bytes: &'r [u8],
+    before: usize,
     count: usize,
+    number: usize,
     bound: Bound<'_>,
-) -> Option<&'r [u8]>
-    requires { IsRun schema.now count bytes.now }
-    ensures { option_copied result ≡ find (passes bound.entry) (rows_from schema.now count bytes.entry.now) }
+) -> Near<'r>
+    requires within { before ≤ count }
+    requires run { IsRun schema.now (count - before) bytes.now }
+    ensures { option_copied result.row ≡ find (passes bound.entry) (rows_from schema.now (count - before) bytes.entry.now) }
 {
     let mut left = bytes;
-    for _ in 0..count {
+    for place in before..count {
         let (row, behind) = first_row(schema, left);
         if passes(bound, row) {
-            return Some(row);
+            return Near {
+                row: Some(row),
+                place: Place {
+                    page: number,
+                    row: place,
+                },
+            };
         }
         left = behind;
     }
-    None
+    Near {
+        row: None,
+        place: Place {
+            page: number,
+            row: count,
+        },
+    }
 }
 
 /// The first row, and the bytes behind it.

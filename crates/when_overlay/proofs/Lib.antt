@@ -1,4 +1,6 @@
 pub mod Layering
 pub mod Signing
 pub mod Meeting
+pub mod Placings
 pub mod Viewing
+pub mod Counting

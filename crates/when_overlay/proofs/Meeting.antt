@@ -1,20 +1,22 @@
 -- The rows after deltas are those met that are there.
-use Rattle.std.proofs.Common.{◌≡◌, ℕ, ◌+◌, ◌<◌, Bool, true, false, cond, ◌&&◌, ◌||◌, List, [], ◌∷◌, ◌++◌, take, get_or, length, Option, None, Some, refl, sym, ap, ◌∙◌, append_assoc}
+use Rattle.std.proofs.Common.{◌≡◌, ℕ, ◌+◌, ◌<◌, Bool, true, false, cond, not, ◌&&◌, ◌||◌, List, [], ◌∷◌, ◌++◌, take, get_or, length, Option, None, Some, refl, sym, ap, ◌∙◌, subst, append_assoc}
 use Rattle.std.specs.List.{filter, find}
-use Rattle.std.proofs.lemmas.Option.{none-some}
-use Rattle.std.proofs.lemmas.Bool.{or_left, or_right}
-use Rattle.hera_sets.specs.Rows.{Row, holds, normal, is_past, IsAscending}
+use Rattle.std.proofs.lemmas.Option.{none-some, same_Some}
+use Rattle.std.proofs.lemmas.Bool.{both_ways, false≢true, or_left, or_right, or_parts}
+use Rattle.hera_sets.specs.Rows.{Row, is_same, holds, normal, is_past, IsBelowAll, IsAscending}
+use Rattle.hera_sets.proofs.Order.{same_true, same_itself}
 use Rattle.hera_sets.specs.Sets.{least_of}
-use Rattle.hera_sets.proofs.Lists.{ascending_filter}
+use Rattle.hera_sets.proofs.Lists.{none_held, ascending_filter}
 use Rattle.hera_sets.proofs.Members.{same_rows, ascending_normal, normal_ascending, holds-filter, holds-normal, holds-append}
 use Rattle.hera_sets.proofs.Next.{find-union, find-filter}
 use Rattle.hera_meaning.specs.declared.scalars.Sign.{Sign}
 use Rattle.hera_meaning.specs.declared.scalars.Sign.TheVariants.{Plus, Minus}
-use Rattle.hera_meaning.specs.Deltas.{Delta, fail, atoms, is_fail, rows_named, plus_atoms, minus_atoms}
+use Rattle.hera_meaning.specs.Deltas.{Atom, Delta, fail, atoms, IsDelta, is_fail, is_plus, key_of, keys_of, rows_named, plus_atoms, minus_atoms}
+use Rattle.hera_meaning.proofs.Atoms.{rows_named-key}
 use Rattle.delta_atoms.specs.Atoms.{atoms_in, part_of}
 use Rattle.when_overlay.specs.Changed.{rows_after}
-use Rattle.when_overlay.specs.Seeking.{sign_in, later, sign_over, stands, plus_of, pluses, met, next_of}
-use Rattle.when_overlay.proofs.Signing.{holds-after, ascending_after, take_more}
+use Rattle.when_overlay.specs.Seeking.{sign_in, later, sign_over, stands, named_in, named, pluses, met, next_of}
+use Rattle.when_overlay.proofs.Signing.{holds-after, ascending_after, sign_over-append, take_more}
 
 -- ---- the next of several lists
 
@@ -32,40 +34,47 @@ next_append b xs ys =
 pub next_ascending : (b : Option Row) (xs : List Row) → IsAscending xs → find (is_past b) xs ≡ next_of b xs
 next_ascending b xs up = sym (ap (find (is_past b)) (normal_ascending xs up))
 
-pub pluses-append : (r : ℕ) (ds es : List Delta) → pluses r (ds ++ es) ≡ pluses r ds ++ pluses r es
-pluses-append r [] es = refl
-pluses-append r (d ∷ ds) es = ap (λ xs. plus_of r d ++ xs) (pluses-append r ds es) ∙ sym (append_assoc (plus_of r d) (pluses r ds) (pluses r es))
+pub named-append : (r : ℕ) (s : Sign) (ds es : List Delta) → named r s (ds ++ es) ≡ named r s ds ++ named r s es
+named-append r s [] es = refl
+named-append r s (d ∷ ds) es = ap (λ xs. named_in r s d ++ xs) (named-append r s ds es) ∙ sym (append_assoc (named_in r s d) (named r s ds) (named r s es))
 
-pub pluses-push : (r : ℕ) (ds : List Delta) (d : Delta) → pluses r (ds ++ d ∷ []) ≡ pluses r ds ++ plus_of r d
-pluses-push r ds d = pluses-append r ds (d ∷ []) ∙ ap (λ xs. pluses r ds ++ xs) (Rattle.std.proofs.lemmas.List.append-nil (plus_of r d))
+pub named-push : (r : ℕ) (s : Sign) (ds : List Delta) (d : Delta) → named r s (ds ++ d ∷ []) ≡ named r s ds ++ named_in r s d
+named-push r s ds d = named-append r s ds (d ∷ []) ∙ ap (λ xs. named r s ds ++ xs) (Rattle.std.proofs.lemmas.List.append-nil (named_in r s d))
 
--- the next of those met, from the next of the rows, of the first deltas and of the others
-pub next_met : (b : Option Row) (r : ℕ) (rows : List Row) (ds es : List Delta) → IsAscending rows →
-    least_of (find (is_past b) rows) (least_of (next_of b (pluses r ds)) (next_of b (pluses r es))) ≡ find (is_past b) (met r rows (ds ++ es))
-next_met b r rows ds es up =
-    (λ i. least_of (next_ascending b rows up i) (next_append b (pluses r ds) (pluses r es) i))
-    ∙ next_append b rows (pluses r ds ++ pluses r es)
-    ∙ ap (λ xs. next_of b (rows ++ xs)) (sym (pluses-append r ds es))
+-- the next of those named by the first deltas and by the others
+pub next_named : (b : Option Row) (r : ℕ) (s : Sign) (ds es : List Delta) → least_of (next_of b (named r s ds)) (next_of b (named r s es)) ≡ next_of b (named r s (ds ++ es))
+next_named b r s ds es = next_append b (named r s ds) (named r s es) ∙ ap (next_of b) (sym (named-append r s ds es))
+
+-- the next of those met, from the next of the rows and of those put in
+pub next_met : (b : Option Row) (r : ℕ) (rows : List Row) (ds : List Delta) → IsAscending rows →
+    least_of (find (is_past b) rows) (next_of b (pluses r ds)) ≡ find (is_past b) (met r rows ds)
+next_met b r rows ds up = (λ i. least_of (next_ascending b rows up i) (next_of b (pluses r ds))) ∙ next_append b rows (pluses r ds)
 
 -- ---- what is there was met
 
-sign_plus : (r : ℕ) (d : Delta) (q : Row) → sign_in r d q ≡ Some Plus → holds (plus_of r d) q ≡ true
-sign_plus r fail q e = absurd (none-some Plus e)
-sign_plus r (atoms xs) q e =
+sign_named : (r : ℕ) (s : Sign) (d : Delta) (q : Row) → sign_in r d q ≡ Some s → holds (named_in r s d) q ≡ true
+sign_named r s fail q e = absurd (none-some s e)
+sign_named r Plus (atoms xs) q e =
     elim (holds (rows_named r (minus_atoms xs)) q) as (λ m. cond m (Some Minus) (cond (holds (rows_named r (plus_atoms xs)) q) (Some Plus) None) ≡ Some Plus → holds (rows_named r (plus_atoms xs)) q ≡ true) [
       | true ↦ λ g. cc
       | false ↦ λ g. elim (holds (rows_named r (plus_atoms xs)) q) as (λ p. cond p (Some Plus) None ≡ Some Plus → p ≡ true) [ true ↦ λ _. refl | false ↦ λ f. absurd (none-some Plus f) ] g
     ] e
+sign_named r Minus (atoms xs) q e =
+    elim (holds (rows_named r (minus_atoms xs)) q) as (λ m. cond m (Some Minus) (cond (holds (rows_named r (plus_atoms xs)) q) (Some Plus) None) ≡ Some Minus → m ≡ true) [
+      | true ↦ λ g. refl
+      | false ↦ λ g. elim (holds (rows_named r (plus_atoms xs)) q) as (λ p. cond p (Some Plus) None ≡ Some Minus → false ≡ true) [ true ↦ λ f. cc | false ↦ λ f. absurd (none-some Minus f) ] g
+    ] e
 
-later_plus : (r : ℕ) (ds : List Delta) (q : Row) (o u : Option Sign) → later o u ≡ Some Plus → (o ≡ Some Plus → holds (pluses r ds) q ≡ true) → (p : List Row) → (u ≡ Some Plus → holds p q ≡ true) → (holds p q || holds (pluses r ds) q) ≡ true
-later_plus r ds q None u e h p g = or_left (holds p q) (holds (pluses r ds) q) (g e)
-later_plus r ds q (Some s) u e h p g = or_right (holds p q) (holds (pluses r ds) q) (h e)
+later_named : (r : ℕ) (s : Sign) (ds : List Delta) (q : Row) (o u : Option Sign) → later o u ≡ Some s → (o ≡ Some s → holds (named r s ds) q ≡ true) → (p : List Row) → (u ≡ Some s → holds p q ≡ true) → (holds p q || holds (named r s ds) q) ≡ true
+later_named r s ds q None u e h p g = or_left (holds p q) (holds (named r s ds) q) (g e)
+later_named r s ds q (Some t) u e h p g = or_right (holds p q) (holds (named r s ds) q) (h e)
 
-over_plus : (r : ℕ) (ds : List Delta) (q : Row) → sign_over r ds q ≡ Some Plus → holds (pluses r ds) q ≡ true
-over_plus r [] q e = absurd (none-some Plus e)
-over_plus r (d ∷ ds) q e =
-    holds-append (plus_of r d) (pluses r ds) q
-    ∙ later_plus r ds q (sign_over r ds q) (sign_in r d q) e (over_plus r ds q) (plus_of r d) (sign_plus r d q)
+-- a row of which the deltas say something was named so
+pub over_named : (r : ℕ) (s : Sign) (ds : List Delta) (q : Row) → sign_over r ds q ≡ Some s → holds (named r s ds) q ≡ true
+over_named r s [] q e = absurd (none-some s e)
+over_named r s (d ∷ ds) q e =
+    holds-append (named_in r s d) (named r s ds) q
+    ∙ later_named r s ds q (sign_over r ds q) (sign_in r d q) e (over_named r s ds q) (named_in r s d) (sign_named r s d q)
 
 was_met : (o : Option Sign) (h p : Bool) → (o ≡ Some Plus → p ≡ true) → stands o h ≡ true → (h || p) ≡ true
 was_met None true p g e = refl
@@ -76,9 +85,9 @@ was_met (Some Minus) h p g e = cc
 after_met : (r : ℕ) (rows : List Row) (ds : List Delta) (q : Row) → holds (rows_after r rows ds) q ≡ true → holds (met r rows ds) q ≡ true
 after_met r rows ds q e =
     holds-normal (rows ++ pluses r ds) q ∙ holds-append rows (pluses r ds) q
-    ∙ was_met (sign_over r ds q) (holds rows q) (holds (pluses r ds) q) (over_plus r ds q) (sym (holds-after r rows ds q) ∙ e)
+    ∙ was_met (sign_over r ds q) (holds rows q) (holds (pluses r ds) q) (over_named r Plus ds q) (sym (holds-after r rows ds q) ∙ e)
 
-within_and : (a b : Bool) → (a ≡ true → b ≡ true) → a ≡ (a && b)
+pub within_and : (a b : Bool) → (a ≡ true → b ≡ true) → a ≡ (a && b)
 within_and true b h = sym (h refl)
 within_and false b h = refl
 
@@ -91,11 +100,102 @@ pub find-after : (b : Option Row) (r : ℕ) (rows : List Row) (ds : List Delta) 
     find (holds (rows_after r rows ds)) (filter (is_past b) (met r rows ds)) ≡ find (is_past b) (rows_after r rows ds)
 find-after b r rows ds up = sym (ap (find (is_past b)) (after_is_filter r rows ds up) ∙ find-filter (is_past b) (holds (rows_after r rows ds)) (met r rows ds))
 
-pub plus_part : (r : ℕ) (d : Delta) → is_fail d ≡ false → part_of (atoms_in d) r Plus ≡ plus_of r d
-plus_part r fail h = cc
-plus_part r (atoms xs) h = refl
+-- ---- what was met is there unless it was taken out
+
+find_held : (b : Option Row) (xs : List Row) (q : Row) → find (is_past b) xs ≡ Some q → holds xs q ≡ true
+find_held b [] q e = absurd (none-some q e)
+find_held b (x ∷ xs) q e =
+    elim (is_past b x) as (λ v. cond v (Some x) (find (is_past b) xs) ≡ Some q → holds (x ∷ xs) q ≡ true) [
+      | true ↦ λ g. or_left (is_same q x) (holds xs q) (subst (λ (y : Row). is_same q y ≡ true) (sym (same_Some x q g)) (same_itself q))
+      | false ↦ λ g. or_right (is_same q x) (holds xs q) (find_held b xs q g)
+    ] e
+
+silent_plus : (r : ℕ) (d : Delta) (q : Row) → sign_in r d q ≡ None → holds (named_in r Plus d) q ≡ false
+silent_plus r fail q e = refl
+silent_plus r (atoms xs) q e =
+    elim (holds (rows_named r (minus_atoms xs)) q) as (λ m. cond m (Some Minus) (cond (holds (rows_named r (plus_atoms xs)) q) (Some Plus) None) ≡ None → holds (rows_named r (plus_atoms xs)) q ≡ false) [
+      | true ↦ λ g. absurd (none-some Minus (sym g))
+      | false ↦ λ g. elim (holds (rows_named r (plus_atoms xs)) q) as (λ p. cond p (Some Plus) None ≡ None → p ≡ false) [ true ↦ λ f. absurd (none-some Plus (sym f)) | false ↦ λ _. refl ] g
+    ] e
+
+both_silent : (o u : Option Sign) → later o u ≡ None → (o ≡ None) × (u ≡ None)
+both_silent None u e = (refl, e)
+both_silent (Some s) u e = absurd (none-some s (sym e))
+
+-- of a row that no delta puts in or takes out
+silent : (r : ℕ) (ds : List Delta) (q : Row) → sign_over r ds q ≡ None → holds (pluses r ds) q ≡ false
+silent r [] q e = refl
+silent r (d ∷ ds) q e =
+    let both = both_silent (sign_over r ds q) (sign_in r d q) e in
+    holds-append (named_in r Plus d) (pluses r ds) q ∙ (λ i. silent_plus r d q both.1 i || silent r ds q both.0 i)
+
+stands_met : (o : Option Sign) (h p : Bool) → (o ≡ None → p ≡ false) → (h || p) ≡ true → stands o h ≡ stands o true
+stands_met None true p g e = refl
+stands_met None false p g e = sym (g refl) ∙ e
+stands_met (Some Plus) h p g e = refl
+stands_met (Some Minus) h p g e = refl
+
+pub kept_met : (b : Option Row) (r : ℕ) (rows : List Row) (ds : List Delta) (q : Row) (v : Bool) → find (is_past b) (met r rows ds) ≡ Some q → v ≡ stands (sign_over r ds q) true → holds (rows_after r rows ds) q ≡ v
+kept_met b r rows ds q v found e =
+    let here : (holds rows q || holds (pluses r ds) q) ≡ true =
+    sym (holds-normal (rows ++ pluses r ds) q ∙ holds-append rows (pluses r ds) q) ∙ find_held b (met r rows ds) q found in
+    holds-after r rows ds q ∙ stands_met (sign_over r ds q) (holds rows q) (holds (pluses r ds) q) (silent r ds q) here ∙ sym e
+
+-- what the last delta puts in, beside what was met before it
+pub next_newest : (b : Option Row) (r : ℕ) (rows : List Row) (es ds : List Delta) (d : Delta) → ds ≡ es ++ d ∷ [] →
+    least_of (find (is_past b) (met r rows es)) (next_of b (named_in r Plus d)) ≡ find (is_past b) (met r rows ds)
+next_newest b r rows es ds d e =
+    next_append b (rows ++ pluses r es) (named_in r Plus d)
+    ∙ ap (next_of b) (append_assoc rows (pluses r es) (named_in r Plus d) ∙ ap (λ xs. rows ++ xs) (sym (named-push r Plus es d) ∙ ap (named r Plus) (sym e)))
+
+-- a delta that is in order does not take out what it puts in
+still : (t : Atom → Bool) (xs : List Atom) (k : Row) → holds (keys_of xs) k ≡ false → holds (keys_of (filter t xs)) k ≡ false
+still t [] k h = refl
+still t (a ∷ xs) k h =
+    let parts = or_parts (is_same k (key_of a)) (holds (keys_of xs) k) h in
+    elim (t a) as (λ v. holds (keys_of (cond v (a ∷ filter t xs) (filter t xs))) k ≡ false) [
+      | true ↦ rw (parts.0, still t xs k parts.1) refl
+      | false ↦ still t xs k parts.1
+    ]
+
+one_sign : (xs : List Atom) (k : Row) → IsAscending (keys_of xs) → holds (keys_of (plus_atoms xs)) k ≡ true → holds (keys_of (minus_atoms xs)) k ≡ false
+one_sign [] k up h = refl
+one_sign (a ∷ xs) k up h =
+    elim (is_plus a.sign) as (λ v. holds (keys_of (cond v (a ∷ plus_atoms xs) (plus_atoms xs))) k ≡ true → holds (keys_of (cond (not v) (a ∷ minus_atoms xs) (minus_atoms xs))) k ≡ false) [
+      | true ↦ λ g. elim (is_same k (key_of a)) as (λ w. is_same k (key_of a) ≡ w → (w || holds (keys_of (plus_atoms xs)) k) ≡ true → holds (keys_of (minus_atoms xs)) k ≡ false) [
+        | true ↦ λ e _. still (λ b. not (is_plus b.sign)) xs k (others e)
+        | false ↦ λ _ f. one_sign xs k up.1 f
+      ] refl g
+      | false ↦ λ g. elim (is_same k (key_of a)) as (λ w. is_same k (key_of a) ≡ w → (w || holds (keys_of (minus_atoms xs)) k) ≡ false) [
+        | true ↦ λ e. absurd (both_ways _ (still (λ b. is_plus b.sign) xs k (others e)) g)
+        | false ↦ λ _. one_sign xs k up.1 g
+      ] refl
+    ] h
+  where
+    others : is_same k (key_of a) ≡ true → holds (keys_of xs) k ≡ false
+    others e = none_held k (keys_of xs) (subst (λ z. IsBelowAll z (keys_of xs)) (sym (same_true k (key_of a) e)) up.0)
+
+-- a row that a delta puts in, found among those
+found_named : (b : Option Row) (r : ℕ) (d : Delta) (o : Option Row) (q : Row) → o ≡ next_of b (named_in r Plus d) → o ≡ Some q → holds (named_in r Plus d) q ≡ true
+found_named b r d o q h g = sym (holds-normal (named_in r Plus d) q) ∙ find_held b (normal (named_in r Plus d)) q (sym h ∙ g)
+
+put_in_here : (r : ℕ) (d : Delta) (q : Row) → IsDelta d → holds (named_in r Plus d) q ≡ true → sign_in r d q ≡ Some Plus
+put_in_here r fail q up h = absurd (false≢true h)
+put_in_here r (atoms xs) q up h =
+    let out : holds (rows_named r (minus_atoms xs)) q ≡ false = rows_named-key r (minus_atoms xs) q ∙ one_sign xs (r ∷ q) up (sym (rows_named-key r (plus_atoms xs) q) ∙ h) in
+    rw (out, h) refl
+
+-- a row found among those that the last delta puts in is put in
+pub newest_sign : (b : Option Row) (r : ℕ) (es ds : List Delta) (d : Delta) (o : Option Row) (q : Row) → ds ≡ es ++ d ∷ [] → IsDelta d → o ≡ next_of b (named_in r Plus d) → o ≡ Some q → sign_over r ds q ≡ Some Plus
+newest_sign b r es ds d o q e up h g =
+    ap (λ xs. sign_over r xs q) e ∙ sign_over-append r es (d ∷ []) q
+    ∙ ap (λ (s : Option Sign). later s (sign_over r es q)) (put_in_here r d q up (found_named b r d o q h g))
+
+pub named_part : (r : ℕ) (s : Sign) (d : Delta) → is_fail d ≡ false → part_of (atoms_in d) r s ≡ named_in r s d
+named_part r s fail h = cc
+named_part r s (atoms xs) h = refl
 
 -- ---- one delta further
 
-pub pluses_more : (r : ℕ) (ds : List Delta) (i : ℕ) (x : Delta) → i < length ds → x ≡ get_or ds i x → pluses r (take (i + 1) ds) ≡ pluses r (take i ds) ++ plus_of r x
-pluses_more r ds i x h e = ap (pluses r) (take_more ds i x h e) ∙ pluses-push r (take i ds) x
+pub named_more : (r : ℕ) (s : Sign) (ds : List Delta) (i : ℕ) (x : Delta) → i < length ds → x ≡ get_or ds i x → named r s (take (i + 1) ds) ≡ named r s (take i ds) ++ named_in r s x
+named_more r s ds i x h e = ap (named r s) (take_more ds i x h e) ∙ named-push r s (take i ds) x

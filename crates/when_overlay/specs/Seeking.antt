@@ -1,10 +1,11 @@
--- What deltas say of one row, and the rows that they put in.
+-- What deltas say of one row, and the rows that they name.
 use Rattle.std.specs.Prelude.{ℕ, Bool, true, false, cond, List, [], ◌∷◌, ◌++◌, Option, None, Some}
 use Rattle.std.specs.List.{find}
 use Rattle.hera_sets.specs.Rows.{Row, holds, normal, is_past}
 use Rattle.hera_meaning.specs.declared.scalars.Sign.{Sign}
 use Rattle.hera_meaning.specs.declared.scalars.Sign.TheVariants.{Plus, Minus}
 use Rattle.hera_meaning.specs.Deltas.{Delta, fail, atoms, rows_named, plus_atoms, minus_atoms}
+use Rattle.delta_atoms.specs.Atoms.{part_of}
 
 -- whether a delta takes the row out of relation r or puts it in, or says nothing of it
 abbrev pub sign_in : ℕ → Delta → Row → Option Sign
@@ -27,14 +28,19 @@ stands None b = b
 stands (Some Plus) b = true
 stands (Some Minus) b = false
 
--- the rows of relation r that a delta puts in
-abbrev pub plus_of : ℕ → Delta → List Row
-plus_of r fail = []
-plus_of r (atoms xs) = rows_named r (plus_atoms xs)
+-- the rows of relation r that a delta names with this sign
+abbrev pub named_in : ℕ → Sign → Delta → List Row
+named_in r s fail = []
+named_in r s (atoms xs) = part_of xs r s
 
+-- the rows that one of the deltas names with this sign
+abbrev pub named : ℕ → Sign → List Delta → List Row
+named r s [] = []
+named r s (d ∷ ds) = named_in r s d ++ named r s ds
+
+-- the rows that a delta puts in
 abbrev pub pluses : ℕ → List Delta → List Row
-pluses r [] = []
-pluses r (d ∷ ds) = plus_of r d ++ pluses r ds
+pluses r ds = named r Plus ds
 
 -- the rows that were there, or that a delta puts in
 abbrev pub met : ℕ → List Row → List Delta → List Row

@@ -6,12 +6,15 @@
 //! whether a row is there, are sought in the base's pages, the commits and the layers.
 #![tactic(auto)]
 
+mod counts;
 mod layers;
+mod marks;
 mod seeks;
 mod signs;
 mod views;
 
 pub use layers::Layers;
+pub use marks::{Found, Mark};
 pub use views::{Hyp, View};
 
 #[cfg(test)]
@@ -19,7 +22,7 @@ mod tests {
     use super::*;
     use delta_atoms::Delta;
     use hera_meaning::{RelId, Sign};
-    use hera_rows::{RowSet, Sorted};
+    use hera_rows::{RowSet, Sorted, collect};
     use rel_pages::{Base, read_half};
     use std::alloc::Global;
     use std::process::Abort;
@@ -76,6 +79,18 @@ mod tests {
         Ok(view.rel(RelId(0)).collect(alloc)?)
     }
 
+    /// How many rows R has after the layers up to the newest one.
+    fn counted(rt: &impl Abort, base: &Base, layers: &Layers) -> Option<u64> {
+        assert!(rt; base.catalogue().len() == 1 && layers.len() > 0);
+        let view = View {
+            base,
+            commits: &[],
+            layers,
+            tip: Some(layers.len() - 1),
+        };
+        view.rel(RelId(0)).count()
+    }
+
     #[test]
     fn sixty_four_layers_move_each_row(rt: HostRuntime) -> Result<(), Fail> {
         let base = base(rt.alloc())?;
@@ -88,6 +103,60 @@ mod tests {
         for n in 1..65 {
             assert!(rt; rows.has(&row(n + 100)) && !rows.has(&row(n)));
         }
+        assert_eq!(rt; counted(&rt, &base, &layers), Some(64));
+        // a row that never was there is taken out, and one that is there put in again
+        put(&rt, &mut layers, change(rt.alloc(), 200, 101)?)?;
+        assert_eq!(rt; counted(&rt, &base, &layers), Some(64));
+        Ok(())
+    }
+
+    /// Some ints moved by two layers, of which the newest puts in one that is there, and two more.
+    fn moved(rt: &impl Abort, alloc: Global, layers: &mut Layers) -> Result<(), Fail> {
+        put(rt, layers, change(alloc, 5, 105)?)?;
+        let mut newest = change(alloc, 64, 3)?;
+        newest.smash_with(&change(alloc, 10, 80)?)?;
+        newest.smash_with(&change(alloc, 105, 120)?)?;
+        put(rt, layers, newest)
+    }
+
+    /// Walks the rows of R by their marks, and by wrong ones too, and tells how many there are.
+    fn walked(rt: &impl Abort, alloc: Global, rel: &Hyp<'_>) -> Result<usize, Fail> {
+        let rows = collect(alloc, rel)?;
+        let mut next = rel.above_near(None, Mark::start());
+        for i in 0..rows.len() {
+            let row = rows.row(i);
+            assert_eq!(rt; next.row, Some(row));
+            let behind = rel.above(Some(row));
+            for put_in in [0, 1, 2, 4, usize::MAX] {
+                let mark = Mark {
+                    put_in,
+                    ..next.mark
+                };
+                assert_eq!(rt; rel.above_near(Some(row), mark).row, behind);
+            }
+            next = rel.above_near(Some(row), next.mark);
+        }
+        assert!(rt; next.row.is_none());
+        Ok(rows.len())
+    }
+
+    #[test]
+    fn a_walk_by_marks_sees_what_is_there(rt: HostRuntime) -> Result<(), Fail> {
+        let base = base(rt.alloc())?;
+        let mut layers = Layers::new(rt.alloc());
+        moved(&rt, rt.alloc(), &mut layers)?;
+        assert!(rt; base.catalogue().len() == 1 && layers.len() == 2);
+        let mut view = View {
+            base: &base,
+            commits: &[],
+            layers: &layers,
+            tip: None,
+        };
+        assert_eq!(rt; walked(&rt, rt.alloc(), &view.rel(RelId(0)))?, 64);
+        view.tip = Some(0);
+        assert_eq!(rt; walked(&rt, rt.alloc(), &view.rel(RelId(0)))?, 64);
+        view.tip = Some(1);
+        assert_eq!(rt; walked(&rt, rt.alloc(), &view.rel(RelId(0)))?, 63);
         Ok(())
     }
 }

@@ -1,19 +1,22 @@
 //! The rows of a relation after commits and layers, sought where they stand.
-ghost use Rattle.std.specs.Prelude.{◌≡◌, ◌++◌};
+ghost use Rattle.std.specs.Prelude.{◌≡◌, ◌<◌, ◌++◌, List, ℕ, true, length, Option, Some, None, IfSome};
 ghost use Rattle.std.specs.List.{find};
 ghost use Rattle.std.specs.Option.{option_copied};
 ghost use Rattle.hera_sets.specs.Rows.{is_past, IsAscending, holds};
 ghost use Rattle.hera_sets.specs.Sets.{least_of};
 ghost use Rattle.when_overlay.specs.Changed.{rows_after};
+ghost use Rattle.hera_meaning.specs.declared.scalars.Sign.TheVariants.{Plus};
 ghost use Rattle.when_overlay.specs.Layered.{IsTip, path};
-ghost use Rattle.when_overlay.specs.Seeking.{plus_of, pluses, met, next_of};
+ghost use Rattle.when_overlay.specs.Seeking.{named_in, named, met, next_of, sign_over, stands};
 
 use crate::Layers;
+use crate::marks::{Found, Mark, put_in_near};
 use crate::signs::sign_of;
 use delta_atoms::Delta;
 use hera_meaning::{RelId, Sign};
 use hera_rows::Sorted;
-use hera_sets::is_below;
+use hera_sets::{is_below, is_same};
+use rel_pages::{Near, PageRel, Place};
 
 /// The lesser of two rows, where a row stands before none.
 fn lesser<'s>(x: Option<&'s [u8]>, y: Option<&'s [u8]>) -> Option<&'s [u8]>
@@ -26,65 +29,98 @@ fn lesser<'s>(x: Option<&'s [u8]>, y: Option<&'s [u8]>) -> Option<&'s [u8]>
     }
 }
 
-/// The first row past the bound that a delta puts in.
-fn plus_above<'s>(delta: &'s Delta, rel: RelId, bound: Option<&[u8]>) -> Option<&'s [u8]>
-    ensures { option_copied result ≡ next_of (option_copied bound.entry) (plus_of rel.0 delta.now) }
+/// The first row past the bound that a delta names with this sign.
+fn part_above<'s>(
+    delta: &'s Delta,
+    rel: RelId,
+    sign: Sign,
+    bound: Option<&[u8]>,
+) -> Option<&'s [u8]>
+    ensures { option_copied result ≡ next_of (option_copied bound.entry) (named_in rel.0 sign delta.now) }
 {
     if delta.is_fail() {
         return None;
     }
-    delta.part(rel, Sign::Plus).above(bound)
+    delta.part(rel, sign).above(bound)
 }
 
-/// The first row past the bound that one of the deltas puts in.
-fn pluses_above<'s>(deltas: &'s [Delta], rel: RelId, bound: Option<&[u8]>) -> Option<&'s [u8]>
-    ensures { option_copied result ≡ next_of (option_copied bound.entry) (pluses rel.0 deltas.now) }
+/// The first row past the bound that one of the deltas names with this sign.
+fn parts_above<'s>(
+    deltas: &'s [Delta],
+    rel: RelId,
+    sign: Sign,
+    bound: Option<&[u8]>,
+) -> Option<&'s [u8]>
+    ensures { option_copied result ≡ next_of (option_copied bound.entry) (named rel.0 sign deltas.now) }
 {
     let mut first = None;
     for delta in deltas {
-        first = lesser(first, plus_above(delta, rel, bound));
+        first = lesser(first, part_above(delta, rel, sign, bound));
     }
     first
 }
 
-/// The first row past the bound that one of the layers from the tip down to the root puts in.
+/// The first row past the bound that one of the layers from the tip down to the root names with this
+/// sign.
 fn layered_above<'s>(
     layers: &'s Layers,
     tip: Option<usize>,
     rel: RelId,
+    sign: Sign,
     bound: Option<&[u8]>,
 ) -> Option<&'s [u8]>
     requires { IsTip layers.now.layers tip }
-    ensures { option_copied result ≡ next_of (option_copied bound.entry) (pluses rel.0 (path layers.now.layers tip)) }
+    ensures { option_copied result ≡ next_of (option_copied bound.entry) (named rel.0 sign (path layers.now.layers tip)) }
 {
     let mut first = None;
     let mut at = tip;
     while let Some(i) = at {
         let layer = layers.layer(i);
-        first = lesser(plus_above(&layer.delta, rel, bound), first);
+        first = lesser(part_above(&layer.delta, rel, sign, bound), first);
         at = layer.parent;
     }
     first
 }
 
-/// The first row past the bound of those that stand in the base or that a commit or a layer puts in.
-fn met_above<'s, S: Sorted>(
-    base: &'s S,
+/// The first row past the bound that a commit or a layer names with this sign.
+pub(crate) fn named_above<'s>(
+    commits: &'s [Delta],
+    layers: &'s Layers,
+    tip: Option<usize>,
+    rel: RelId,
+    sign: Sign,
+    bound: Option<&[u8]>,
+) -> Option<&'s [u8]>
+    requires { IsTip layers.now.layers tip }
+    ensures { option_copied result ≡ next_of (option_copied bound.entry) (named rel.0 sign (commits.now ++ path layers.now.layers tip)) }
+{
+    lesser(
+        parts_above(commits, rel, sign, bound),
+        layered_above(layers, tip, rel, sign, bound),
+    )
+}
+
+/// The first row past the bound of those that stand in the pages or that a commit or a layer puts in, and
+/// about where it stands in the pages.
+fn met_near<'s>(
+    pages: &'s PageRel<'_>,
     commits: &'s [Delta],
     layers: &'s Layers,
     tip: Option<usize>,
     rel: RelId,
     bound: Option<&[u8]>,
-) -> Option<&'s [u8]>
+    place: Place,
+) -> Near<'s>
     requires { IsTip layers.now.layers tip }
-    ensures next { option_copied result ≡ find (is_past (option_copied bound.entry)) (met rel.0 (S.rows base.now) (commits.now ++ path layers.now.layers tip)) }
-    ensures ordered { IsAscending (S.rows base.now) }
+    ensures next { option_copied result.row ≡ find (is_past (option_copied bound.entry)) (met rel.0 pages.now (commits.now ++ path layers.now.layers tip)) }
+    ensures ordered { IsAscending pages.now }
 {
-    let added = lesser(
-        pluses_above(commits, rel, bound),
-        layered_above(layers, tip, rel, bound),
-    );
-    lesser(base.above(bound), added)
+    let near = pages.above_near(bound, place);
+    let added = named_above(commits, layers, tip, rel, Sign::Plus, bound);
+    Near {
+        row: lesser(near.row, added),
+        place: near.place,
+    }
 }
 
 /// Whether the row is there.
@@ -107,25 +143,169 @@ pub(crate) fn has<S: Sorted>(
     }
 }
 
-/// The first row past the bound that is there. What was met and taken out again is passed over.
-pub(crate) fn above<'s, S: Sorted>(
-    base: &'s S,
+/// Whether a row that was met is there: where a commit or a layer speaks of it, the last of these does not
+/// take it out.
+fn is_kept(commits: &[Delta], layers: &Layers, tip: Option<usize>, rel: RelId, row: &[u8]) -> bool
+    requires { IsTip layers.now.layers tip }
+    ensures { result ≡ stands (sign_over rel.0 (commits.now ++ path layers.now.layers tip) row.now) true }
+{
+    match sign_of(commits, layers, tip, rel, row) {
+        Some(Sign::Minus) => false,
+        Some(Sign::Plus) => true,
+        None => true,
+    }
+}
+
+/// Whether the row is the one that was found.
+fn is_that(found: Option<&[u8]>, row: &[u8]) -> bool
+    ensures { result ≡ true → option_copied found.entry ≡ Some row.now }
+{
+    match found {
+        Some(one) => is_same(one, row),
+        None => false,
+    }
+}
+
+/// Whether the row that was met, if one was, is there. It is so where it is the one that is known to be put in:
+/// then no delta is asked.
+fn is_kept_of(
+    commits: &[Delta],
+    layers: &Layers,
+    tip: Option<usize>,
+    rel: RelId,
+    row: Option<&[u8]>,
+    put_in: Option<&[u8]>,
+) -> bool
+    requires tip { IsTip layers.now.layers tip }
+    requires put_in { (q : List ℕ) → option_copied put_in ≡ Some q → sign_over rel.0 (commits.now ++ path layers.now.layers tip) q ≡ Some Plus }
+    ensures { IfSome row.entry (λ row. result ≡ stands (sign_over rel.0 (commits.now ++ path layers.now.layers tip) row.now) true) }
+{
+    let Some(row) = row else {
+        return true;
+    };
+    if is_that(put_in, row) {
+        return true;
+    }
+    is_kept(commits, layers, tip, rel, row)
+}
+
+/// A row that was met, or none, and whether it is there.
+#[derive(Clone, Copy)]
+struct Met<'s> {
+    found: Found<'s>,
+    kept: bool,
+}
+
+/// The first row past the bound of those that are met, where there are no layers.
+fn met_without<'s>(
+    pages: &'s PageRel<'_>,
+    commits: &'s [Delta],
+    layers: &'s Layers,
+    rel: RelId,
+    bound: Option<&[u8]>,
+    mark: Mark,
+) -> Met<'s>
+    ensures next { option_copied result.found.row ≡ find (is_past (option_copied bound.entry)) (met rel.0 pages.now (commits.now ++ path layers.now.layers None)) }
+    ensures kept { IfSome result.found.row (λ row. result.kept ≡ stands (sign_over rel.0 (commits.now ++ path layers.now.layers None) row.now) true) }
+    ensures ordered { IsAscending pages.now }
+{
+    let near = met_near(pages, commits, layers, None, rel, bound, mark.pages);
+    let mark = Mark {
+        pages: near.place,
+        ..mark
+    };
+    let row = near.row;
+    Met {
+        found: Found { row, mark },
+        kept: is_kept_of(commits, layers, None, rel, row, None),
+    }
+}
+
+/// The first row past the bound of those that are met, where this layer is the newest: one of those that it
+/// puts in, which is there, or one met below it.
+fn met_under<'s>(
+    pages: &'s PageRel<'_>,
+    commits: &'s [Delta],
+    layers: &'s Layers,
+    i: usize,
+    rel: RelId,
+    bound: Option<&[u8]>,
+    mark: Mark,
+) -> Met<'s>
+    requires { i < length layers.now.layers }
+    ensures next { option_copied result.found.row ≡ find (is_past (option_copied bound.entry)) (met rel.0 pages.now (commits.now ++ path layers.now.layers (Some i))) }
+    ensures kept { IfSome result.found.row (λ row. result.kept ≡ stands (sign_over rel.0 (commits.now ++ path layers.now.layers (Some i)) row.now) true) }
+    ensures ordered { IsAscending pages.now }
+{
+    let newest = layers.layer(i);
+    let own = put_in_near(&newest.delta, rel, bound, mark.put_in);
+    let near = met_near(
+        pages,
+        commits,
+        layers,
+        newest.parent,
+        rel,
+        bound,
+        mark.pages,
+    );
+    let row = lesser(near.row, own.row);
+    let mark = Mark {
+        pages: near.place,
+        put_in: own.before,
+    };
+    Met {
+        found: Found { row, mark },
+        kept: is_kept_of(commits, layers, Some(i), rel, row, own.row),
+    }
+}
+
+/// The first row past the bound of those that are met, and whether it is there.
+fn met_next<'s>(
+    pages: &'s PageRel<'_>,
     commits: &'s [Delta],
     layers: &'s Layers,
     tip: Option<usize>,
     rel: RelId,
     bound: Option<&[u8]>,
-) -> Option<&'s [u8]>
+    mark: Mark,
+) -> Met<'s>
     requires { IsTip layers.now.layers tip }
-    ensures next { option_copied result ≡ find (is_past (option_copied bound.entry)) (rows_after rel.0 (S.rows base.now) (commits.now ++ path layers.now.layers tip)) }
-    ensures ordered { IsAscending (rows_after rel.0 (S.rows base.now) (commits.now ++ path layers.now.layers tip)) }
+    ensures next { option_copied result.found.row ≡ find (is_past (option_copied bound.entry)) (met rel.0 pages.now (commits.now ++ path layers.now.layers tip)) }
+    ensures kept { IfSome result.found.row (λ row. result.kept ≡ stands (sign_over rel.0 (commits.now ++ path layers.now.layers tip) row.now) true) }
+    ensures ordered { IsAscending pages.now }
+{
+    match tip {
+        Some(i) => met_under(pages, commits, layers, i, rel, bound, mark),
+        None => met_without(pages, commits, layers, rel, bound, mark),
+    }
+}
+
+/// The first row past the bound that is there, and about where it stands: there it is looked for first. What
+/// was met and taken out again is passed over.
+pub(crate) fn above_near<'s>(
+    pages: &'s PageRel<'_>,
+    commits: &'s [Delta],
+    layers: &'s Layers,
+    tip: Option<usize>,
+    rel: RelId,
+    bound: Option<&[u8]>,
+    mark: Mark,
+) -> Found<'s>
+    requires { IsTip layers.now.layers tip }
+    ensures next { option_copied result.row ≡ find (is_past (option_copied bound.entry)) (rows_after rel.0 pages.now (commits.now ++ path layers.now.layers tip)) }
+    ensures ordered { IsAscending (rows_after rel.0 pages.now (commits.now ++ path layers.now.layers tip)) }
 {
     let mut last = bound;
-    while let Some(row) = met_above(base, commits, layers, tip, rel, last) {
-        if has(base, commits, layers, tip, rel, row) {
-            return Some(row);
+    let mut mark = mark;
+    loop {
+        let next = met_next(pages, commits, layers, tip, rel, last, mark);
+        let Some(row) = next.found.row else {
+            return next.found;
+        };
+        if next.kept {
+            return next.found;
         }
         last = Some(row);
+        mark = next.found.mark;
     }
-    None
 }

@@ -1,13 +1,15 @@
 //! Views of a hypothetical state, and of one relation in it.
-ghost use Rattle.std.specs.Prelude.{◌≡◌, ◌<◌, ◌++◌, List, ℕ, Option, None, Some, IfOk, length, slice_get};
+ghost use Rattle.std.specs.Prelude.{◌≡◌, ◌<◌, ◌≤◌, ◌^◌, ◌++◌, List, ℕ, Option, None, Some, IfOk, MatchOption, length, slice_get};
+ghost use Rattle.std.specs.List.{find};
+ghost use Rattle.std.specs.Option.{option_copied};
 ghost use Rattle.hera_sets.specs.Rows.{is_past, IsAscending, holds};
 ghost use Rattle.when_overlay.specs.Changed.{after_all, rows_after};
 ghost use Rattle.when_overlay.specs.Layered.{IsTip, path};
 
-use crate::{Layers, seeks};
+use crate::{Found, Layers, Mark, counts, seeks};
 use delta_atoms::Delta;
 use hera_meaning::RelId;
-use hera_rows::{RowSet, Sorted, collect};
+use hera_rows::{RowSet, Sorted};
 use rel_pages::{Base, PageRel};
 use std::alloc::{AllocError, Global};
 use std::marker::Model;
@@ -67,14 +69,7 @@ impl<'a> Sorted for Hyp<'a> {
     ghost rows = { λ h. h };
 
     fn above<'s>(&'s self, bound: Option<&[u8]>) -> Option<&'s [u8]> {
-        seeks::above(
-            &self.pages,
-            self.commits,
-            self.layers,
-            self.tip,
-            self.rel,
-            bound,
-        )
+        self.above_near(bound, Mark::nowhere()).row
     }
 
     fn has(&self, row: &[u8]) -> bool {
@@ -90,10 +85,54 @@ impl<'a> Sorted for Hyp<'a> {
 }
 
 impl<'a> Hyp<'a> {
+    /// The first row past the bound, as `above` finds it, and about where it stands in the pages and in the
+    /// newest layer. It is looked for at the mark and beside it first: a walk that hands on each row and its
+    /// mark searches neither. It takes no memory.
+    pub fn above_near<'s>(&'s self, bound: Option<&[u8]>, mark: Mark) -> Found<'s>
+        ensures next { option_copied result.row ≡ find (is_past (option_copied bound.entry)) self.now }
+        ensures ordered { IsAscending self.now }
+    {
+        seeks::above_near(
+            &self.pages,
+            self.commits,
+            self.layers,
+            self.tip,
+            self.rel,
+            bound,
+            mark,
+        )
+    }
+
     /// A set of its own with the same rows.
     pub fn collect(&self, alloc: Global) -> Result<RowSet, AllocError>
         ensures { IfOk result (λ rows. rows ≡ self.now) }
     {
-        collect(alloc, self)
+        let mut set = RowSet::new(alloc);
+        let mut last: Option<&[u8]> = None;
+        let mut mark = Mark::start();
+        loop {
+            let next = self.above_near(last, mark);
+            let Some(row) = next.row else {
+                return Ok(set);
+            };
+            set.push_last(row)?;
+            last = Some(row);
+            mark = next.mark;
+        }
+    }
+
+    /// How many rows there are; none for more than 2^63 - 1. It takes no memory, and looks at no row
+    /// that no delta names.
+    pub fn count(&self) -> Option<u64>
+        ensures { MatchOption result (2 ^ 63 ≤ length self.now) (λ n. (n ≡ length self.now) × (n < 2 ^ 63)) }
+    {
+        counts::count_after(
+            self.pages.len(),
+            &self.pages,
+            self.commits,
+            self.layers,
+            self.tip,
+            self.rel,
+        )
     }
 }

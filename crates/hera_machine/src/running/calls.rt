@@ -1,21 +1,20 @@
-//! Calls of bodies, and the ways back to the frame that waits.
-ghost use Rattle.std.specs.Prelude.{◌≡◌, ◌+◌, ◌<◌, ◌^◌, [], ◌∷◌, IfOk, OnOk, slice_get, if◌then◌else◌};
+//! Calls of bodies, and the ways back to the frame that waits, where they are not quick.
+ghost use Rattle.std.specs.Prelude.{◌≡◌, ◌+◌, ◌<◌, ◌≤◌, ◌^◌, [], ◌∷◌, Some, IfOk, OnOk, length, slice_get, take, if◌then◌else◌};
 ghost use Rattle.hera_meaning.specs.Deltas.{State};
-ghost use Rattle.hera_meaning.specs.Worlds.{locals_from};
-ghost use Rattle.hera_code.specs.Machine.{quiet, ends, stuck, on_top, frame_of, calls_body, goes_back};
+ghost use Rattle.hera_code.specs.Machine.{quiet, ends, stuck, on_top, calls_body, goes_back};
+ghost use Rattle.hera_frames.specs.Items.{AreHeld};
 ghost use Rattle.hera_machine.specs.Over.{state_over};
 ghost use Rattle.hera_machine.specs.Telling.{step_at};
 ghost use Rattle.hera_machine.specs.Working.{machine_at};
 
+use super::quick_calls::any_names;
 use super::{Running, stuck};
 use crate::events::{End, Told};
 use delta_atoms::Delta;
-use hera_code::Code;
-use hera_frames::{Frame, Locals, Stack, any_named};
-use hera_prims::Args;
+use hera_code::{BodyInfo, Code};
+use hera_frames::Point;
 use rel_pages::Base;
 use std::alloc::AllocError;
-use std::mem::replace;
 
 impl Running {
     pub(super) fn call(
@@ -34,44 +33,58 @@ impl Running {
         if body.params > body.slots {
             return stuck();
         }
-        let Some(args) = self.operands.take(
-            self.alloc,
-            &self.changes,
-            base,
-            commits,
-            body.params as usize,
-        )?
-        else {
+        if self.operands.len() < body.params as usize {
             return Ok(Told::Ended(End::Stuck));
-        };
+        }
         if self.turns == 0 {
             return Ok(Told::Ended(End::Spent));
         }
-        self.wait(args, body.slots)?;
-        self.at = body.at as usize;
-        self.turns -= 1;
+        self.hold(body.params as usize, base, commits)?;
+        self.begin_anew(&body)?;
         Ok(Told::Quiet)
     }
 
-    /// Puts the running frame upon those that wait, and begins another one with these arguments.
-    fn wait(&mut self, args: Args, slots: u32) -> Result<(), AllocError>
-        requires { self.old.at + 1 < 2 ^ 64 }
-        ensures over { (s : State) → OnOk result (machine_at s self.new ≡ record (machine_at s self.old) { operands = []; locals = locals_from slots args; walks = []; own = 0; callers = frame_of (machine_at s self.old).operands (machine_at s self.old) ∷ (machine_at s self.old).callers }) }
+    /// Collects what the newest `n` operands name.
+    fn hold(&mut self, n: usize, base: &Base, commits: &[Delta]) -> Result<(), AllocError>
+        ensures same { let s = state_over base.now.state commits.now in OnOk result (machine_at s self.new ≡ machine_at s self.old) }
+        ensures at { OnOk result (self.new.at ≡ self.old.at) }
         ensures turns { OnOk result (self.new.turns ≡ self.old.turns) }
+        ensures held { OnOk result (AreHeld (take n self.new.operands)) }
     {
-        let locals = Locals::start(self.alloc, args, slots)?;
-        let names = self.names_below || self.operands.has_names() || any_named(&self.walks);
-        let frame = Frame {
+        if self.operands.are_held(n) {
+            return Ok(());
+        }
+        self.settle_operands(base, commits)
+    }
+
+    /// Calls a body whose arguments are there and name nothing, where a turn is left. The memory for one more
+    /// frame is made where it is missing.
+    fn begin_anew(&mut self, body: &BodyInfo) -> Result<(), AllocError>
+        requires next { self.old.at + 1 < 2 ^ 64 }
+        requires fit { body.now.params ≤ body.now.slots }
+        requires there { body.now.params ≤ length self.old.operands }
+        requires held { AreHeld (take body.now.params self.old.operands) }
+        requires turn { 1 ≤ self.old.turns }
+        ensures { (s : State) → OnOk result (quiet (machine_at s self.new) ≡ calls_body (Some body.now) (machine_at s self.old)) }
+    {
+        let names = any_names(self.names_below, &self.operands, &self.walks);
+        let point = Point {
             at: self.at + 1,
-            operands: self.operands.take_all(self.alloc),
-            locals: replace(&mut self.locals, locals),
-            walks: replace(&mut self.walks, Stack::new(self.alloc)),
             tip: self.changes.tip(),
             own: self.own,
             floor: self.floor,
             names_below: self.names_below,
         };
-        self.callers.push(frame)?;
+        self.callers.call_anew(
+            self.alloc,
+            body,
+            point,
+            &mut self.operands,
+            &mut self.locals,
+            &mut self.walks,
+        )?;
+        self.at = body.at as usize;
+        self.turns -= 1;
         self.own = 0;
         self.floor = self.changes.len();
         self.names_below = names;
@@ -82,28 +95,7 @@ impl Running {
     fn go_back(&mut self) -> bool
         ensures { (s : State) → goes_back (machine_at s self.old).callers [] (machine_at s self.old) ≡ (if result then quiet (machine_at s self.new) else ends stuck) }
     {
-        let Some(frame) = self.callers.pop() else {
-            return false;
-        };
-        let Frame {
-            at,
-            operands,
-            locals,
-            walks,
-            tip,
-            own,
-            floor,
-            names_below,
-        } = frame;
-        self.at = at;
-        self.operands = operands;
-        self.locals = locals;
-        self.walks = walks;
-        self.changes.go_to(tip);
-        self.own = own;
-        self.floor = floor;
-        self.names_below = names_below;
-        true
+        self.resume(None)
     }
 
     pub(super) fn ret(&mut self) -> Result<Told, AllocError>

@@ -13,7 +13,7 @@ ghost use Rattle.hera_machine.specs.Working.{machine_at, NameNone, NamesNothing}
 use super::{Running, stuck};
 use crate::events::{End, Told};
 use delta_atoms::Delta;
-use hera_frames::{Operands, Stack, any_named, let_go, settle_frames, settle_walks};
+use hera_frames::{Callers, Operands, Stack, any_named, let_go, settle_frames, settle_walks};
 use hera_meaning::{RelDecl, TrapName};
 use hera_prims::is_delta_of;
 use rel_pages::Base;
@@ -71,14 +71,19 @@ impl Running {
     }
 
     /// Collects the operands of the running frame that name a relation.
-    fn settle_operands(&mut self, base: &Base, commits: &[Delta]) -> Result<(), AllocError>
+    pub(super) fn settle_operands(
+        &mut self,
+        base: &Base,
+        commits: &[Delta],
+    ) -> Result<(), AllocError>
         ensures rest { OnOk result (self.new ≡ record self.old { operands = self.new.operands; spare = self.new.spare }) }
         ensures same { let s = state_over base.now.state commits.now in OnOk result (machine_at s self.new ≡ machine_at s self.old) }
         ensures held { OnOk result (AreHeld self.new.operands) }
     {
         if self.operands.has_names() {
             let operands = replace(&mut self.operands, Operands::new(self.alloc));
-            self.operands = operands.settle(self.alloc, &self.changes, base, commits)?;
+            let settled = operands.settle(self.alloc, &self.changes, base, commits)?;
+            let_go(replace(&mut self.operands, settled));
         }
         Ok(())
     }
@@ -103,7 +108,7 @@ impl Running {
         ensures none { OnOk result (NameNone self.new.callers) }
     {
         if self.names_below {
-            let callers = replace(&mut self.callers, Stack::new(self.alloc));
+            let callers = replace(&mut self.callers, Callers::new(self.alloc));
             self.callers = settle_frames(self.alloc, callers, &self.changes, base, commits)?;
             self.names_below = false;
         }

@@ -1,5 +1,5 @@
-//! The quick way of common instructions on ints and bools. It takes no memory, and where it does not answer
-//! true nothing has changed, and the instruction is done as any other.
+//! The quick way of common instructions on ints, bools and tuples. Where it does not answer true, for want of
+//! memory too, nothing has changed, and the instruction is done as any other.
 ghost use Rattle.std.specs.Prelude.{◌≡◌, ◌+◌, ◌<◌, ◌≤◌, ◌^◌, List, [], Some, true, false, length, slice_get};
 ghost use Rattle.hera_meaning.specs.Deltas.{State};
 ghost use Rattle.hera_meaning.specs.Hosts.{Hosts};
@@ -9,7 +9,7 @@ ghost use Rattle.hera_meaning.specs.declared.schemas.RelDecl.{RelDecl as PlainDe
 ghost use Rattle.hera_flat.specs.Flats.{flat_value};
 ghost use Rattle.hera_code.specs.Forward.{Forward};
 ghost use Rattle.hera_code.specs.Machine as machine;
-ghost use Rattle.hera_code.specs.Machine.{code_step, quiet, on_with, on_top, on_some, pushes, answers, needs_slot, needs_address, goes_to, spends, by_bool};
+ghost use Rattle.hera_code.specs.Machine.{code_step, quiet, on_with, on_top, on_some, pushes, answers, needs_slot, needs_address, goes_to, spends, by_bool, on_walk, next_row, keeps};
 ghost use Rattle.hera_machine.specs.Descends.{left, IsLower};
 ghost use Rattle.hera_machine.specs.Standing.{GoesQuietly};
 ghost use Rattle.hera_machine.specs.Working.{machine_at};
@@ -23,8 +23,8 @@ use hera_meaning::{Const, Op, Scalar, Schema};
 const AT_ONCE: usize = 4096;
 
 impl Running {
-    /// Executes the instructions at hand, as long as they are common ones on ints and bools, and at most
-    /// 4096 of them.
+    /// Executes the instructions at hand, as long as they are common ones on ints, bools and tuples, and at
+    /// most 4096 of them. It stops in front of one for which memory is refused.
     pub(crate) fn hurry(&mut self, code: &Code)
         ensures quietly { (rels : List PlainDecl) → (hosts : Hosts) → (s : State) → GoesQuietly code.now rels hosts s (machine_at s self.old) (machine_at s self.new) }
         ensures less { Forward code.now → left (length code.now.instrs) (machine_at [] self.new) ≤ left (length code.now.instrs) (machine_at [] self.old) }
@@ -36,7 +36,8 @@ impl Running {
         }
     }
 
-    /// Executes the instruction at hand, if that is a common one on ints and bools.
+    /// Executes the instruction at hand, if that is a common one on ints, bools and tuples. Where memory for it is
+    /// refused nothing has changed.
     #[inline]
     pub(crate) fn quick(&mut self, code: &Code) -> bool
         ensures steps { (rels : List PlainDecl) → (hosts : Hosts) → (s : State) → result ≡ true → quiet (machine_at s self.new) ≡ code_step code.now rels hosts s (machine_at s self.old) }
@@ -51,7 +52,7 @@ impl Running {
         }
     }
 
-    /// Executes an instruction, if it is a common one on ints and bools.
+    /// Executes an instruction, if it is a common one on ints, bools and tuples.
     #[inline]
     fn hasten(&mut self, instr: &Instr, code: &Code) -> bool
         requires { self.old.at + 1 < 2 ^ 64 }
@@ -68,6 +69,11 @@ impl Running {
             Instr::Jump(a) => self.jumped(code, *a),
             Instr::Unless(a) => self.parted(code, *a),
             Instr::Back(a) => self.went_back(code, *a),
+            Instr::Next(i, a) => self.went_on(code, *i, *a),
+            Instr::Keep => self.kept(),
+            Instr::Call(k) => self.called(code, *k),
+            Instr::Ret => self.resume(None),
+            Instr::RetVal => self.returned(),
             _ => false,
         }
     }
@@ -92,9 +98,25 @@ impl Running {
         ensures kept { result ≡ false → self.new ≡ self.old }
     {
         match self.locals.flat_at(i as usize) {
-            None => false,
+            None => self.loaded_tuple(i),
             Some(v) => self.pushed(v),
         }
+    }
+
+    #[inline]
+    fn loaded_tuple(&mut self, i: u32) -> bool
+        requires { self.old.at + 1 < 2 ^ 64 }
+        ensures done { (s : State) → result ≡ true → quiet (machine_at s self.new) ≡ pushes (slice_get (machine_at s self.old).locals i) (machine_at s self.old) }
+        ensures kept { result ≡ false → self.new ≡ self.old }
+    {
+        let Some(row) = self.locals.row_at(i as usize) else {
+            return false;
+        };
+        if !self.operands.push_tuple(row) {
+            return false;
+        }
+        self.at += 1;
+        true
     }
 
     #[inline]
@@ -167,7 +189,7 @@ impl Running {
         let Some(v) = self.operands.newest_field(schema, i) else {
             return false;
         };
-        self.operands.replace_newest(v);
+        self.operands.replace_tuple(v);
         self.at += 1;
         true
     }
@@ -216,5 +238,52 @@ impl Running {
         self.turns -= 1;
         self.at = a as usize;
         true
+    }
+
+    #[inline]
+    fn went_on(&mut self, code: &Code, i: u32, a: u32) -> bool
+        requires { self.old.at + 1 < 2 ^ 64 }
+        ensures done { (s : State) → result ≡ true → quiet (machine_at s self.new) ≡ on_walk (machine_at s self.old).walks (λ w ws. needs_slot i (machine_at s self.old) (needs_address code.now a (next_row i a w.rows w ws (machine_at s self.old)))) }
+        ensures kept { result ≡ false → self.new ≡ self.old }
+    {
+        if (a as usize) >= code.instrs.len() {
+            return false;
+        }
+        let Some(row) = self.walks.coming() else {
+            return false;
+        };
+        if !self.locals.fit_tuple(i as usize, row) {
+            return false;
+        }
+        self.walks.pass();
+        self.at += 1;
+        true
+    }
+
+    #[inline]
+    fn kept(&mut self) -> bool
+        requires { self.old.at + 1 < 2 ^ 64 }
+        ensures done { (s : State) → result ≡ true → quiet (machine_at s self.new) ≡ on_walk (machine_at s self.old).walks (λ w ws. on_top (machine_at s self.old).operands (λ v vs. keeps v vs w ws (machine_at s self.old))) }
+        ensures kept { result ≡ false → self.new ≡ self.old }
+    {
+        let Some(Flat::Bool(b)) = self.operands.newest_flat() else {
+            return false;
+        };
+        if self.walks.len() == 0 {
+            return false;
+        }
+        if !b {
+            self.operands.drop_newest();
+            self.at += 1;
+            return true;
+        }
+        match self.walks.keep() {
+            Err(_) => false,
+            Ok(()) => {
+                self.operands.drop_newest();
+                self.at += 1;
+                true
+            }
+        }
     }
 }

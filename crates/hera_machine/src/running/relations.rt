@@ -18,7 +18,7 @@ use delta_atoms::Delta;
 use hera_frames::{Datum, Seen, fits_seen, let_go};
 use hera_meaning::{Op, TrapName};
 use hera_prims::{PrimEnd, arity, prim_rel};
-use hera_rows::{RowSet, Sorted};
+use hera_rows::Sorted;
 use rel_pages::Base;
 use std::alloc::{AllocError, Global};
 
@@ -50,15 +50,13 @@ fn found_of(alloc: Global, op: &Op, a: &Seen<'_>, b: &Seen<'_>) -> Result<Found,
     }
 }
 
-/// How many rows a set has. It takes no memory.
-fn counted(rows: &RowSet) -> Found
-    ensures { IsFound Op.Count (table rows.now ∷ []) result }
+/// How many rows a relation has. It takes no memory.
+fn counted(rows: &Seen<'_>) -> Found
+    ensures { IsFound Op.Count (table (rows_seen rows.now) ∷ []) result }
 {
-    let count = rows.len();
-    if count < 1 << 63 {
-        Found::Answer(Datum::Int(count as i64))
-    } else {
-        Found::Trap(TrapName::Overflow)
+    match rows.count() {
+        Some(count) => Found::Answer(Datum::Int(count as i64)),
+        None => Found::Trap(TrapName::Overflow),
     }
 }
 
@@ -68,8 +66,8 @@ fn measured(alloc: Global, op: &Op, rows: &Seen<'_>) -> Result<Found, AllocError
     ensures found { IfOk result (IsFound op.now (table (rows_seen rows.now) ∷ [])) }
     ensures spared { IsOk result }
 {
-    match (op, rows) {
-        (Op::Count, Seen::Held(set)) => Ok(counted(set)),
+    match op {
+        Op::Count => Ok(counted(rows)),
         _ => found_of(alloc, op, rows, &Seen::Nothing),
     }
 }

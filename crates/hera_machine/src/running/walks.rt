@@ -68,60 +68,69 @@ impl Running {
         requires { self.old.at + 1 < 2 ^ 64 }
         ensures { let s = state_over base.now.state commits.now in IfOk result (λ told. step_at s told self.new ≡ on_walk (machine_at s self.old).walks (λ w ws. needs_slot i (machine_at s self.old) (needs_address code.now a (next_row i a w.rows w ws (machine_at s self.old))))) }
     {
-        let Some(mut walk) = self.walks.pop() else {
-            return stuck();
-        };
-        if !self.locals.has(i as usize) || (a as usize) >= code.instrs.len() {
+        if self.walks.len() == 0 {
             return stuck();
         }
-        let found = walk.next(self.alloc, &self.changes, base, commits)?;
-        self.walks.push(walk)?;
-        match found {
-            None => self.at = a as usize,
+        if !self.locals.has(i as usize) {
+            return stuck();
+        }
+        if (a as usize) >= code.instrs.len() {
+            return stuck();
+        }
+        self.walks.next(self.alloc, &self.changes, base, commits)?;
+        match self.walks.current() {
+            None => {
+                self.at = a as usize;
+                Ok(Told::Quiet)
+            }
             Some(row) => {
-                let v = Datum::new(self.alloc, Value::Row(row))?;
-                self.locals.put(i as usize, v);
+                self.locals.put_tuple(self.alloc, i as usize, row)?;
                 self.at += 1;
+                Ok(Told::Quiet)
             }
         }
-        Ok(Told::Quiet)
     }
 
     pub(super) fn keep(&mut self) -> Result<Told, AllocError>
         requires { self.old.at + 1 < 2 ^ 64 }
         ensures { (s : State) → IfOk result (λ told. step_at s told self.new ≡ on_walk (machine_at s self.old).walks (λ w ws. on_top (machine_at s self.old).operands (λ v vs. keeps v vs w ws (machine_at s self.old)))) }
     {
-        let Some(mut walk) = self.walks.pop() else {
+        if self.walks.len() == 0 {
             return stuck();
-        };
+        }
         let Some(kept) = self.operands.pop() else {
             return stuck();
         };
-        match kept.bool_of() {
-            None => return stuck(),
-            Some(true) => walk.keep()?,
-            Some(false) => {}
+        let told = kept.bool_of();
+        let_go(kept);
+        match told {
+            None => stuck(),
+            Some(false) => {
+                self.at += 1;
+                Ok(Told::Quiet)
+            }
+            Some(true) => {
+                self.walks.keep()?;
+                self.at += 1;
+                Ok(Told::Quiet)
+            }
         }
-        self.walks.push(walk)?;
-        self.at += 1;
-        Ok(Told::Quiet)
     }
 
     pub(super) fn gather(&mut self) -> Result<Told, AllocError>
         requires { self.old.at + 1 < 2 ^ 64 }
         ensures { (s : State) → IfOk result (λ told. step_at s told self.new ≡ on_walk (machine_at s self.old).walks (λ w ws. on_top (machine_at s self.old).operands (λ v vs. gathers v vs w ws (machine_at s self.old)))) }
     {
-        let Some(mut walk) = self.walks.pop() else {
+        if self.walks.len() == 0 {
             return stuck();
-        };
+        }
         let Some(v) = self.operands.pop() else {
             return stuck();
         };
         let Some(row) = v.into_row() else {
             return stuck();
         };
-        walk.gather(row.bytes())?;
-        self.walks.push(walk)?;
+        self.walks.gather(row.bytes())?;
         self.at += 1;
         Ok(Told::Quiet)
     }

@@ -1,12 +1,12 @@
-use Rattle.std.proofs.Common.{◌≡◌, ◌-◌, ◌++◌, map, pos}
+use Rattle.std.proofs.Common.{◌≡◌, ◌+◌, ◌++◌, pos}
 use Rattle.std.specs.Prelude.{replicate, vec_len}
-use Rattle.hera_meaning.specs.Values.{int_value}
-use Rattle.hera_meaning.specs.Worlds.{locals_from}
-use Rattle.hera_frames.specs.Items.{plain_of}
+use Rattle.std.specs.Vec.{vec_capacity}
+use Rattle.hera_frames.specs.declared.values.Datum.TheVariants.{Int}
 use Rattle.hera_frames.proofs.locals.fill.Given as goal
 
-abbrev pub invariant-zeros : goal.invariant-zeros
-invariant-zeros l = map plain_of l.items.items ++ replicate (l.slots - vec_len l.items) (int_value (pos 0)) ≡ locals_from l.slots (map plain_of l.initial.items.items)
-
-abbrev pub decreases-zeros : goal.decreases-zeros
-decreases-zeros l = l.slots - vec_len l.items
+abbrev pub invariant-loop : goal.invariant-loop
+invariant-loop l = record {
+  items : l.items.items ≡ l.initial.items.items ++ replicate l.counter (Int (pos 0));
+  len : vec_len l.items ≡ vec_len l.initial.items + l.counter;
+  capacity : vec_capacity l.items ≡ vec_capacity l.initial.items;
+}

@@ -19,4 +19,4 @@ returns-then-from-len c =
 pub returns : goal.returns
 returns c =
     let t = seen_at (after_all c.args.base.now.state c.args.commits.now) c.args.changes.now.layers c.args.tip in
-    subst (λ (rows : List Row). IfOk c.collect.result (λ set. set ≡ filter (is_past (option_copied c.args.bound)) rows)) (sym (rows_got t c.args.rel.0 c.rel-rows.result c.rel-rows.ensures)) c.collect.ensures
+    subst (λ (rows : List Row). IfOk c.collect_past.result (λ set. set ≡ filter (is_past (option_copied c.args.bound)) rows)) (sym (rows_got t c.args.rel.0 c.rel-rows.result c.rel-rows.ensures)) c.collect_past.ensures

@@ -11,8 +11,8 @@ overflow_mul-before c = let from = rows_on c.args.schema.now c.args.width c.args
 pub split_at-requires : goal.split_at-requires
 split_at-requires c = (rows_on c.args.schema.now c.args.width c.args.count c.rows_before-before.result c.args.bytes.now c.requires.even (λ i. search rules) c.rows_before-before.ensures.within c.requires.run).within
 
-pub first_of-requires : goal.first_of-requires
-first_of-requires c =
+pub first_of-requires-clause-run : goal.first_of-requires-clause-run
+first_of-requires-clause-run c =
     subst (IsRun c.args.schema.now (c.args.count - c.rows_before-before.result)) (sym c.split_at.ensures.back)
     (rows_on c.args.schema.now c.args.width c.args.count c.rows_before-before.result c.args.bytes.now c.requires.even (λ i. search rules) c.rows_before-before.ensures.within c.requires.run).run
 

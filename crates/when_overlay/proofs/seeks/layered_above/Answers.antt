@@ -2,9 +2,9 @@ use Rattle.std.proofs.Common.{◌++◌, ◌<◌, ◌∙◌, ap, sym, subst, appe
 use Rattle.std.specs.Option.{option_copied}
 use Rattle.hera_sets.specs.Sets.{least_of}
 use Rattle.when_overlay.specs.Layered.{path}
-use Rattle.when_overlay.specs.Seeking.{plus_of, pluses, next_of}
+use Rattle.when_overlay.specs.Seeking.{named_in, named, next_of}
 use Rattle.when_overlay.proofs.Layering.{path_step, path_none, parent_lower, parent_tip, height}
-use Rattle.when_overlay.proofs.Meeting.{next_append, pluses-push}
+use Rattle.when_overlay.proofs.Meeting.{next_append, named-push}
 use Rattle.when_overlay.proofs.seeks.layered_above.Goals as goal
 
 pub loop-at-smaller : goal.loop-at-smaller
@@ -18,13 +18,13 @@ loop-at-preserved c =
     let l = c.layer-layer.result.now in
     let rows = c.loop-at.invariant.0 in
     let s = path_step ls c.in-Some.i l c.layer-layer.ensures.valid c.layer-layer.ensures.layer in (
-      plus_of c.args.rel.0 l.delta ++ rows,
+      named_in c.args.rel.0 c.args.sign l.delta ++ rows,
       c.lesser-first.ensures
-          ∙ (λ j. least_of (c.plus_above.ensures j) (c.loop-at.invariant.1 j))
-          ∙ next_append (option_copied c.args.bound) (plus_of c.args.rel.0 l.delta) rows,
-      sym (append_assoc (pluses c.args.rel.0 (path ls l.parent)) (plus_of c.args.rel.0 l.delta) rows)
-          ∙ ap (λ xs. xs ++ rows) (sym (pluses-push c.args.rel.0 (path ls l.parent) l.delta) ∙ ap (pluses c.args.rel.0) (sym s.step))
-          ∙ ap (λ o. pluses c.args.rel.0 (path ls o) ++ rows) (sym c.in-Some.is)
+          ∙ (λ j. least_of (c.part_above.ensures j) (c.loop-at.invariant.1 j))
+          ∙ next_append (option_copied c.args.bound) (named_in c.args.rel.0 c.args.sign l.delta) rows,
+      sym (append_assoc (named c.args.rel.0 c.args.sign (path ls l.parent)) (named_in c.args.rel.0 c.args.sign l.delta) rows)
+          ∙ ap (λ xs. xs ++ rows) (sym (named-push c.args.rel.0 c.args.sign (path ls l.parent) l.delta) ∙ ap (named c.args.rel.0 c.args.sign) (sym s.step))
+          ∙ ap (λ o. named c.args.rel.0 c.args.sign (path ls o) ++ rows) (sym c.in-Some.is)
           ∙ c.loop-at.invariant.2,
       parent_tip ls c.in-Some.i l s,
     )
@@ -35,6 +35,6 @@ returns c =
     let rows = c.loop-at.invariant.0 in
     c.loop-at.invariant.1
     ∙ ap (next_of (option_copied c.args.bound))
-    (ap (λ ds. pluses c.args.rel.0 ds ++ rows) (sym (path_none ls))
-    ∙ ap (λ o. pluses c.args.rel.0 (path ls o) ++ rows) (sym c.in_default.is)
+    (ap (λ ds. named c.args.rel.0 c.args.sign ds ++ rows) (sym (path_none ls))
+    ∙ ap (λ o. named c.args.rel.0 c.args.sign (path ls o) ++ rows) (sym c.in_default.is)
     ∙ c.loop-at.invariant.2)

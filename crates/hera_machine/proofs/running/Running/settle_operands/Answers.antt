@@ -12,24 +12,24 @@ invariant_of-self-then-has_names c =
     let now = c.self.inside in
     let s = state_over c.args.base.now.state c.args.commits.now in
     let ls = now.changes.layers in
-    let is = ap (λ (x : Shelf). x.items) c.in_ok-self-inside.ensures ∙ ap (λ (x : Shelf). map (collected s ls) x.items) c.replace-operands.ensures.value in
+    let is = ap (λ (x : Shelf). x.items) (c.replace.ensures.after ∙ c.in_ok-settled.ensures) ∙ ap (λ (x : Shelf). map (collected s ls) x.items) c.replace-operands.ensures.value in
     let none = ap reach is ∙ reach_collected s ls now.operands.items in
-    upheld_operands now.changes now.own now.floor now.operands.items now.walks now.names_below now.callers c.in_ok-self-inside.field-0.items (omega (arith, none)) c.self.invariant
+    upheld_operands now.changes now.own now.floor now.operands.items now.walks now.names_below now.callers c.replace.new.dest.items (omega (arith, none)) c.self.invariant
 
-pub returns-in_ok-self-inside-clause-same : goal.returns-in_ok-self-inside-clause-same
-returns-in_ok-self-inside-clause-same c =
+pub returns-in_ok-settled-clause-same : goal.returns-in_ok-settled-clause-same
+returns-in_ok-settled-clause-same c =
     let now = c.self.inside in
     let s = state_over c.args.base.now.state c.args.commits.now in
     let ls = now.changes.layers in
-    let is = ap (λ (x : Shelf). x.items) c.in_ok-self-inside.ensures ∙ ap (λ (x : Shelf). map (collected s ls) x.items) c.replace-operands.ensures.value in
-    ap (λ items. machine_at s (record (the_view now) { operands = items; spare = c.in_ok-self-inside.field-0.spare })) is
+    let is = ap (λ (x : Shelf). x.items) (c.replace.ensures.after ∙ c.in_ok-settled.ensures) ∙ ap (λ (x : Shelf). map (collected s ls) x.items) c.replace-operands.ensures.value in
+    ap (λ items. machine_at s (record (the_view now) { operands = items; spare = c.replace.new.dest.spare })) is
     ∙ (λ i. record (machine_at s (the_view now)) { operands = items_collected s s ls ls now.operands.items i })
     ∙ ap (λ (w : Work). machine_at s w) c.self.view_is
 
-pub returns-in_ok-self-inside-clause-held : goal.returns-in_ok-self-inside-clause-held
-returns-in_ok-self-inside-clause-held c =
+pub returns-in_ok-settled-clause-held : goal.returns-in_ok-settled-clause-held
+returns-in_ok-settled-clause-held c =
     let now = c.self.inside in
     let s = state_over c.args.base.now.state c.args.commits.now in
     let ls = now.changes.layers in
-    let is = ap (λ (x : Shelf). x.items) c.in_ok-self-inside.ensures ∙ ap (λ (x : Shelf). map (collected s ls) x.items) c.replace-operands.ensures.value in
+    let is = ap (λ (x : Shelf). x.items) (c.replace.ensures.after ∙ c.in_ok-settled.ensures) ∙ ap (λ (x : Shelf). map (collected s ls) x.items) c.replace-operands.ensures.value in
     subst (λ items. AreHeld items) (sym is) (items_are_held s ls now.operands.items)

@@ -1,8 +1,0 @@
-use Rattle.std.proofs.Common.{◌≡◌, take}
-use Rattle.std.specs.Option.{option_copied}
-use Rattle.when_overlay.specs.Seeking.{pluses, next_of}
-use Rattle.when_overlay.proofs.seeks.pluses_above.Given as goal
-
--- the first row that the deltas so far put in
-abbrev pub invariant-loop-delta : goal.invariant-loop-delta
-invariant-loop-delta l = option_copied l.first ≡ next_of (option_copied l.bound) (pluses l.rel.0 (take l.delta-index l.deltas))

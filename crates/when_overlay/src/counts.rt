@@ -1,0 +1,84 @@
+//! How many rows there are after commits and layers: the rows that these name are looked at, and no
+//! others.
+ghost use Rattle.std.specs.Prelude.{◌≡◌, ◌<◌, ◌≤◌, ◌^◌, ◌++◌, length, MatchOption};
+ghost use Rattle.hera_sets.specs.Rows.{IsAscending, holds};
+ghost use Rattle.when_overlay.specs.Changed.{rows_after};
+ghost use Rattle.when_overlay.specs.Counting.{changes, is_change};
+ghost use Rattle.when_overlay.specs.Layered.{IsTip, path};
+
+use crate::Layers;
+use crate::seeks::{has, named_above};
+use delta_atoms::Delta;
+use hera_meaning::{RelId, Sign};
+use hera_rows::Sorted;
+
+/// The most rows that are counted: 2^63 - 1.
+const ROWS_LIMIT: u64 = 9_223_372_036_854_775_807;
+
+/// Whether the row was put in where it was not in the base, or taken out where it was.
+fn is_change<S: Sorted>(
+    base: &S,
+    commits: &[Delta],
+    layers: &Layers,
+    tip: Option<usize>,
+    rel: RelId,
+    sign: Sign,
+    row: &[u8],
+) -> bool
+    requires { IsTip layers.now.layers tip }
+    ensures { result ≡ is_change sign (holds (S.rows base.now) row.now) (holds (rows_after rel.0 (S.rows base.now) (commits.now ++ path layers.now.layers tip)) row.now) }
+{
+    let before = base.has(row);
+    let after = has(base, commits, layers, tip, rel, row);
+    match sign {
+        Sign::Plus => !before && after,
+        Sign::Minus => before && !after,
+    }
+}
+
+/// How many rows were put in that were not in the base, or taken out that were; none for 2^64 or
+/// more.
+fn count_changes<S: Sorted>(
+    base: &S,
+    commits: &[Delta],
+    layers: &Layers,
+    tip: Option<usize>,
+    rel: RelId,
+    sign: Sign,
+) -> Option<u64>
+    requires tip { IsTip layers.now.layers tip }
+    requires ordered { IsAscending (S.rows base.now) }
+    ensures { MatchOption result (2 ^ 64 ≤ length (changes sign (S.rows base.now) (rows_after rel.0 (S.rows base.now) (commits.now ++ path layers.now.layers tip)))) (λ n. n ≡ length (changes sign (S.rows base.now) (rows_after rel.0 (S.rows base.now) (commits.now ++ path layers.now.layers tip)))) }
+{
+    let mut count: u64 = 0;
+    let mut last: Option<&[u8]> = None;
+    while let Some(row) = named_above(commits, layers, tip, rel, sign, last) {
+        let change = is_change(base, commits, layers, tip, rel, sign, row);
+        count = count.checked_add(u64::from(change))?;
+        last = Some(row);
+    }
+    Some(count)
+}
+
+/// How many rows there are, from how many stand in the base; none for more than 2^63 - 1.
+pub(crate) fn count_after<S: Sorted>(
+    stored: usize,
+    base: &S,
+    commits: &[Delta],
+    layers: &Layers,
+    tip: Option<usize>,
+    rel: RelId,
+) -> Option<u64>
+    requires tip { IsTip layers.now.layers tip }
+    requires ordered { IsAscending (S.rows base.now) }
+    requires stored { stored ≡ length (S.rows base.now) }
+    ensures { MatchOption result (2 ^ 63 ≤ length (rows_after rel.0 (S.rows base.now) (commits.now ++ path layers.now.layers tip))) (λ n. (n ≡ length (rows_after rel.0 (S.rows base.now) (commits.now ++ path layers.now.layers tip))) × (n < 2 ^ 63)) }
+{
+    let put_in = count_changes(base, commits, layers, tip, rel, Sign::Plus)?;
+    let taken_out = count_changes(base, commits, layers, tip, rel, Sign::Minus)?;
+    let count = (stored as u64 - taken_out).checked_add(put_in)?;
+    if count > ROWS_LIMIT {
+        return None;
+    }
+    Some(count)
+}
