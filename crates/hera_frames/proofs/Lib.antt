@@ -15,3 +15,4 @@ pub mod Goings
 pub mod Resting
 pub mod Moved
 pub mod Collecting
+pub mod Holding

@@ -130,7 +130,7 @@ paces_end ws i most count h g = g ∙ ap (λ ps. min most (walks_reach ps)) (new
 
 -- ---- operands that are collected one by one
 
-newest_set : {A B : Type 0} → (f : A → B) (xs : List A) (i : ℕ) (x d : A) → i < length xs → f x ≡ f (get_or xs i d) → newest f (slice_set xs i x) ≡ newest f xs
+pub newest_set : {A B : Type 0} → (f : A → B) (xs : List A) (i : ℕ) (x d : A) → i < length xs → f x ≡ f (get_or xs i d) → newest f (slice_set xs i x) ≡ newest f xs
 newest_set f [] i x d h e = absurd (omega (arith, h))
 newest_set f (y ∷ ys) zero x d h e = ap (λ z. newest f ys ++ z ∷ []) e
 newest_set f (y ∷ ys) (suc i) x d h e = ap (λ zs. zs ++ f y ∷ []) (newest_set f ys i x d (omega (arith, h)) e)
@@ -163,7 +163,7 @@ pub collecting_skip : (s : State) (ls : List Layer) (old os : List Operand) (i :
     IsCollecting s ls old os i → IsCollecting s ls old os (i + 1)
 collecting_skip s ls old os i o h e g c = record { first = held_more os i o h e (subst IsHeld g tt) c.first; same = c.same }
 
-map_newest : {A B C : Type 0} → (f : A → B) (g : B → C) (xs : List A) → map g (newest f xs) ≡ newest (λ x. g (f x)) xs
+pub map_newest : {A B C : Type 0} → (f : A → B) (g : B → C) (xs : List A) → map g (newest f xs) ≡ newest (λ x. g (f x)) xs
 map_newest f g [] = refl
 map_newest f g (x ∷ xs) = map-append g (newest f xs) (f x ∷ []) ∙ ap (λ ys. ys ++ g (f x) ∷ []) (map_newest f g xs)
 

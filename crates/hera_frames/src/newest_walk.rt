@@ -1,10 +1,12 @@
 //! The newest one of a stack of walks, which stays where it stands.
-ghost use Rattle.std.specs.Prelude.{◌≡◌, ◌≤◌, map, OnOk, OnErr};
-ghost use Rattle.std.specs.Option.{option_copied};
+ghost use Rattle.std.specs.Prelude.{◌≡◌, ◌≤◌, true, false, map, slice_get, OnOk, OnErr, IsSomeAnd};
+ghost use Rattle.std.specs.Option.{option_copied, is_some};
+ghost use Rattle.hera_meaning.specs.Values.{tuple};
+ghost use Rattle.hera_meaning.specs.Worlds.{set_local};
 ghost use Rattle.when_overlay.specs.Changed.{after_all};
 ghost use Rattle.hera_frames.specs.Walking.{on_newest, coming_in, current_in, past_first, with_kept, with_gathered, gone_on, walk_at, walks_reach};
 
-use crate::{Changes, Stack, Walk};
+use crate::{Changes, Locals, Stack, Walk};
 use delta_atoms::Delta;
 use rel_pages::Base;
 use std::alloc::{AllocError, Global};
@@ -68,6 +70,32 @@ impl Stack<Walk> {
             return Ok(());
         }
         self.items[count - 1].next(alloc, changes, base, commits)
+    }
+
+    /// Moves the newest walk on to the next row of the relation that it names, and puts that row into a slot that
+    /// has a tuple. It takes no memory. False, with all as before, where there is no such walk or no such slot,
+    /// where no row is left, or where a place has not the room.
+    #[tactic(auto, using(crate::proofs::Tops::tops, crate::proofs::Slots::fits))]
+    pub fn hop(
+        &mut self,
+        locals: &mut Locals,
+        i: usize,
+        changes: &Changes,
+        base: &Base,
+        commits: &[Delta],
+    ) -> bool
+        ensures step { let s = after_all base.now.state commits.now in result ≡ true → map (walk_at s changes.now.layers) self.new ≡ on_newest gone_on (map (walk_at s changes.now.layers) self.old) }
+        ensures within { walks_reach self.new ≤ walks_reach self.old }
+        ensures there { result ≡ true → is_some (slice_get locals.old i) ≡ true }
+        ensures put { result ≡ true → IsSomeAnd (current_in self.new) (λ x. locals.new ≡ set_local locals.old i (tuple x)) }
+        ensures kept { result ≡ false → self.new ≡ self.old }
+        ensures kept_locals { result ≡ false → locals.new ≡ locals.old }
+    {
+        let count = self.items.len();
+        if count == 0 || i >= locals.items.len() {
+            return false;
+        }
+        self.items[count - 1].hop(&mut locals.items[i], changes, base, commits)
     }
 
     /// Gathers the current row of the newest walk on it, if there is one. Without memory all is as before.

@@ -1,5 +1,5 @@
 //! Operands.
-ghost use Rattle.std.specs.Prelude.{◌≡◌, ◌+◌, ◌<◌, ◌≤◌, [], ◌∷◌, List, None, Some, false, min, drop, map, slice_get, IfOk, OnOk, OnErr, IsOk, MatchOption};
+ghost use Rattle.std.specs.Prelude.{◌≡◌, ◌+◌, ◌<◌, ◌≤◌, [], ◌∷◌, List, None, Some, false, min, drop, map, slice_get, IfOk, OnOk, OnErr, IsOk, MatchOption, length, take, ◌-◌};
 ghost use Rattle.std.specs.Option.{option_map};
 ghost use Rattle.hera_meaning.specs.Deltas.{State};
 ghost use Rattle.hera_meaning.specs.Values.{table};
@@ -273,6 +273,25 @@ impl Operands {
         false
     }
 
+    /// Collects the rows of those of the newest `n` operands that name a relation. The others name what they
+    /// named. Without memory some of them may be collected.
+    pub fn hold_newest(
+        &mut self,
+        n: usize,
+        alloc: Global,
+        changes: &Changes,
+        base: &Base,
+        commits: &[Delta],
+    ) -> Result<(), AllocError>
+        requires { n ≤ length self.old.items }
+        ensures held { OnOk result (AreHeld (take n self.new.items)) }
+        ensures same { let s = after_all base.now.state commits.now in map (collected s changes.now.layers) self.new.items ≡ map (collected s changes.now.layers) self.old.items }
+        ensures reach { reach self.new.items ≤ reach self.old.items }
+    {
+        let from = self.items.len() - n;
+        hold_from(alloc, &mut self.items, from, changes, base, commits)
+    }
+
     /// The operands with the rows collected of those that name a relation.
     pub fn settle(
         self,
@@ -342,6 +361,30 @@ fn collect_all(
     ensures capacity { vec_capacity items.new ≡ vec_capacity items.old }
 {
     for i in 0..items.len() {
+        if let Some(v) = items[i].rows(alloc, changes, base, commits)? {
+            let_go(replace(&mut items[i], Operand::Held(v)));
+        }
+    }
+    Ok(())
+}
+
+/// Collects the rows of the operands from a place on that name a relation.
+fn hold_from(
+    alloc: Global,
+    items: &mut Vec<Operand>,
+    from: usize,
+    changes: &Changes,
+    base: &Base,
+    commits: &[Delta],
+) -> Result<(), AllocError>
+    requires { from ≤ vec_len items.old }
+    ensures held { OnOk result (AreHeld (take (vec_len items.old - from) (newest item_of items.new.items))) }
+    ensures same { let s = after_all base.now.state commits.now in map (collected s changes.now.layers) (newest item_of items.new.items) ≡ map (collected s changes.now.layers) (newest item_of items.old.items) }
+    ensures reach { reach (newest item_of items.new.items) ≤ reach (newest item_of items.old.items) }
+    ensures len { vec_len items.new ≡ vec_len items.old }
+    ensures capacity { vec_capacity items.new ≡ vec_capacity items.old }
+{
+    for i in from..items.len() {
         if let Some(v) = items[i].rows(alloc, changes, base, commits)? {
             let_go(replace(&mut items[i], Operand::Held(v)));
         }

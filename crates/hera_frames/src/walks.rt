@@ -1,17 +1,19 @@
 //! Walks.
-ghost use Rattle.std.specs.Prelude.{◌≡◌, ◌≤◌, List, [], ◌∷◌, ◌++◌, true, is_some, None, Some, min, slice_get, OnOk, OnErr, IfOk, IsSomeAnd, MatchBool, MatchOption};
+ghost use Rattle.std.specs.Prelude.{◌≡◌, ◌≤◌, List, [], ◌∷◌, ◌++◌, true, false, is_some, None, Some, min, slice_get, OnOk, OnErr, IfOk, IsSomeAnd, MatchBool, MatchOption};
 ghost use Rattle.std.specs.List.{filter};
 ghost use Rattle.std.specs.Option.{option_copied};
 ghost use Rattle.hera_sets.specs.Rows.{put, is_past, IsAscending};
 ghost use Rattle.hera_meaning.specs.Deltas.{State, rows_at};
+ghost use Rattle.hera_meaning.specs.Values.{tuple};
 ghost use Rattle.when_overlay.specs.declared.layers.Layer.{Layer};
 ghost use Rattle.when_overlay.specs.Changed.{after_all};
 ghost use Rattle.hera_frames.specs.Branched.{seen_at};
+ghost use Rattle.hera_frames.specs.Items.{plain_of};
 ghost use Rattle.hera_frames.specs.Walking.{given, named, rest_of, current_of, first_of, past_first, to_come, walk_at, gone_on, with_kept, with_gathered, settled, is_named, IsGiven, rest_reach};
 
 use crate::Changes;
 use crate::past::collect_past;
-use crate::values::{let_go, refill};
+use crate::values::{Datum, let_go, refill};
 use delta_atoms::Delta;
 use hera_meaning::RelId;
 use hera_rows::{RowBuf, RowSet};
@@ -102,6 +104,59 @@ fn row_past(
             Ok(true)
         }
     }
+}
+
+/// Puts a row in the place of the last one and in the place of a value, if that one is there, the value is a
+/// tuple, and both have the room. It takes no memory.
+fn fit_last(last: &mut Option<RowBuf>, value: &mut Datum, row: &[u8]) -> bool
+    ensures last { result ≡ true → last.new ≡ Some row.now }
+    ensures value { result ≡ true → plain_of value.new ≡ tuple row.now }
+    ensures kept { result ≡ false → last.new ≡ last.old }
+    ensures kept_value { result ≡ false → plain_of value.new ≡ plain_of value.old }
+{
+    let Some(old) = last.take() else {
+        return false;
+    };
+    let mut buffer = old.into_vec();
+    if buffer.capacity() < row.len() || !value.fit_tuple(row) {
+        *last = Some(RowBuf::from_vec(buffer));
+        return false;
+    }
+    let _ = refill(&mut buffer, row);
+    *last = Some(RowBuf::from_vec(buffer));
+    true
+}
+
+/// Goes on from the last row to the next one past it in a relation under a layer, as `row_past` does, and puts it
+/// in the place of a value too, if there is one and it fits in both places. It takes no memory.
+fn row_past_fits(
+    last: &mut Option<RowBuf>,
+    mark: &mut Mark,
+    value: &mut Datum,
+    changes: &Changes,
+    base: &Base,
+    commits: &[Delta],
+    rel: RelId,
+    tip: usize,
+) -> bool
+    ensures found { let rows = rows_at (seen_at (after_all base.now.state commits.now) changes.now.layers tip) rel.0 in result ≡ true → IsSomeAnd last.new (λ x. filter (is_past last.old) rows ≡ x ∷ filter (is_past (Some x)) rows) }
+    ensures value { result ≡ true → IsSomeAnd last.new (λ x. plain_of value.new ≡ tuple x) }
+    ensures kept { result ≡ false → last.new ≡ last.old }
+    ensures kept_value { result ≡ false → plain_of value.new ≡ plain_of value.old }
+{
+    if usize::from(rel.0) >= base.catalogue().len() {
+        return false;
+    }
+    let rows = changes.rel(base, commits, rel, tip);
+    let next = rows.above_near(bytes_of(last), *mark);
+    let Some(row) = next.row else {
+        return false;
+    };
+    if !fit_last(last, value, row) {
+        return false;
+    }
+    *mark = next.mark;
+    true
 }
 
 /// The rows past the bound in a relation under a layer, as a set.
@@ -341,6 +396,37 @@ impl Walk {
                 Ok(())
             }
         }
+    }
+
+    /// Goes on to the next row of the relation that the walk names, which is put in the place of a tuple too. It
+    /// takes no memory. False, with all as before, where the walk has rows of its own, where no row is left, or
+    /// where a place has not the room.
+    pub(crate) fn hop(
+        &mut self,
+        value: &mut Datum,
+        changes: &Changes,
+        base: &Base,
+        commits: &[Delta],
+    ) -> bool
+        ensures step { let s = after_all base.now.state commits.now in result ≡ true → walk_at s changes.now.layers self.new ≡ gone_on (walk_at s changes.now.layers self.old) }
+        ensures names { rest_reach self.new.rest ≤ rest_reach self.old.rest }
+        ensures put { result ≡ true → IsSomeAnd self.new.current (λ x. plain_of value.new ≡ tuple x) }
+        ensures kept { result ≡ false → self.new ≡ self.old }
+        ensures kept_value { result ≡ false → plain_of value.new ≡ plain_of value.old }
+    {
+        let Some((rel, tip)) = self.source.name() else {
+            return false;
+        };
+        row_past_fits(
+            &mut self.last,
+            &mut self.mark,
+            value,
+            changes,
+            base,
+            commits,
+            rel,
+            tip,
+        )
     }
 
     /// The walk with the rows that are left of it, collected where it names a relation.

@@ -112,9 +112,6 @@ impl<'c> Machine<'c> {
             Status::Working => {}
         }
         let code = self.code;
-        if self.work.quick(code) {
-            return Ok(Event::Quiet);
-        }
         let relations = self.relations;
         match self.work.one(code, relations, base, commits, hosts) {
             Err(e) => {
@@ -136,8 +133,8 @@ impl<'c> Machine<'c> {
 
     /// Executes the instructions at hand that have the quick way, some 4096 at most. It stops in front of one for
     /// which memory is refused.
-    fn hurry(&mut self)
-        ensures quietly { self.old.status ≡ Status.Working → (hosts : Hosts) → (s : State) → GoesQuietly self.old.code self.old.relations hosts s (machine_over s self.old) (machine_over s self.new) }
+    fn hurry(&mut self, base: &Base, commits: &[Delta])
+        ensures quietly { self.old.status ≡ Status.Working → (hosts : Hosts) → let s = state_over base.now.state commits.now in GoesQuietly self.old.code self.old.relations hosts s (machine_over s self.old) (machine_over s self.new) }
         ensures less { Forward self.old.code → left (length self.old.code.instrs) self.new.state ≤ left (length self.old.code.instrs) self.old.state }
         ensures status { self.new.status ≡ self.old.status }
         ensures waits { self.new.waits ≡ self.old.waits }
@@ -145,7 +142,7 @@ impl<'c> Machine<'c> {
         ensures relations { self.new.relations ≡ self.old.relations }
     {
         if let Status::Working = self.status {
-            self.work.hurry(self.code);
+            self.work.hurry(self.code, base, commits);
         }
     }
 
@@ -166,7 +163,7 @@ impl<'c> Machine<'c> {
         ensures code { self.new.code ≡ self.old.code }
         ensures relations { self.new.relations ≡ self.old.relations }
     {
-        self.hurry();
+        self.hurry(base, commits);
         self.reserve(1)?;
         self.step(base, commits, hosts)
     }

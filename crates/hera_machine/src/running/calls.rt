@@ -44,17 +44,16 @@ impl Running {
         Ok(Told::Quiet)
     }
 
-    /// Collects what the newest `n` operands name.
+    /// Collects what the newest `n` operands name, which are there.
     fn hold(&mut self, n: usize, base: &Base, commits: &[Delta]) -> Result<(), AllocError>
-        ensures same { let s = state_over base.now.state commits.now in OnOk result (machine_at s self.new ≡ machine_at s self.old) }
-        ensures at { OnOk result (self.new.at ≡ self.old.at) }
-        ensures turns { OnOk result (self.new.turns ≡ self.old.turns) }
+        requires { n ≤ length self.old.operands }
+        ensures same { let s = state_over base.now.state commits.now in machine_at s self.new ≡ machine_at s self.old }
+        ensures at { self.new.at ≡ self.old.at }
+        ensures turns { self.new.turns ≡ self.old.turns }
         ensures held { OnOk result (AreHeld (take n self.new.operands)) }
     {
-        if self.operands.are_held(n) {
-            return Ok(());
-        }
-        self.settle_operands(base, commits)
+        self.operands
+            .hold_newest(n, self.alloc, &self.changes, base, commits)
     }
 
     /// Calls a body whose arguments are there and name nothing, where a turn is left. The memory for one more

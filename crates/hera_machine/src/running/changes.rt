@@ -71,11 +71,7 @@ impl Running {
     }
 
     /// Collects the operands of the running frame that name a relation.
-    pub(super) fn settle_operands(
-        &mut self,
-        base: &Base,
-        commits: &[Delta],
-    ) -> Result<(), AllocError>
+    fn settle_operands(&mut self, base: &Base, commits: &[Delta]) -> Result<(), AllocError>
         ensures rest { OnOk result (self.new ≡ record self.old { operands = self.new.operands; spare = self.new.spare }) }
         ensures same { let s = state_over base.now.state commits.now in OnOk result (machine_at s self.new ≡ machine_at s self.old) }
         ensures held { OnOk result (AreHeld self.new.operands) }

@@ -10,14 +10,17 @@ ghost use Rattle.hera_flat.specs.Flats.{flat_value};
 ghost use Rattle.hera_code.specs.Forward.{Forward};
 ghost use Rattle.hera_code.specs.Machine as machine;
 ghost use Rattle.hera_code.specs.Machine.{code_step, quiet, on_with, on_top, on_some, pushes, answers, needs_slot, needs_address, goes_to, spends, by_bool, on_walk, next_row, keeps};
+ghost use Rattle.hera_machine.specs.Over.{state_over};
 ghost use Rattle.hera_machine.specs.Descends.{left, IsLower};
 ghost use Rattle.hera_machine.specs.Standing.{GoesQuietly};
 ghost use Rattle.hera_machine.specs.Working.{machine_at};
 
 use super::Running;
+use delta_atoms::Delta;
 use hera_code::{Code, Instr};
 use hera_flat::{Flat, flat_one, flat_two};
 use hera_meaning::{Const, Op, Scalar, Schema};
+use rel_pages::Base;
 
 /// The most instructions that are executed at once.
 const AT_ONCE: usize = 4096;
@@ -25,12 +28,12 @@ const AT_ONCE: usize = 4096;
 impl Running {
     /// Executes the instructions at hand, as long as they are common ones on ints, bools and tuples, and at
     /// most 4096 of them. It stops in front of one for which memory is refused.
-    pub(crate) fn hurry(&mut self, code: &Code)
-        ensures quietly { (rels : List PlainDecl) → (hosts : Hosts) → (s : State) → GoesQuietly code.now rels hosts s (machine_at s self.old) (machine_at s self.new) }
+    pub(crate) fn hurry(&mut self, code: &Code, base: &Base, commits: &[Delta])
+        ensures quietly { (rels : List PlainDecl) → (hosts : Hosts) → let s = state_over base.now.state commits.now in GoesQuietly code.now rels hosts s (machine_at s self.old) (machine_at s self.new) }
         ensures less { Forward code.now → left (length code.now.instrs) (machine_at [] self.new) ≤ left (length code.now.instrs) (machine_at [] self.old) }
     {
         for _ in 0..AT_ONCE {
-            if !self.quick(code) {
+            if !self.quick(code, base, commits) {
                 return;
             }
         }
@@ -39,8 +42,8 @@ impl Running {
     /// Executes the instruction at hand, if that is a common one on ints, bools and tuples. Where memory for it is
     /// refused nothing has changed.
     #[inline]
-    pub(crate) fn quick(&mut self, code: &Code) -> bool
-        ensures steps { (rels : List PlainDecl) → (hosts : Hosts) → (s : State) → result ≡ true → quiet (machine_at s self.new) ≡ code_step code.now rels hosts s (machine_at s self.old) }
+    fn quick(&mut self, code: &Code, base: &Base, commits: &[Delta]) -> bool
+        ensures steps { (rels : List PlainDecl) → (hosts : Hosts) → let s = state_over base.now.state commits.now in result ≡ true → quiet (machine_at s self.new) ≡ code_step code.now rels hosts s (machine_at s self.old) }
         ensures nearer { Forward code.now → result ≡ true → IsLower (length code.now.instrs) (machine_at [] self.old) (machine_at [] self.new) }
         ensures kept { result ≡ false → self.new ≡ self.old }
     {
@@ -48,15 +51,15 @@ impl Running {
         let _len = code.instrs.len();
         match code.instrs.get(self.at) {
             None => false,
-            Some(instr) => self.hasten(instr, code),
+            Some(instr) => self.hasten(instr, code, base, commits),
         }
     }
 
     /// Executes an instruction, if it is a common one on ints, bools and tuples.
     #[inline]
-    fn hasten(&mut self, instr: &Instr, code: &Code) -> bool
+    fn hasten(&mut self, instr: &Instr, code: &Code, base: &Base, commits: &[Delta]) -> bool
         requires { self.old.at + 1 < 2 ^ 64 }
-        ensures act { (rels : List PlainDecl) → (hosts : Hosts) → (s : State) → result ≡ true → quiet (machine_at s self.new) ≡ machine.act code.now rels hosts (Some instr.now) s (machine_at s self.old) }
+        ensures act { (rels : List PlainDecl) → (hosts : Hosts) → let s = state_over base.now.state commits.now in result ≡ true → quiet (machine_at s self.new) ≡ machine.act code.now rels hosts (Some instr.now) s (machine_at s self.old) }
         ensures kept { result ≡ false → self.new ≡ self.old }
     {
         match instr {
@@ -69,7 +72,7 @@ impl Running {
             Instr::Jump(a) => self.jumped(code, *a),
             Instr::Unless(a) => self.parted(code, *a),
             Instr::Back(a) => self.went_back(code, *a),
-            Instr::Next(i, a) => self.went_on(code, *i, *a),
+            Instr::Next(i, a) => self.went_on(code, base, commits, *i, *a),
             Instr::Keep => self.kept(),
             Instr::Call(k) => self.called(code, *k),
             Instr::Ret => self.resume(None),
@@ -241,21 +244,41 @@ impl Running {
     }
 
     #[inline]
-    fn went_on(&mut self, code: &Code, i: u32, a: u32) -> bool
+    fn went_on(&mut self, code: &Code, base: &Base, commits: &[Delta], i: u32, a: u32) -> bool
         requires { self.old.at + 1 < 2 ^ 64 }
-        ensures done { (s : State) → result ≡ true → quiet (machine_at s self.new) ≡ on_walk (machine_at s self.old).walks (λ w ws. needs_slot i (machine_at s self.old) (needs_address code.now a (next_row i a w.rows w ws (machine_at s self.old)))) }
+        ensures done { let s = state_over base.now.state commits.now in result ≡ true → quiet (machine_at s self.new) ≡ on_walk (machine_at s self.old).walks (λ w ws. needs_slot i (machine_at s self.old) (needs_address code.now a (next_row i a w.rows w ws (machine_at s self.old)))) }
         ensures kept { result ≡ false → self.new ≡ self.old }
     {
         if (a as usize) >= code.instrs.len() {
             return false;
         }
         let Some(row) = self.walks.coming() else {
-            return false;
+            return self.hopped(code, base, commits, i, a);
         };
         if !self.locals.fit_tuple(i as usize, row) {
             return false;
         }
         self.walks.pass();
+        self.at += 1;
+        true
+    }
+
+    /// Goes on to the next row of a relation that a walk names.
+    #[inline(never)]
+    fn hopped(&mut self, code: &Code, base: &Base, commits: &[Delta], i: u32, a: u32) -> bool
+        requires next { self.old.at + 1 < 2 ^ 64 }
+        requires address { a < length code.now.instrs }
+        ensures done { let s = state_over base.now.state commits.now in result ≡ true → quiet (machine_at s self.new) ≡ on_walk (machine_at s self.old).walks (λ w ws. needs_slot i (machine_at s self.old) (needs_address code.now a (next_row i a w.rows w ws (machine_at s self.old)))) }
+        ensures kept { result ≡ false → self.new ≡ self.old }
+    {
+        // named for the contract alone: a row is left here
+        let _end = a;
+        if !self
+            .walks
+            .hop(&mut self.locals, i as usize, &self.changes, base, commits)
+        {
+            return false;
+        }
         self.at += 1;
         true
     }

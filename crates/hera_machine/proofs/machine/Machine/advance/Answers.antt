@@ -9,7 +9,7 @@ pub returns-clause-tells : goal.returns-clause-tells
 returns-clause-tells g c = λ works.
     let s = state_over c.args.base.now.state c.args.commits.now in
     let hosts = specs_of c.args.hosts.now.names in
-    advanced c.step.result c.args.self.now c.hurry.new.self c.reserve.new.self c.step.new.self c.hurry.ensures.code c.reserve.ensures.code hosts s (c.hurry.ensures.quietly works hosts s)
+    advanced c.step.result c.args.self.now c.hurry.new.self c.reserve.new.self c.step.new.self c.hurry.ensures.code c.reserve.ensures.code hosts s (c.hurry.ensures.quietly works hosts)
     c.reserve.ensures.over c.hurry.ensures.relations c.reserve.ensures.relations (c.step.ensures.steps (c.reserve.ensures.status ∙ c.hurry.ensures.status ∙ works))
 
 pub returns-clause-less : goal.returns-clause-less

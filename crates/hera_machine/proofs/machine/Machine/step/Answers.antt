@@ -1,45 +1,32 @@
-use Rattle.std.proofs.Common.{◌∙◌, ap}
 use Rattle.hera_host.specs.Tables.{specs_of}
-use Rattle.hera_code.specs.Machine.{code_step}
 use Rattle.hera_machine.specs.Over.{state_over}
-use Rattle.hera_machine.specs.Working.{Work, machine_at}
 use Rattle.hera_machine.proofs.Advancing.{stepped}
 use Rattle.hera_machine.proofs.machine.Machine.step.Goals as goal
-
-pub returns-then-quick-clause-steps : goal.returns-then-quick-clause-steps
-returns-then-quick-clause-steps g c = λ works.
-    let hosts = specs_of c.args.hosts.now.names in
-    let s = state_over c.args.base.now.state c.args.commits.now in
-    stepped hosts s _ c.args.self.now _ c.self.view_is (c.quick.ensures.steps c.self.inside.relations.now hosts s c.if-quick.true)
 
 pub returns-in-Ok-Quiet-clause-steps : goal.returns-in-Ok-Quiet-clause-steps
 returns-in-Ok-Quiet-clause-steps g c = λ works.
     let hosts = specs_of c.args.hosts.now.names in
     let s = state_over c.args.base.now.state c.args.commits.now in
     let told = rw c.in-Ok-Quiet.field-0-is at c.in-Ok-Quiet.ensures.steps in
-    stepped hosts s _ c.args.self.now _ c.self.view_is
-    (told ∙ ap (λ (w : Work). code_step c.self.inside.code.now c.self.inside.relations.now hosts s (machine_at s w)) (c.quick.ensures.kept c.if-quick.false))
+    stepped hosts s _ c.args.self.now _ c.self.view_is told
 
 pub returns-in-Ok-Out-clause-steps : goal.returns-in-Ok-Out-clause-steps
 returns-in-Ok-Out-clause-steps g c = λ works.
     let hosts = specs_of c.args.hosts.now.names in
     let s = state_over c.args.base.now.state c.args.commits.now in
     let told = rw c.in-Ok-Out.field-0-is at c.in-Ok-Out.ensures.steps in
-    stepped hosts s _ c.args.self.now _ c.self.view_is
-    (told ∙ ap (λ (w : Work). code_step c.self.inside.code.now c.self.inside.relations.now hosts s (machine_at s w)) (c.quick.ensures.kept c.if-quick.false))
+    stepped hosts s _ c.args.self.now _ c.self.view_is told
 
 pub returns-in-Ok-Commit-clause-steps : goal.returns-in-Ok-Commit-clause-steps
 returns-in-Ok-Commit-clause-steps g c = λ works.
     let hosts = specs_of c.args.hosts.now.names in
     let s = state_over c.args.base.now.state c.args.commits.now in
     let told = rw c.in-Ok-Commit.field-0-is at c.in-Ok-Commit.ensures.steps in
-    stepped hosts s _ c.args.self.now _ c.self.view_is
-    (told ∙ ap (λ (w : Work). code_step c.self.inside.code.now c.self.inside.relations.now hosts s (machine_at s w)) (c.quick.ensures.kept c.if-quick.false))
+    stepped hosts s _ c.args.self.now _ c.self.view_is told
 
 pub returns-in-Ok-Ended-clause-steps : goal.returns-in-Ok-Ended-clause-steps
 returns-in-Ok-Ended-clause-steps g c = λ works.
     let hosts = specs_of c.args.hosts.now.names in
     let s = state_over c.args.base.now.state c.args.commits.now in
     let told = rw c.in-Ok-Ended.field-0-is at c.in-Ok-Ended.ensures.steps in
-    stepped hosts s _ c.args.self.now _ c.self.view_is
-    (told ∙ ap (λ (w : Work). code_step c.self.inside.code.now c.self.inside.relations.now hosts s (machine_at s w)) (c.quick.ensures.kept c.if-quick.false))
+    stepped hosts s _ c.args.self.now _ c.self.view_is told

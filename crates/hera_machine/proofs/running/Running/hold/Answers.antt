@@ -1,7 +1,19 @@
-use Rattle.std.proofs.lemmas.Result.{IfOk-weaker}
-use Rattle.hera_frames.specs.Items.{AreHeld}
-use Rattle.hera_machine.proofs.Calling.{take_held}
+use Rattle.std.proofs.Common.{◌∙◌, ap, arith}
+use Rattle.hera_frames.proofs.Holding.{same_values}
+use Rattle.hera_frames.proofs.Upheld.{upheld_operands}
+use Rattle.hera_machine.specs.contracts.running.Running.{the_view}
+use Rattle.hera_machine.specs.Over.{state_over}
+use Rattle.hera_machine.specs.Working.{Work, machine_at}
 use Rattle.hera_machine.proofs.running.Running.hold.Goals as goal
 
-pub returns-clause-held : goal.returns-clause-held
-returns-clause-held c = IfOk-weaker c.settle_operands.result (λ _. AreHeld c.settle_operands.new.self.operands) _ (λ _ h. take_held c.args.n c.settle_operands.new.self.operands h) c.settle_operands.ensures.held
+pub invariant_of-self : goal.invariant_of-self
+invariant_of-self c =
+    let now = c.self.inside in
+    upheld_operands now.changes now.own now.floor now.operands.items now.walks now.names_below now.callers c.hold_newest.new.self.items (omega (arith, c.hold_newest.ensures.reach, c.self.invariant.operands)) c.self.invariant
+
+pub returns-clause-same : goal.returns-clause-same
+returns-clause-same c =
+    let now = c.self.inside in
+    let s = state_over c.args.base.now.state c.args.commits.now in
+    (λ i. record (machine_at s (the_view now)) { operands = same_values s now.changes.layers c.hold_newest.new.self.items now.operands.items c.hold_newest.ensures.same i })
+    ∙ ap (λ (w : Work). machine_at s w) c.self.view_is

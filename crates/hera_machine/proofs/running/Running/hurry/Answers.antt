@@ -1,18 +1,20 @@
 use Rattle.std.proofs.Common.{sym, refl, subst, arith}
+use Rattle.hera_machine.specs.Over.{state_over}
 use Rattle.hera_machine.specs.Standing.{GoesQuietly}
 use Rattle.hera_machine.specs.Working.{Work, machine_at}
 use Rattle.hera_machine.proofs.Quietly.{quietly_none, quietly_more}
 use Rattle.hera_machine.proofs.running.Running.hurry.Goals as goal
 
 pub returns-then-not-quick-clause-quietly : goal.returns-then-not-quick-clause-quietly
-returns-then-not-quick-clause-quietly c = λ rels hosts s.
-    subst (λ (w : Work). GoesQuietly c.args.code.now rels hosts s (machine_at s c.args.self.now) (machine_at s w)) (sym (c.if-not-quick.ensures.kept refl)) (c.loop.invariant.quietly rels hosts s)
+returns-then-not-quick-clause-quietly c = λ rels hosts.
+    let s = state_over c.args.base.now.state c.args.commits.now in
+    subst (λ (w : Work). GoesQuietly c.args.code.now rels hosts s (machine_at s c.args.self.now) (machine_at s w)) (sym (c.if-not-quick.ensures.kept refl)) (c.loop.invariant.quietly rels hosts)
 
 pub loop-preserved : goal.loop-preserved
 loop-preserved c = record {
-  quietly = λ rels hosts s. quietly_more c.args.code.now rels hosts s _ _ _ (c.loop.invariant.quietly rels hosts s) (c.if-not-quick.ensures.steps rels hosts s refl);
+  quietly = λ rels hosts. quietly_more c.args.code.now rels hosts (state_over c.args.base.now.state c.args.commits.now) _ _ _ (c.loop.invariant.quietly rels hosts) (c.if-not-quick.ensures.steps rels hosts refl);
   less = λ forward. let lower = c.if-not-quick.ensures.nearer forward refl in omega (arith, lower.less_left, c.loop.invariant.less forward);
 }
 
 pub loop-init : goal.loop-init
-loop-init c = record { quietly = λ rels hosts s. quietly_none c.args.code.now rels hosts s _ _ refl; less = λ forward. omega arith }
+loop-init c = record { quietly = λ rels hosts. quietly_none c.args.code.now rels hosts (state_over c.args.base.now.state c.args.commits.now) _ _ refl; less = λ forward. omega arith }

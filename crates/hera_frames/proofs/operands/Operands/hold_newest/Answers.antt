@@ -1,0 +1,18 @@
+use Rattle.std.proofs.Common.{◌≡◌, ◌-◌, ap, take, length, subst, arith}
+use Rattle.hera_prims.specs.Newest.{newest}
+use Rattle.hera_prims.proofs.Stacks.{newest_length}
+use Rattle.std.specs.Prelude.{OnOk}
+use Rattle.std.specs.Vec.{vec_len}
+use Rattle.hera_frames.specs.Items.{Shelf, item_of, AreHeld}
+use Rattle.hera_frames.proofs.operands.Operands.hold_newest.Goals as goal
+
+pub overflow_sub-from : goal.overflow_sub-from
+overflow_sub-from c =
+    let many = newest_length item_of c.self.inside.items.items in
+    omega (arith, c.len.ensures, c.requires, ap (λ (x : Shelf). length x.items) c.self.view_is, many)
+
+pub returns-clause-held : goal.returns-clause-held
+returns-clause-held c =
+    let many = newest_length item_of c.self.inside.items.items in
+    let n : vec_len c.self.inside.items - (c.len.result - c.args.n) ≡ c.args.n = omega (arith, c.len.ensures, c.requires, ap (λ (x : Shelf). length x.items) c.self.view_is, many) in
+    subst (λ k. OnOk c.hold_from.result (AreHeld (take k (newest item_of c.hold_from.new.items.items)))) n c.hold_from.ensures.held
