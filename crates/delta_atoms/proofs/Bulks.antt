@@ -1,10 +1,9 @@
 -- A delta of one side of one relation.
-use Rattle.std.proofs.Common.{◌≡◌, ℕ, Bool, true, false, cond, eqb, ◌&&◌, List, [], ◌∷◌, Some, None, refl, sym, ap, ◌∙◌, subst, length, arith, inl, inr}
+use Rattle.std.proofs.Common.{◌≡◌, ℕ, Bool, true, false, cond, eqb, ◌&&◌, List, [], ◌∷◌, refl, sym, ap, ◌∙◌, length, arith, inl, inr}
 use Rattle.std.proofs.lemmas.Bool.{eq-eqb, ne_eqb, cases_eq}
 use Rattle.hera_sets.specs.Rows.{Row, IsAscending, holds}
 use Rattle.hera_meaning.specs.declared.scalars.Sign.{Sign}
 use Rattle.hera_meaning.specs.declared.scalars.Sign.TheVariants.{Plus, Minus}
-use Rattle.hera_meaning.specs.Deltas.{keys_of}
 use Rattle.delta_atoms.specs.Atoms.{bulk_of, sign_at}
 use Rattle.delta_atoms.specs.Parts.{atoms_of, rows_at, AreOrdered, AreApart, ArePacked}
 use Rattle.delta_atoms.specs.Edits.{one_side}

@@ -4,7 +4,6 @@ use Rattle.std.specs.Option.{is_some}
 use Rattle.std.proofs.lemmas.Bool.{both_ways, or_parts}
 use Rattle.hera_sets.specs.Rows.{Row, is_same, is_below, IsBelowAll, IsAscending, holds, put, without}
 use Rattle.hera_sets.proofs.Order.{same_true, same_itself, same_cons, before, level, behind, stands as standing}
-use Rattle.hera_sets.proofs.Lists.{ascending_front}
 use Rattle.hera_sets.proofs.Members.{holds-put, holds-filter}
 use Rattle.hera_meaning.specs.declared.scalars.Sign.{Sign}
 use Rattle.hera_meaning.specs.declared.scalars.Sign.TheVariants.{Plus, Minus}
@@ -14,8 +13,8 @@ use Rattle.hera_meaning.proofs.Atoms.{ascending_joint}
 use Rattle.delta_atoms.specs.Atoms.{atom_of, sign_at, with_last}
 use Rattle.delta_atoms.specs.declared.parts.Part.{Part}
 use Rattle.delta_atoms.specs.Parts.{atoms_of, rows_at, AreOrdered, ArePacked}
-use Rattle.delta_atoms.specs.Edits.{HaveSame, is_of, Puts, Takes, gives, is_atom, stands, turned, PutsAll, PutsSome, TakesAll, news}
-use Rattle.delta_atoms.proofs.Signs.{first_of, sign_at_nil, none_signed, keys_of-append, sign_at-append, sign_at-in_order, same_signs}
+use Rattle.delta_atoms.specs.Edits.{HaveSame, Puts, Takes, gives, is_atom, stands, turned, PutsAll, PutsSome, TakesAll, news}
+use Rattle.delta_atoms.proofs.Signs.{first_of, sign_at_nil, none_signed, sign_at-append, sign_at-in_order, same_signs}
 use Rattle.delta_atoms.proofs.PartSigns.{sign_in, sign_at-atoms_of, holds-keys_of, ascending_atoms_of}
 use Rattle.delta_atoms.proofs.Sides.{rows_give, ascending_filter}
 

@@ -1,8 +1,8 @@
 -- The first atom past a bound, by the first rows of both sets.
-use Rattle.std.proofs.Common.{◌≡◌, ℕ, suc, ◌+◌, ◌<◌, ◌≤◌, Bool, true, false, cond, ◌||◌, ◌&&◌, List, [], ◌∷◌, ◌++◌, Option, Some, None, refl, sym, ap, ◌∙◌, subst, length, take, drop, get_or, arith, eqb, ◌⊎◌, inl, inr}
+use Rattle.std.proofs.Common.{◌≡◌, ℕ, suc, ◌+◌, ◌<◌, ◌≤◌, Bool, true, false, cond, ◌||◌, ◌&&◌, List, [], ◌∷◌, ◌++◌, Option, Some, None, refl, sym, ap, ◌∙◌, subst, length, take, drop, get_or, arith}
 use Rattle.std.specs.List.{find}
 use Rattle.std.specs.Option.{option_map}
-use Rattle.std.proofs.lemmas.Bool.{both_ways, false≢true, eq-eqb}
+use Rattle.std.proofs.lemmas.Bool.{both_ways, eq-eqb}
 use Rattle.std.proofs.lemmas.Option.{none-some, same_Some}
 use Rattle.std.proofs.lemmas.List.{drop_more, length-take-le}
 use Rattle.hera_sets.specs.Rows.{Row, is_below, is_same, is_past, IsAscending, holds}
@@ -11,13 +11,12 @@ use Rattle.hera_sets.proofs.Order.{same_true, same_itself, below_cons_less, belo
 use Rattle.hera_sets.proofs.Next.{find-union}
 use Rattle.hera_meaning.specs.declared.scalars.Sign.{Sign}
 use Rattle.hera_meaning.specs.declared.scalars.Sign.TheVariants.{Plus, Minus}
-use Rattle.hera_meaning.specs.Deltas.{Atom, key_of, keys_of, in_order}
+use Rattle.hera_meaning.specs.Deltas.{Atom, key_of, keys_of}
 use Rattle.delta_atoms.specs.Atoms.{atom_of, bulk_of, sign_at, is_after}
 use Rattle.delta_atoms.specs.declared.parts.Part.{Part}
-use Rattle.delta_atoms.specs.Parts.{side, lesser, atoms_at, atoms_of, rows_at, IsPart, IsPackedPart, AreOrdered, AreApart, ArePacked}
-use Rattle.delta_atoms.specs.Edits.{IsUpto}
-use Rattle.delta_atoms.proofs.Signs.{same_atom_by, keys_of-in_order, keys_of-append, ascending_in_order}
-use Rattle.delta_atoms.proofs.PartSigns.{sign_in, sign_at-atoms_at, distinct_part, ascending_bulk}
+use Rattle.delta_atoms.specs.Parts.{side, lesser, atoms_at, atoms_of, rows_at, IsPackedPart, AreOrdered, ArePacked}
+use Rattle.delta_atoms.proofs.Signs.{same_atom_by, keys_of-in_order, keys_of-append}
+use Rattle.delta_atoms.proofs.PartSigns.{sign_at-atoms_at, distinct_part, ascending_bulk}
 use Rattle.delta_atoms.proofs.Places.{place_split, ordered_front, ordered_part, rows_at-middle}
 use Rattle.delta_atoms.proofs.Walks.{find_passes}
 

@@ -1,20 +1,19 @@
 -- The atoms of parts: their order, and the sign at each key.
-use Rattle.std.proofs.Common.{◌≡◌, ℕ, ◌<◌, Bool, true, false, cond, eqb, not, ◌||◌, ◌&&◌, List, [], ◌∷◌, ◌++◌, map, Option, Some, None, refl, sym, ap, ◌∙◌, subst, arith, inl, inr}
+use Rattle.std.proofs.Common.{◌≡◌, ℕ, ◌<◌, Bool, true, false, cond, eqb, ◌||◌, ◌&&◌, List, [], ◌∷◌, ◌++◌, Option, Some, None, refl, sym, ap, ◌∙◌, subst, arith, inl, inr}
 use Rattle.std.specs.Option.{is_some}
-use Rattle.std.proofs.lemmas.Bool.{both_ways, false≢true, eq-eqb, ne_eqb, eqb-true, cases_eq, or_from, or_left, or_right}
-use Rattle.std.proofs.lemmas.Option.{none-some}
+use Rattle.std.proofs.lemmas.Bool.{false≢true, eq-eqb, ne_eqb, eqb-true, cases_eq, or_from, or_left, or_right}
 use Rattle.hera_sets.specs.Rows.{Row, is_below, is_same, IsBelowAll, IsAscending, holds}
-use Rattle.hera_sets.proofs.Order.{same_true, same_itself, same_cons, same_nil, below_cons_less, below_cons_same}
+use Rattle.hera_sets.proofs.Order.{same_itself, same_cons, below_cons_less, below_cons_same}
 use Rattle.hera_meaning.specs.declared.scalars.Sign.{Sign}
 use Rattle.hera_meaning.specs.declared.scalars.Sign.TheVariants.{Plus, Minus}
 use Rattle.hera_sets.proofs.Lists.{none_held}
 use Rattle.hera_sets.proofs.Members.{holds-append}
 use Rattle.hera_meaning.specs.Schemas.{AreDistinct}
-use Rattle.hera_meaning.specs.Deltas.{Atom, key_of, keys_of, in_order}
-use Rattle.delta_atoms.specs.Atoms.{atom_of, bulk_of, sign_at}
+use Rattle.hera_meaning.specs.Deltas.{Atom, key_of, keys_of}
+use Rattle.delta_atoms.specs.Atoms.{bulk_of, sign_at}
 use Rattle.delta_atoms.specs.declared.parts.Part.{Part}
-use Rattle.delta_atoms.specs.Parts.{side, atoms_at, atoms_of, rows_at, IsBeforeAll, IsPart, AreOrdered, AreApart, ArePacked}
-use Rattle.delta_atoms.proofs.Signs.{first_of, first_of-none, here, sign_at_nil, none_signed, keys_of-append, ascending_in_order, sign_at-in_order, sign_at-append}
+use Rattle.delta_atoms.specs.Parts.{atoms_at, atoms_of, rows_at, IsBeforeAll, IsPart, AreOrdered, AreApart}
+use Rattle.delta_atoms.proofs.Signs.{first_of, first_of-none, sign_at_nil, keys_of-append, ascending_in_order, sign_at-in_order, sign_at-append}
 
 -- the sign of a row that is put in or taken out
 abbrev pub sign_in : Bool → Bool → Option Sign

@@ -1,19 +1,17 @@
 -- The rows of one relation and sign among atoms in order.
-use Rattle.std.proofs.Common.{◌≡◌, ℕ, zero, suc, ◌+◌, ◌<◌, Bool, true, false, cond, eqb, not, ◌||◌, ◌&&◌, List, [], ◌∷◌, ◌++◌, map, filter, length, Option, Some, None, refl, sym, ap, ◌∙◌, subst, arith, inl, inr, nat_lt, nat_eq, length-append}
-use Rattle.std.specs.List.{list_any}
-use Rattle.std.proofs.lemmas.Bool.{both_ways, false≢true, eq-eqb, ne_eqb, eqb-true, cases_eq, lt-ltb}
+use Rattle.std.proofs.Common.{◌≡◌, ℕ, suc, ◌+◌, Bool, true, false, cond, eqb, not, ◌||◌, ◌&&◌, List, [], ◌∷◌, ◌++◌, map, filter, length, Option, Some, None, refl, sym, ap, ◌∙◌, subst, arith, nat_lt, nat_eq, length-append}
+use Rattle.std.proofs.lemmas.Bool.{false≢true, eqb-true, lt-ltb}
 use Rattle.std.proofs.lemmas.List.{length-map}
 use Rattle.hera_sets.specs.Rows.{Row, is_below, is_same, IsBelowAll, IsAscending, holds}
-use Rattle.hera_sets.proofs.Order.{same_true, same_cons, below_cons_same}
+use Rattle.hera_sets.proofs.Order.{same_true, below_cons_same}
 use Rattle.hera_sets.proofs.Members.{same_rows}
 use Rattle.hera_meaning.specs.declared.scalars.Sign.{Sign}
 use Rattle.hera_meaning.specs.declared.scalars.Sign.TheVariants.{Plus, Minus}
 use Rattle.hera_meaning.specs.Deltas.{Atom, key_of, keys_of, is_plus, put_atom, in_order, rows_named}
-use Rattle.hera_meaning.specs.Values.{same_sign}
 use Rattle.hera_meaning.proofs.Atoms.{rows_named-key}
 use Rattle.delta_atoms.specs.Atoms.{atom_of, bulk_of, sign_at, have_relation, signed, part_of}
 use Rattle.delta_atoms.specs.declared.parts.Part.{Part}
-use Rattle.delta_atoms.specs.Parts.{side, atoms_at, atoms_of, rows_at, IsPart, AreOrdered, ArePacked}
+use Rattle.delta_atoms.specs.Parts.{side, atoms_at, atoms_of, rows_at, AreOrdered, ArePacked}
 use Rattle.delta_atoms.specs.Edits.{gives}
 use Rattle.delta_atoms.proofs.Signs.{none_signed}
 use Rattle.delta_atoms.proofs.PartSigns.{sign_in, sign_at-atoms_of, ascending_atoms_of}

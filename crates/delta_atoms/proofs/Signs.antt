@@ -1,17 +1,15 @@
 -- Lists of atoms in order, by the sign that they have at each key.
-use Rattle.std.proofs.Common.{◌≡◌, ℕ, Bool, true, false, cond, List, [], ◌∷◌, ◌++◌, map, Option, Some, None, refl, sym, ap, ◌∙◌, subst}
-use Rattle.std.specs.List.{find}
-use Rattle.std.specs.Option.{option_map}
-use Rattle.std.proofs.lemmas.Bool.{both_ways, false≢true, or_parts}
+use Rattle.std.proofs.Common.{◌≡◌, Bool, true, false, cond, List, [], ◌∷◌, ◌++◌, Option, Some, None, refl, sym, ap, ◌∙◌, subst}
+use Rattle.std.proofs.lemmas.Bool.{both_ways, or_parts}
 use Rattle.std.proofs.lemmas.Option.{none-some, same_Some}
-use Rattle.hera_sets.specs.Rows.{Row, is_below, is_same, is_past, IsBelowAll, IsAscending, holds, put, normal}
+use Rattle.hera_sets.specs.Rows.{Row, is_same, IsBelowAll, IsAscending, holds, put, normal}
 use Rattle.hera_sets.proofs.Order.{same_true, same_itself, same_nil, before, level, behind, stands}
 use Rattle.hera_sets.proofs.Lists.{all_below_trans}
 use Rattle.hera_sets.proofs.Members.{ascending_normal, holds-normal}
 use Rattle.hera_meaning.specs.declared.scalars.Sign.{Sign}
 use Rattle.hera_meaning.specs.Schemas.{AreDistinct}
 use Rattle.hera_meaning.specs.Deltas.{Atom, key_of, keys_of, put_atom, in_order}
-use Rattle.delta_atoms.specs.Atoms.{sign_at, is_after}
+use Rattle.delta_atoms.specs.Atoms.{sign_at}
 
 -- the first sign, or else the second
 abbrev pub first_of : Option Sign → Option Sign → Option Sign

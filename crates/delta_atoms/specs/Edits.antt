@@ -7,8 +7,8 @@ use Rattle.hera_meaning.specs.declared.scalars.Sign.TheVariants.{Plus, Minus}
 use Rattle.hera_meaning.specs.Deltas.{Atom, key_of}
 use Rattle.hera_meaning.specs.Values.{same_sign}
 use Rattle.delta_atoms.specs.declared.parts.Part.{Part}
-use Rattle.delta_atoms.specs.Atoms.{atom_of, sign_at}
-use Rattle.delta_atoms.specs.Parts.{rows_at, IsBeforeAll, IsPart}
+use Rattle.delta_atoms.specs.Atoms.{sign_at}
+use Rattle.delta_atoms.specs.Parts.{rows_at, IsBeforeAll}
 
 -- the part with a row more on one side, and with a row less
 abbrev pub put_in : Sign → Row → Part → Part

@@ -1,10 +1,10 @@
 -- A delta as it is kept: for each relation in order, the rows to put in and the rows to take out.
-use Rattle.std.specs.Prelude.{ℕ, ◌≡◌, ◌<◌, Bool, true, false, cond, ◌&&◌, List, [], ◌∷◌, ◌++◌, nat_eq, Option, None, Some}
+use Rattle.std.specs.Prelude.{ℕ, ◌≡◌, ◌<◌, false, cond, ◌&&◌, List, [], ◌∷◌, ◌++◌, nat_eq, Option, None, Some}
 use Rattle.std.specs.List.{flat_map}
 use Rattle.hera_sets.specs.Rows.{Row, is_below, holds, IsAscending}
 use Rattle.hera_meaning.specs.declared.scalars.Sign.{Sign}
 use Rattle.hera_meaning.specs.declared.scalars.Sign.TheVariants.{Plus, Minus}
-use Rattle.hera_meaning.specs.Deltas.{Atom, Delta, fail, atoms, in_order}
+use Rattle.hera_meaning.specs.Deltas.{Atom, in_order}
 use Rattle.delta_atoms.specs.declared.parts.Part.{Part}
 use Rattle.delta_atoms.specs.Atoms.{atom_of, bulk_of}
 

@@ -7,13 +7,25 @@ ghost use Rattle.hera_meaning.specs.Values.{same_atom, same_sign};
 ghost use Rattle.delta_atoms.specs.Atoms.{atom_of, bulk_of, atoms_in, sign_at, have_relation, part_of, with_last, is_after};
 ghost use Rattle.delta_atoms.specs.Refs.{atom_in, bound_of};
 
-use super::parts::{self, Part};
-use super::{AtomRef, edits};
+use super::AtomRef;
+use super::packed_atoms::PackedAtoms;
 use hera_meaning::{RelId, Sign};
 use hera_rows::{RowSet, Sorted};
 use hera_sets::is_same;
 use std::alloc::{AllocError, Global};
 use std::marker::Model;
+
+/// How a delta is kept: atoms stand on the heap from the first one on. A delta that has none lends the empty set of
+/// rows, for any relation.
+#[derive(Drop)]
+enum Form {
+    /// `fail`.
+    Fail(RowSet),
+    /// No atoms.
+    Empty(RowSet),
+    /// Atoms.
+    Atoms(Box<PackedAtoms>),
+}
 
 /// A proposed update: signed atoms, or `fail`.
 ///
@@ -21,24 +33,20 @@ use std::marker::Model;
 /// relation and row stand twice. So no atom has both signs.
 #[derive(Drop)]
 pub struct Delta {
-    parts: Option<Vec<Part>>,
-    /// Lent for a relation that the delta does not touch.
-    nothing: RowSet,
+    form: Form,
     alloc: Global,
 }
 
 impl Model for Delta {
-    ghost use Rattle.std.specs.Prelude.{◌≡◌, [], IfSome};
     ghost use Rattle.hera_meaning.specs.Deltas.{Delta as PlainDelta};
 
     ghost Value = { PlainDelta };
 
-    ghost use Rattle.delta_atoms.specs.Kept.{delta_of};
-    ghost use Rattle.delta_atoms.specs.Parts.{ArePacked};
+    ghost use Rattle.delta_atoms.specs.Kept.{delta_of, LendsNothing};
 
-    ghost view = { λ d. delta_of d.parts };
+    ghost view = { λ d. delta_of d.form };
 
-    ghost invariant = { λ d. IfSome d.parts (λ ps. ArePacked ps.items) × (d.nothing ≡ []) };
+    ghost invariant = { λ d. LendsNothing d.form };
 }
 
 impl Delta {
@@ -47,8 +55,7 @@ impl Delta {
         ensures { result ≡ atoms [] }
     {
         Delta {
-            parts: Some(Vec::new(alloc)),
-            nothing: RowSet::new(alloc),
+            form: Form::Empty(RowSet::new(alloc)),
             alloc,
         }
     }
@@ -58,10 +65,19 @@ impl Delta {
         ensures { result ≡ fail }
     {
         Delta {
-            parts: None,
-            nothing: RowSet::new(alloc),
+            form: Form::Fail(RowSet::new(alloc)),
             alloc,
         }
+    }
+
+    /// The delta of these atoms.
+    fn of(alloc: Global, kept: PackedAtoms) -> Result<Delta, AllocError>
+        ensures { IfOk result (λ delta. delta ≡ atoms kept) }
+    {
+        Ok(Delta {
+            form: Form::Atoms(Box::new(alloc, kept)?),
+            alloc,
+        })
     }
 
     /// The delta of one atom.
@@ -80,13 +96,7 @@ impl Delta {
         if rows.len() == 0 {
             return Ok(Delta::empty(alloc));
         }
-        let mut parts = Vec::new(alloc);
-        parts.push(Part::one_side(alloc, sign, rel, rows)?)?;
-        Ok(Delta {
-            parts: Some(parts),
-            nothing: RowSet::new(alloc),
-            alloc,
-        })
+        Delta::of(alloc, PackedAtoms::bulk(alloc, sign, rel, rows)?)
     }
 
     /// Whether the delta is `fail`. It takes no memory.
@@ -94,7 +104,15 @@ impl Delta {
         ensures fails { result ≡ is_fail self.now }
         ensures valid { IsDelta self.now }
     {
-        self.parts.is_none()
+        match &self.form {
+            Form::Fail(_) => true,
+            Form::Empty(_) => false,
+            Form::Atoms(kept) => {
+                // for the proof alone: its atoms ascend
+                let _relations = kept.relations();
+                false
+            }
+        }
     }
 
     /// Whether some atom is of the relation. It takes no memory.
@@ -125,12 +143,9 @@ impl Delta {
         ensures rows { result.now ≡ part_of (atoms_in self.now) rel.0 sign }
         ensures valid { IsDelta self.now }
     {
-        match &self.parts {
-            Some(parts) => match parts::search(parts, rel) {
-                Ok(i) => parts[i].side(sign),
-                Err(_) => &self.nothing,
-            },
-            None => &self.nothing,
+        match &self.form {
+            Form::Fail(nothing) | Form::Empty(nothing) => nothing,
+            Form::Atoms(kept) => kept.part(rel, sign),
         }
     }
 
@@ -139,9 +154,9 @@ impl Delta {
         requires { is_fail self.now ≡ false }
         ensures { result ≡ length (atoms_in self.now) }
     {
-        match &self.parts {
-            Some(parts) => parts::count(parts),
-            None => 0,
+        match &self.form {
+            Form::Fail(_) | Form::Empty(_) => 0,
+            Form::Atoms(kept) => kept.count(),
         }
     }
 
@@ -151,9 +166,9 @@ impl Delta {
         ensures next { option_map atom_in result ≡ find (is_after (bound_of bound.entry)) (atoms_in self.now) }
         ensures valid { IsDelta self.now }
     {
-        match &self.parts {
-            Some(parts) => parts::first_after(parts, bound),
-            None => None,
+        match &self.form {
+            Form::Fail(_) | Form::Empty(_) => None,
+            Form::Atoms(kept) => kept.above(bound),
         }
     }
 
@@ -197,10 +212,15 @@ impl Delta {
         ensures ok { OnOk result (self.new ≡ with_last self.old (atom_of sign rel.0 row.now)) }
         ensures err { OnErr result (self.new ≡ self.old) }
     {
-        let alloc = self.alloc;
-        match &mut self.parts {
-            Some(parts) => edits::push_last(parts, alloc, sign, rel, row),
-            None => Ok(()),
+        match &mut self.form {
+            Form::Fail(_) => Ok(()),
+            Form::Empty(_) => {
+                let mut kept = PackedAtoms::new(self.alloc);
+                kept.push_last(sign, rel, row)?;
+                *self = Delta::of(self.alloc, kept)?;
+                Ok(())
+            }
+            Form::Atoms(kept) => kept.push_last(sign, rel, row),
         }
     }
 
@@ -212,13 +232,18 @@ impl Delta {
         ensures err { OnErr result (self.new ≡ self.old) }
     {
         if second.is_fail() {
-            self.parts = None;
+            *self = Delta::fail(self.alloc);
             return Ok(());
         }
-        let alloc = self.alloc;
-        match &mut self.parts {
-            Some(parts) => edits::put_over(parts, alloc, second),
-            None => Ok(()),
+        match &mut self.form {
+            Form::Fail(_) => Ok(()),
+            Form::Empty(_) => {
+                let mut kept = PackedAtoms::new(self.alloc);
+                kept.put_over(second)?;
+                *self = Delta::of(self.alloc, kept)?;
+                Ok(())
+            }
+            Form::Atoms(kept) => kept.put_over(second),
         }
     }
 
@@ -226,19 +251,11 @@ impl Delta {
     pub fn copy(&self) -> Result<Delta, AllocError>
         ensures { IfOk result (λ copy. copy ≡ self.now) }
     {
-        let alloc = self.alloc;
-        let Some(parts) = &self.parts else {
-            return Ok(Delta::fail(alloc));
-        };
-        let mut copies = Vec::with_capacity(alloc, parts.len())?;
-        for part in parts {
-            copies.push(part.copy()?)?;
+        match &self.form {
+            Form::Fail(_) => Ok(Delta::fail(self.alloc)),
+            Form::Empty(_) => Ok(Delta::empty(self.alloc)),
+            Form::Atoms(kept) => Delta::of(self.alloc, kept.copy()?),
         }
-        Ok(Delta {
-            parts: Some(copies),
-            nothing: RowSet::new(alloc),
-            alloc,
-        })
     }
 }
 

@@ -7,6 +7,7 @@
 mod atom;
 mod delta;
 mod edits;
+mod packed_atoms;
 mod parts;
 mod value;
 

@@ -2,7 +2,7 @@
 use Rattle.std.proofs.Common.{◌≡◌, ℕ, zero, suc, ◌+◌, ◌-◌, ◌<◌, ◌≤◌, List, [], ◌∷◌, ◌++◌, length, take, drop, get_or, map, max, refl, sym, ap, ◌∙◌, subst, arith, add-one}
 use Rattle.std.specs.Prelude.{slice_set}
 use Rattle.std.proofs.Math.Seq.{take-suc, take-append_seam}
-use Rattle.std.proofs.lemmas.List.{take_all, take-append-drop, take_more_set, length-take-le, length-drop, drop-append-le}
+use Rattle.std.proofs.lemmas.List.{take_all, take-append-drop, take_more_set, take-set-le, drop_at, length-take-le, length-drop, drop-append-le}
 use Rattle.hera_prims.specs.Newest.{newest}
 use Rattle.hera_prims.proofs.Stacks.{newest_push, newest_length}
 use Rattle.hera_meaning.specs.Deltas.{State}
@@ -32,9 +32,10 @@ reach_set (o ∷ os) (suc i) x d h le =
 
 -- ---- one by one
 
--- of the operands that were: those from a place up to the counted one have their values, what is collected is the
--- same, and no more layers are named
+-- of the operands that were: those before a place stay, those from there up to the counted one have their values, what
+-- is collected is the same, and no more layers are named
 pub record IsHolding (s : State) (ls : List Layer) (old new : List Operand) (from i : ℕ) : Type 0 where
+  pub older : take from new ≡ take from old
   pub first : AreHeld (newest item_of (drop from (take i new)))
   pub same : all_collected s ls new ≡ all_collected s ls old
   pub low : reach (newest item_of new) ≤ reach (newest item_of old)
@@ -46,6 +47,7 @@ nothing_taken (suc n) (x ∷ xs) = nothing_taken n xs
 
 pub holding_start : (s : State) (ls : List Layer) (os : List Operand) (from : ℕ) → IsHolding s ls os os from from
 holding_start s ls os from = record {
+  older = refl;
   first = subst (λ xs. AreHeld (newest item_of xs)) (sym (nothing_taken from os)) tt;
   same = refl;
   low = omega arith;
@@ -67,6 +69,7 @@ holding_put s ls old os new from i x o f h e has none has_value itself put c =
     let same : collected s ls (item_of x) ≡ collected s ls (item_of (get_or os i o)) = itself ∙ sym has_value ∙ ap (λ y. collected s ls (item_of y)) e in
     let low : reach (newest item_of (slice_set os i x)) ≤ reach (newest item_of os) = reach_set os i x o h (omega (arith, none)) in
     record {
+      older = ap (take from) put ∙ take-set-le from os i x f ∙ c.older;
       first = more_at os (take (i + 1) new) from i x f (omega (arith, h)) (ap (take (i + 1)) put ∙ take_more_set os i x h) has c.first;
       same = ap (all_collected s ls) put ∙ newest_set (λ y. collected s ls (item_of y)) os i x o h same ∙ c.same;
       low = let l : reach (newest item_of new) ≡ reach (newest item_of (slice_set os i x)) = ap (λ ys. reach (newest item_of ys)) put in let k = c.low in omega (arith, l, low, k);
@@ -74,6 +77,7 @@ holding_put s ls old os new from i x o f h e has none has_value itself put c =
 
 pub holding_skip : (s : State) (ls : List Layer) (old os : List Operand) (from i : ℕ) (o : Operand) → from ≤ i → i < length os → o ≡ get_or os i o → IsHeld (item_of o) → IsHolding s ls old os from i → IsHolding s ls old os from (i + 1)
 holding_skip s ls old os from i o f h e has c = record {
+  older = c.older;
   first = more_at os (take (i + 1) os) from i o f (omega (arith, h)) (ap (λ k. take k os) (add-one i) ∙ take-suc os i o h ∙ ap (λ y. take i os ++ y ∷ []) (sym e)) has c.first;
   same = c.same;
   low = c.low;
@@ -89,15 +93,29 @@ newest_append : {A B : Type 0} → (f : A → B) (xs ys : List A) → newest f (
 newest_append f [] ys = sym (Rattle.std.proofs.lemmas.List.append-nil (newest f ys))
 newest_append f (x ∷ xs) ys = ap (λ zs. zs ++ f x ∷ []) (newest_append f xs ys) ∙ Rattle.std.proofs.Common.append_assoc (newest f ys) (newest f xs) (f x ∷ [])
 
+-- how many the newest ones are
+newest_many : (os : List Operand) (from n : ℕ) → from + n ≡ length os → length (newest item_of (drop from os)) ≡ n
+newest_many os from n h = let l = newest_length item_of (drop from os) in let d = length-drop from os in omega (arith, l, d, h)
+
+newest_parts : (os : List Operand) (from : ℕ) → newest item_of os ≡ newest item_of (drop from os) ++ newest item_of (take from os)
+newest_parts os from = ap (newest item_of) (sym (take-append-drop from os)) ∙ newest_append item_of (take from os) (drop from os)
+
 -- the newest ones stand last
 newest_last : (os : List Operand) (from n : ℕ) → from + n ≡ length os → take n (newest item_of os) ≡ newest item_of (drop from os)
 newest_last os from n h =
-    let many : length (newest item_of (drop from os)) ≡ n =
-    (let l = newest_length item_of (drop from os) in let d = length-drop from os in omega (arith, l, d, h)) in
-    ap (λ xs. take n (newest item_of xs)) (sym (take-append-drop from os))
-    ∙ ap (take n) (newest_append item_of (take from os) (drop from os))
-    ∙ ap (λ k. take k (newest item_of (drop from os) ++ newest item_of (take from os))) (sym many)
+    ap (take n) (newest_parts os from)
+    ∙ ap (λ k. take k (newest item_of (drop from os) ++ newest item_of (take from os))) (sym (newest_many os from n h))
     ∙ take-append_seam (newest item_of (drop from os)) (newest item_of (take from os))
+
+-- and the others before them
+newest_rest : (os : List Operand) (from n : ℕ) → from + n ≡ length os → drop n (newest item_of os) ≡ newest item_of (take from os)
+newest_rest os from n h =
+    ap (drop n) (newest_parts os from)
+    ∙ drop_at (newest item_of (drop from os)) (newest item_of (take from os)) n (newest_many os from n h)
+
+-- those before the place are the others
+pub older_rest : (old new : List Operand) (from n : ℕ) → from + n ≡ length old → length new ≡ length old → take from new ≡ take from old → drop n (newest item_of new) ≡ drop n (newest item_of old)
+older_rest old new from n h l e = newest_rest new from n (h ∙ sym l) ∙ ap (newest item_of) e ∙ sym (newest_rest old from n h)
 
 pub holding_end : (s : State) (ls : List Layer) (old os : List Operand) (from n i : ℕ) → from + n ≡ length os → length os ≤ i → IsHolding s ls old os from i → AreHeld (take n (newest item_of os))
 holding_end s ls old os from n i h at c =

@@ -273,8 +273,8 @@ impl Operands {
         false
     }
 
-    /// Collects the rows of those of the newest `n` operands that name a relation. The others name what they
-    /// named. Without memory some of them may be collected.
+    /// Collects the rows of those of the newest `n` operands that name a relation, and of no other. Without memory some
+    /// of them may be collected.
     pub fn hold_newest(
         &mut self,
         n: usize,
@@ -285,6 +285,7 @@ impl Operands {
     ) -> Result<(), AllocError>
         requires { n ≤ length self.old.items }
         ensures held { OnOk result (AreHeld (take n self.new.items)) }
+        ensures rest { drop n self.new.items ≡ drop n self.old.items }
         ensures same { let s = after_all base.now.state commits.now in map (collected s changes.now.layers) self.new.items ≡ map (collected s changes.now.layers) self.old.items }
         ensures reach { reach self.new.items ≤ reach self.old.items }
     {
@@ -379,6 +380,7 @@ fn hold_from(
 ) -> Result<(), AllocError>
     requires { from ≤ vec_len items.old }
     ensures held { OnOk result (AreHeld (take (vec_len items.old - from) (newest item_of items.new.items))) }
+    ensures older { take from items.new.items ≡ take from items.old.items }
     ensures same { let s = after_all base.now.state commits.now in map (collected s changes.now.layers) (newest item_of items.new.items) ≡ map (collected s changes.now.layers) (newest item_of items.old.items) }
     ensures reach { reach (newest item_of items.new.items) ≤ reach (newest item_of items.old.items) }
     ensures len { vec_len items.new ≡ vec_len items.old }

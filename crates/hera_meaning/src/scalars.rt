@@ -10,10 +10,10 @@ use thiserror::Error;
 /// The most bytes of a text.
 pub const TEXT_LIMIT: usize = 255;
 
-/// A text: UTF-8 of at most 255 bytes without U+0000.
+/// A text: UTF-8 of at most 255 bytes without U+0000. Its bytes lie behind one pointer, so that a scalar is small.
 #[derive(Drop)]
 pub struct Text {
-    bytes: Vec<u8>,
+    bytes: Box<Vec<u8>>,
 }
 
 impl Model for Text {
@@ -22,9 +22,9 @@ impl Model for Text {
 
     ghost Value = { List ℕ };
 
-    ghost view = { λ t. t.bytes.items };
+    ghost view = { λ t. t.bytes.value.items };
 
-    ghost invariant = { λ t. IsText t.bytes.items };
+    ghost invariant = { λ t. IsText t.bytes.value.items };
 }
 
 /// Why bytes are no text. The causes are tested in this order, memory last.
@@ -62,9 +62,8 @@ impl Text {
         if bytes.len() > TEXT_LIMIT {
             return Err(TextFault::TooLong);
         }
-        let mut copy = Vec::new(alloc);
-        match copy.extend_from_slice(bytes) {
-            Ok(()) => Ok(Text { bytes: copy }),
+        match boxed(alloc, bytes) {
+            Ok(bytes) => Ok(Text { bytes }),
             Err(_) => Err(TextFault::Memory),
         }
     }
@@ -81,10 +80,18 @@ impl Text {
     pub fn copy(&self) -> Result<Text, AllocError>
         ensures { IfOk result (λ text. text ≡ self.now) }
     {
-        let mut bytes = Vec::new(*self.bytes.allocator());
-        bytes.extend_from_slice(&self.bytes)?;
-        Ok(Text { bytes })
+        let alloc = *self.bytes.allocator();
+        Ok(Text {
+            bytes: boxed(alloc, &self.bytes)?,
+        })
     }
+}
+
+/// A copy of the bytes, on the heap.
+fn boxed(alloc: Global, bytes: &[u8]) -> Result<Box<Vec<u8>>, AllocError>
+    ensures { IfOk result (λ copy. copy.value.items ≡ bytes.now) }
+{
+    Ok(Box::new(alloc, Vec::from_slice(alloc, bytes)?)?)
 }
 
 /// The name of a relation, an attribute, a func or a proc.

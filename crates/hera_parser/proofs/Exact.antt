@@ -5,9 +5,9 @@ use Rattle.hera_syntax.specs.declared.token.Terminal.{Terminal}
 use Rattle.hera_syntax.specs.Grammar.{Allows, terminal_of, is_one_of, Production, Part, keep, leave, phrase, alternatives, alternative}
 use Rattle.hera_syntax.specs.Outline.{Mark, at_node, kept, left_out}
 use Rattle.hera_syntax.specs.Trees.{printed, Agree, at_end, one_more, Obeys, no_part, keeps, leaves, produces, Begins, so_far, begins_kept, begins_left, begins_phrase}
-use Rattle.hera_parser.specs.Reading.{next_terminal, nullable, choice, accept, stuck, Runs, finished, left_over, kept_one, kept_missed, kept_ended, left_one, left_missed, left_ended, chosen}
-use Rattle.hera_parser.proofs.Tests.{true_not_false, and_both, one_same, self_one}
-use Rattle.hera_parser.proofs.Tables.{Good, good_chosen, told_by_token, choice_at_end, choice_within, all_nullable, all_nullable_append, empty_alternative}
+use Rattle.hera_parser_exprs.specs.Reading.{next_terminal, nullable, choice, accept, stuck, Runs, finished, left_over, kept_one, kept_missed, kept_ended, left_one, left_missed, left_ended, chosen}
+use Rattle.hera_parser_exprs.proofs.Tests.{true_not_false, and_both, one_same, self_one}
+use Rattle.hera_parser_exprs.proofs.Tables.{Good, good_chosen, told_by_token, choice_at_end, choice_within, all_nullable, all_nullable_append, empty_alternative}
 
 within : (s : Production) (k : ℕ) (t : Option Terminal) → choice s t ≡ k → k < length (alternatives s)
 within s k t e = subst (λ x. x < length (alternatives s)) e (choice_within s t)

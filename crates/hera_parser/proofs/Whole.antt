@@ -7,9 +7,10 @@ use Rattle.hera_syntax.specs.Grammar as phrases
 use Rattle.hera_syntax.specs.Outline.{Mark}
 use Rattle.hera_syntax.specs.Programs.{outline}
 use Rattle.hera_syntax.specs.Trees.{IsTextOf, IsFaultAt}
-use Rattle.hera_parser.specs.Reading.{Runs, accept, stuck, finished, left_over, Gives, Sticks, ReadsProgram, StopsBefore}
+use Rattle.hera_parser_exprs.specs.Reading.{Runs, accept, stuck, finished, left_over, Gives, Sticks}
+use Rattle.hera_parser.specs.Reading.{ReadsProgram, StopsBefore}
 use Rattle.hera_parser.proofs.Exact.{accepted_obeys, accepted_agrees, stuck_begins, stuck_no_more, stuck_no_text, one_outline, stuck_length}
-use Rattle.hera_parser.proofs.Tables.{alone}
+use Rattle.hera_parser_exprs.proofs.Tables.{alone}
 
 place_is : (k left long front : ℕ) → long ≡ front + left → k + left ≡ long → k ≡ front
 place_is k left long front e h = omega arith

@@ -1,5 +1,4 @@
 pub mod Reading
 pub mod Pieces
 pub mod Beginnings
-pub mod Parts
 pub mod Numbers

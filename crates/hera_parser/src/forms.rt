@@ -1,62 +1,12 @@
-// The forms of an expression that no operator splits, and literals.
+// The forms of a statement.
 
-ghost use Rattle.std.specs.Prelude.{◌<◌, [], ◌∷◌, length, take, IfOk, OnOk, IsErrOf};
-ghost use Rattle.hera_syntax.specs.Grammar.{alternatives, phrase};
 ghost use Rattle.hera_syntax.specs.Grammar as phrases;
-ghost use Rattle.hera_syntax.specs.Outline.{prime_outline};
-ghost use Rattle.hera_parser.specs.Numbers.{prime_number, stmt_number};
-ghost use Rattle.hera_parser.specs.Reading.{BeginsNone, Tells, Gives, Sticks};
+ghost use Rattle.hera_parser.specs.Numbers.{stmt_number};
+ghost use Rattle.hera_parser_exprs.specs.Reading.{Tells};
 
-use crate::parser::{Parser, Stop};
-use crate::terminals::{
-    APPLY, ASSERT, BRACE, BULK, COMMIT, FAIL, FALSE, FOLD_WORDS, FOREACH, GROUP, IF, INT,
-    MEASURE_WORDS, NAME, PAIR_WORDS, PAREN, PRINT, PROJECT, RENAME, ROLLBACK, ROWS, SQUARE, TEXT,
-    TRUE, TYPE_STARTS, WALK_WORDS, WHILE,
-};
-use hera_syntax::Prime;
-
-/// The form of an expression that no operator splits.
-#[derive(Clone, Copy)]
-pub enum PrimeForm {
-    /// An int literal.
-    Int,
-    /// A text literal.
-    Text,
-    /// `true`
-    True,
-    /// `false`
-    False,
-    /// `fail`
-    Fail,
-    /// A name or a call.
-    Name,
-    /// An expression in brackets.
-    Paren,
-    /// A tuple literal.
-    Row,
-    /// A delta literal.
-    Delta,
-    /// A relation literal.
-    Rows,
-    /// A `select` or `map`.
-    Walk,
-    /// A projection.
-    Project,
-    /// A renaming.
-    Rename,
-    /// A `union`, `minus`, `inter` or `join`.
-    Pair,
-    /// A grouping.
-    Group,
-    /// A `count`, `empty` or `isfail`.
-    Measure,
-    /// A `sum`, `min` or `max`.
-    Fold,
-    /// A `bulk`.
-    Bulk,
-    /// An `ins` or `del`.
-    Part,
-}
+use crate::terminals::{APPLY, ASSERT, COMMIT, FOREACH, IF, PRINT, ROLLBACK, TYPE_STARTS, WHILE};
+use hera_parser_exprs::Parser;
+use hera_parser_exprs::terminals::NAME;
 
 /// The form of a statement.
 #[derive(Clone, Copy)]
@@ -85,165 +35,39 @@ pub enum StmtForm {
     Return,
 }
 
-impl<'a> Parser<'a> {
-    /// The form that the next token tells. It is the last one where the token begins none.
-    pub fn prime_form(&self) -> PrimeForm
-        ensures { Tells phrases.prime (prime_number result) self.now }
-    {
-        if self.next_is(INT) {
-            return PrimeForm::Int;
-        }
-        if self.next_is(TEXT) {
-            return PrimeForm::Text;
-        }
-        if self.next_is(TRUE) {
-            return PrimeForm::True;
-        }
-        if self.next_is(FALSE) {
-            return PrimeForm::False;
-        }
-        if self.next_is(FAIL) {
-            return PrimeForm::Fail;
-        }
-        if self.next_is(NAME) {
-            return PrimeForm::Name;
-        }
-        if self.next_is(PAREN) {
-            return PrimeForm::Paren;
-        }
-        if self.next_is(SQUARE) {
-            return PrimeForm::Row;
-        }
-        if self.next_is(BRACE) {
-            return PrimeForm::Delta;
-        }
-        self.keyword_form()
+/// The form that the next token tells. It is the last one where the token begins none.
+pub(crate) fn stmt_form(parser: &Parser<'_>) -> StmtForm
+    ensures { Tells phrases.stmt (stmt_number result) parser.now }
+{
+    if parser.next_is(TYPE_STARTS) {
+        return StmtForm::Declare;
     }
-
-    /// The form that the next token tells, where it is none of the first nine.
-    fn keyword_form(&self) -> PrimeForm
-        requires { BeginsNone (take 9 (alternatives phrases.prime)) self.now }
-        ensures { Tells phrases.prime (prime_number result) self.now }
-    {
-        if self.next_is(ROWS) {
-            return PrimeForm::Rows;
-        }
-        if self.next_is(WALK_WORDS) {
-            return PrimeForm::Walk;
-        }
-        if self.next_is(PROJECT) {
-            return PrimeForm::Project;
-        }
-        if self.next_is(RENAME) {
-            return PrimeForm::Rename;
-        }
-        if self.next_is(PAIR_WORDS) {
-            return PrimeForm::Pair;
-        }
-        if self.next_is(GROUP) {
-            return PrimeForm::Group;
-        }
-        if self.next_is(MEASURE_WORDS) {
-            return PrimeForm::Measure;
-        }
-        if self.next_is(FOLD_WORDS) {
-            return PrimeForm::Fold;
-        }
-        if self.next_is(BULK) {
-            return PrimeForm::Bulk;
-        }
-        PrimeForm::Part
+    if parser.next_is(NAME) {
+        return StmtForm::Named;
     }
-
-    /// The form that the next token tells. It is the last one where the token begins none.
-    pub fn stmt_form(&self) -> StmtForm
-        ensures { Tells phrases.stmt (stmt_number result) self.now }
-    {
-        if self.next_is(TYPE_STARTS) {
-            return StmtForm::Declare;
-        }
-        if self.next_is(NAME) {
-            return StmtForm::Named;
-        }
-        if self.next_is(IF) {
-            return StmtForm::If;
-        }
-        if self.next_is(WHILE) {
-            return StmtForm::While;
-        }
-        if self.next_is(FOREACH) {
-            return StmtForm::Foreach;
-        }
-        if self.next_is(PRINT) {
-            return StmtForm::Print;
-        }
-        if self.next_is(APPLY) {
-            return StmtForm::Apply;
-        }
-        if self.next_is(ASSERT) {
-            return StmtForm::Assert;
-        }
-        if self.next_is(COMMIT) {
-            return StmtForm::Commit;
-        }
-        if self.next_is(ROLLBACK) {
-            return StmtForm::Rollback;
-        }
-        StmtForm::Return
+    if parser.next_is(IF) {
+        return StmtForm::If;
     }
-
-    /// An int literal.
-    pub fn int(&mut self) -> Result<Prime, Stop>
-        requires { Tells phrases.prime 0 self.old }
-        ensures reads { IfOk result (λ tree. Gives (phrase phrases.prime ∷ []) self.old (prime_outline tree) [] self.new) }
-        ensures sticks { IsErrOf result Stop.Syntax → Sticks (phrase phrases.prime ∷ []) self.old self.new }
-        ensures shorter { OnOk result (length self.new < length self.old) }
-    {
-        let token = self.keep(INT)?;
-        Ok(Prime::int(token))
+    if parser.next_is(WHILE) {
+        return StmtForm::While;
     }
-
-    /// A text literal.
-    pub fn text(&mut self) -> Result<Prime, Stop>
-        requires { Tells phrases.prime 1 self.old }
-        ensures reads { IfOk result (λ tree. Gives (phrase phrases.prime ∷ []) self.old (prime_outline tree) [] self.new) }
-        ensures sticks { IsErrOf result Stop.Syntax → Sticks (phrase phrases.prime ∷ []) self.old self.new }
-        ensures shorter { OnOk result (length self.new < length self.old) }
-    {
-        let token = self.keep(TEXT)?;
-        Ok(Prime::text(token))
+    if parser.next_is(FOREACH) {
+        return StmtForm::Foreach;
     }
-
-    /// `true`
-    pub fn true_word(&mut self) -> Result<Prime, Stop>
-        requires { Tells phrases.prime 2 self.old }
-        ensures reads { IfOk result (λ tree. Gives (phrase phrases.prime ∷ []) self.old (prime_outline tree) [] self.new) }
-        ensures sticks { IsErrOf result Stop.Syntax → Sticks (phrase phrases.prime ∷ []) self.old self.new }
-        ensures shorter { OnOk result (length self.new < length self.old) }
-    {
-        let token = self.keep(TRUE)?;
-        Ok(Prime::true_word(token))
+    if parser.next_is(PRINT) {
+        return StmtForm::Print;
     }
-
-    /// `false`
-    pub fn false_word(&mut self) -> Result<Prime, Stop>
-        requires { Tells phrases.prime 3 self.old }
-        ensures reads { IfOk result (λ tree. Gives (phrase phrases.prime ∷ []) self.old (prime_outline tree) [] self.new) }
-        ensures sticks { IsErrOf result Stop.Syntax → Sticks (phrase phrases.prime ∷ []) self.old self.new }
-        ensures shorter { OnOk result (length self.new < length self.old) }
-    {
-        let token = self.keep(FALSE)?;
-        Ok(Prime::false_word(token))
+    if parser.next_is(APPLY) {
+        return StmtForm::Apply;
     }
-
-    /// `fail`
-    pub fn fail_word(&mut self) -> Result<Prime, Stop>
-        requires { Tells phrases.prime 4 self.old }
-        ensures reads { IfOk result (λ tree. Gives (phrase phrases.prime ∷ []) self.old (prime_outline tree) [] self.new) }
-        ensures sticks { IsErrOf result Stop.Syntax → Sticks (phrase phrases.prime ∷ []) self.old self.new }
-        ensures shorter { OnOk result (length self.new < length self.old) }
-    {
-        let token = self.keep(FAIL)?;
-        Ok(Prime::fail_word(token))
+    if parser.next_is(ASSERT) {
+        return StmtForm::Assert;
     }
+    if parser.next_is(COMMIT) {
+        return StmtForm::Commit;
+    }
+    if parser.next_is(ROLLBACK) {
+        return StmtForm::Rollback;
+    }
+    StmtForm::Return
 }

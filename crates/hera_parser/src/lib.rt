@@ -2,11 +2,8 @@
 #![tactic(auto)]
 
 mod decls;
-mod exprs;
 mod forms;
 pub mod laws;
-mod lists;
-mod parser;
 mod program;
 mod reading;
 mod simple;

@@ -1,7 +1,8 @@
 ghost use Rattle.std.specs.Prelude.{ℕ, IfOk, IsErrOf};
 ghost use Rattle.hera_syntax.specs.Trees.{IsTextOf, IsFaultAt};
 
-use crate::parser::{Parser, Stop};
+use crate::program::program;
+use hera_parser_exprs::{Parser, Stop};
 use hera_syntax::{Tokens, Tree};
 use std::alloc::Global;
 use thiserror::Error;
@@ -28,7 +29,7 @@ pub fn parse(alloc: Global, tokens: &Tokens) -> Result<Tree, ParseFault>
 {
     let items = tokens.items();
     let mut parser = Parser::new(items);
-    match parser.program(alloc) {
+    match program(&mut parser, alloc) {
         Ok(tree) => {
             let left = parser.left();
             if left == 0 {

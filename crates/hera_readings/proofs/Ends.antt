@@ -8,9 +8,9 @@ use Rattle.hera_syntax.specs.declared.token.Terminal.{Terminal}
 use Rattle.hera_syntax.specs.Grammar.{terminal_of, is_one_of, Production, Part, keep, leave, phrase, alternatives, alternative}
 use Rattle.hera_syntax.specs.Grammar as phrases
 use Rattle.hera_syntax.specs.Outline.{Mark, at_node, kept, left_out}
-use Rattle.hera_parser.specs.Reading.{nullable, next_terminal, choice, End, accept, stuck, Runs, finished, left_over, kept_one, kept_missed, kept_ended, left_one, left_missed, left_ended, chosen}
-use Rattle.hera_parser.proofs.Tests.{bool_cases}
-use Rattle.hera_parser.proofs.Tables.{all_nullable, empty_alternative, choice_within}
+use Rattle.hera_parser_exprs.specs.Reading.{nullable, next_terminal, choice, End, accept, stuck, Runs, finished, left_over, kept_one, kept_missed, kept_ended, left_one, left_missed, left_ended, chosen}
+use Rattle.hera_parser_exprs.proofs.Tests.{bool_cases}
+use Rattle.hera_parser_exprs.proofs.Tables.{all_nullable, empty_alternative, choice_within}
 
 -- how many productions at most are chosen one after the other before a token of a phrase is looked at
 abbrev pub rank : Production → ℕ

@@ -8,7 +8,8 @@ use Rattle.hera_syntax.specs.Outline.{Mark}
 use Rattle.hera_syntax.specs.Programs.{outline}
 use Rattle.hera_syntax.specs.Tokens.{script_limit}
 use Rattle.hera_syntax.specs.Trees.{Printed, Agree, at_end, one_more, IsTextOf, IsFaultAt}
-use Rattle.hera_parser.specs.Reading.{Runs, End, accept, stuck, ReadsProgram, StopsBefore}
+use Rattle.hera_parser_exprs.specs.Reading.{Runs, End, accept, stuck}
+use Rattle.hera_parser.specs.Reading.{ReadsProgram, StopsBefore}
 use Rattle.hera_parser.proofs.Exact.{accepted_obeys, accepted_agrees, stuck_length}
 use Rattle.hera_readings.proofs.Ends.{ended}
 use Rattle.hera_readings.proofs.Trees.{tree_of}

@@ -5,6 +5,7 @@
 //! there.
 #![tactic(auto)]
 
+mod packing;
 mod row_buf;
 mod row_set;
 mod sorted;

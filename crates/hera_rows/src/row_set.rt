@@ -1,58 +1,28 @@
-//! A set of rows in one buffer.
-ghost use Rattle.std.specs.Prelude.{◌≡◌, ◌↔◌, IsTrue, true, false, ◌+◌, ◌^◌, List, [], ◌∷◌, ◌++◌, ℕ, ◌<◌, ◌≤◌, length, not, insert, IfOk, OnOk, OnErr, MatchResult, slice_get, Some};
-ghost use Rattle.std.specs.List.{find};
-ghost use Rattle.std.specs.Option.{option_copied};
-ghost use Rattle.hera_sets.specs.Rows.{is_past, IsAscending, put, holds, without};
-ghost use Rattle.hera_rows.specs.Packed.{IsWithin, cut};
-ghost use Rattle.hera_rows.specs.Places.{IsPlace};
+//! Sets of rows.
+ghost use Rattle.std.specs.Prelude.{◌≡◌, ◌↔◌, IsTrue, [], ◌∷◌, ◌++◌, ◌<◌, length, not, IfOk, OnOk, OnErr, slice_get, Some};
+ghost use Rattle.hera_sets.specs.Rows.{IsAscending, put, holds, without};
 
 use super::Sorted;
-use hera_sets::is_same;
+use super::packing::Packing;
 use std::alloc::{AllocError, Global};
-use std::cmp::Ordering;
 use std::marker::Model;
-
-/// How many bytes of no row a set may keep beside half of its buffer.
-const SLACK: usize = 256;
-
-/// Where a row lies in the bytes.
-#[derive(Clone, Copy)]
-struct Span {
-    start: usize,
-    end: usize,
-}
 
 /// A strictly ascending list of rows, packed in one buffer.
 ///
-/// The bytes lie in the order in which the rows came, and the spans in the order of the rows. So an
-/// insertion moves spans alone, and a growth that is refused leaves the set as it was. The bytes of
-/// a row that was taken out stay, until they pass half of all and 256 more: the next row put in then
-/// packs anew.
+/// A set of no rows has no buffer, so that it takes no memory, and little place wherever it stands.
 #[derive(Drop)]
 pub struct RowSet {
-    bytes: Vec<u8>,
-    spans: Vec<Span>,
-    /// How many of the bytes are of no row: of rows that were taken out, or refused.
-    dead: usize,
+    kept: Option<Box<Packing>>,
+    alloc: Global,
 }
 
 impl Model for RowSet {
     ghost use Rattle.std.specs.Prelude.{List, ℕ};
-    ghost use Rattle.hera_rows.specs.Packed.{rows_of, IsKept};
+    ghost use Rattle.hera_rows.specs.Boxed.{rows_kept};
 
     ghost Value = { List (List ℕ) };
 
-    ghost view = { λ set. rows_of set.bytes.items set.spans.items };
-
-    ghost invariant = { λ set. IsKept set.bytes.items set.spans.items set.dead };
-}
-
-/// The bytes of a span.
-fn cut(bytes: &[u8], span: Span) -> &[u8]
-    requires { IsWithin (length bytes.now) span }
-    ensures { result.now ≡ cut bytes.now span }
-{
-    &bytes[span.start..span.end]
+    ghost view = { λ set. rows_kept set.kept };
 }
 
 impl RowSet {
@@ -60,11 +30,17 @@ impl RowSet {
     pub fn new(alloc: Global) -> RowSet
         ensures { result ≡ [] }
     {
-        RowSet {
-            bytes: Vec::new(alloc),
-            spans: Vec::new(alloc),
-            dead: 0,
-        }
+        RowSet { kept: None, alloc }
+    }
+
+    /// The set of these rows, in a place of their own.
+    fn of(alloc: Global, rows: Packing) -> Result<RowSet, AllocError>
+        ensures { IfOk result (λ set. set ≡ rows) }
+    {
+        Ok(RowSet {
+            kept: Some(Box::new(alloc, rows)?),
+            alloc,
+        })
     }
 
     /// How many rows there are.
@@ -72,7 +48,10 @@ impl RowSet {
         ensures count { result ≡ length self.now }
         ensures ordered { IsAscending self.now }
     {
-        self.spans.len()
+        match &self.kept {
+            None => 0,
+            Some(rows) => rows.len(),
+        }
     }
 
     /// The row at place `i`, counted from 0.
@@ -80,7 +59,10 @@ impl RowSet {
         requires { i < length self.now }
         ensures { slice_get self.now i ≡ Some result.now }
     {
-        cut(&self.bytes, self.spans[i])
+        match &self.kept {
+            None => &[],
+            Some(rows) => rows.row(i),
+        }
     }
 
     /// Takes the row in, and answers whether it is new. Without memory all is as before.
@@ -89,11 +71,12 @@ impl RowSet {
         ensures ok { OnOk result (self.new ≡ put row.now self.old) }
         ensures err { OnErr result (self.new ≡ self.old) }
     {
-        self.tighten()?;
-        match self.search(row) {
-            Ok(_) => Ok(false),
-            Err(i) => {
-                self.put_at(i, row)?;
+        match &mut self.kept {
+            Some(rows) => rows.insert(row),
+            None => {
+                let mut rows = Packing::new(self.alloc);
+                rows.push_last(row)?;
+                *self = RowSet::of(self.alloc, rows)?;
                 Ok(true)
             }
         }
@@ -106,8 +89,15 @@ impl RowSet {
         ensures ok { OnOk result (self.new ≡ self.old ++ row.now ∷ []) }
         ensures err { OnErr result (self.new ≡ self.old) }
     {
-        self.tighten()?;
-        self.append(row)
+        match &mut self.kept {
+            Some(rows) => rows.push_last(row),
+            None => {
+                let mut rows = Packing::new(self.alloc);
+                rows.push_last(row)?;
+                *self = RowSet::of(self.alloc, rows)?;
+                Ok(())
+            }
+        }
     }
 
     /// Takes the row out, and answers whether it was there. It takes no memory.
@@ -115,13 +105,9 @@ impl RowSet {
         ensures found { result ≡ holds self.old row.now }
         ensures removed { self.new ≡ without row.now self.old }
     {
-        match self.search(row) {
-            Ok(i) => {
-                let span = self.spans.remove(i);
-                self.dead += span.end - span.start;
-                true
-            }
-            Err(_) => false,
+        match &mut self.kept {
+            None => false,
+            Some(rows) => rows.remove(row),
         }
     }
 
@@ -129,104 +115,20 @@ impl RowSet {
     pub fn copy(&self) -> Result<RowSet, AllocError>
         ensures { IfOk result (λ copy. copy ≡ self.now) }
     {
-        let alloc = *self.bytes.allocator();
-        let mut copy = RowSet {
-            bytes: Vec::with_capacity(alloc, self.bytes.len() - self.dead)?,
-            spans: Vec::with_capacity(alloc, self.spans.len())?,
-            dead: 0,
-        };
-        for i in 0..self.len() {
-            copy.append(self.row(i))?;
+        match &self.kept {
+            None => Ok(RowSet::new(self.alloc)),
+            Some(rows) => RowSet::of(self.alloc, rows.copy()?),
         }
-        Ok(copy)
     }
 
     /// Whether both have the same rows. It takes no memory.
     pub fn equal(&self, other: &RowSet) -> bool
         ensures { IsTrue result ↔ (self.now ≡ other.now) }
     {
-        if self.len() != other.len() {
-            return false;
+        match (&self.kept, &other.kept) {
+            (Some(rows), Some(others)) => rows.equal(others),
+            _ => self.len() == 0 && other.len() == 0,
         }
-        for i in 0..self.len() {
-            if !is_same(self.row(i), other.row(i)) {
-                return false;
-            }
-        }
-        true
-    }
-
-    /// The place of a row that is there, and else the place at which it would be.
-    fn search(&self, row: &[u8]) -> Result<usize, usize>
-        ensures place { MatchResult result (IsPlace self.now row.now true) (IsPlace self.now row.now false) }
-        ensures within { IfOk result (λ i. i + 1 < 2 ^ 64) }
-        ensures ordered { IsAscending self.now }
-    {
-        let mut low = 0;
-        let mut high = self.len();
-        while low < high {
-            let middle = low + (high - low) / 2;
-            match self.row(middle).cmp(row) {
-                Ordering::Less => low = middle + 1,
-                Ordering::Equal => return Ok(middle),
-                Ordering::Greater => high = middle,
-            }
-        }
-        Err(low)
-    }
-
-    /// The place of the first row past the bound, or the number of rows where there is none.
-    fn start(&self, bound: Option<&[u8]>) -> usize
-        ensures { slice_get self.now result ≡ find (is_past (option_copied bound.entry)) self.now }
-    {
-        match bound {
-            None => 0,
-            Some(row) => match self.search(row) {
-                Ok(i) => i + 1,
-                Err(i) => i,
-            },
-        }
-    }
-
-    /// Puts a row at a place at which the rows stay in order.
-    fn put_at(&mut self, i: usize, row: &[u8]) -> Result<(), AllocError>
-        requires within { i ≤ length self.old }
-        requires ordered { IsAscending (insert self.old i row.now) }
-        ensures ok { OnOk result (self.new ≡ insert self.old i row.now) }
-        ensures err { OnErr result (self.new ≡ self.old) }
-    {
-        let start = self.bytes.len();
-        self.bytes.extend_from_slice(row)?;
-        let end = self.bytes.len();
-        self.dead += row.len();
-        self.spans.insert(i, Span { start, end })?;
-        self.dead -= row.len();
-        Ok(())
-    }
-
-    /// Puts a row behind all others.
-    fn append(&mut self, row: &[u8]) -> Result<(), AllocError>
-        requires { IsAscending (self.old ++ row.now ∷ []) }
-        ensures ok { OnOk result (self.new ≡ self.old ++ row.now ∷ []) }
-        ensures err { OnErr result (self.new ≡ self.old) }
-    {
-        let start = self.bytes.len();
-        self.bytes.extend_from_slice(row)?;
-        let end = self.bytes.len();
-        self.dead += row.len();
-        self.spans.push(Span { start, end })?;
-        self.dead -= row.len();
-        Ok(())
-    }
-
-    /// Packs the rows anew where the bytes of no row pass half of all and 256 more.
-    fn tighten(&mut self) -> Result<(), AllocError>
-        ensures { self.new ≡ self.old }
-    {
-        if self.dead > self.bytes.len() / 2 + SLACK {
-            *self = self.copy()?;
-        }
-        Ok(())
     }
 }
 
@@ -234,37 +136,16 @@ impl Sorted for RowSet {
     ghost rows = { λ set. set };
 
     fn above<'s>(&'s self, bound: Option<&[u8]>) -> Option<&'s [u8]> {
-        let i = self.start(bound);
-        if i < self.len() {
-            Some(self.row(i))
-        } else {
-            None
+        match &self.kept {
+            None => None,
+            Some(rows) => rows.above(bound),
         }
     }
 
     fn has(&self, row: &[u8]) -> bool {
-        match self.search(row) {
-            Ok(_) => true,
-            Err(_) => false,
+        match &self.kept {
+            None => false,
+            Some(rows) => rows.has(row),
         }
-    }
-}
-
-#[cfg(test)]
-mod tests {
-    use super::*;
-    use std::test::Fail;
-
-    #[test]
-    fn rows_taken_out_give_their_bytes_back(rt: HostRuntime) -> Result<(), Fail> {
-        let mut set = RowSet::new(rt.alloc());
-        for i in 0..2000u16 {
-            assert!(rt; set.insert(&i.to_be_bytes())?);
-            assert!(rt; i % 40 == 0 || set.remove(&i.to_be_bytes()));
-            assert!(rt; set.bytes.len() <= 4 * set.len() + 2 * SLACK + 2);
-        }
-        let copy = set.copy()?;
-        assert!(rt; copy.equal(&set) && copy.len() == 50 && copy.bytes.len() == 100);
-        Ok(())
     }
 }

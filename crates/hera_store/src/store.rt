@@ -153,6 +153,7 @@ impl Store {
             }
             Err(_) => {
                 self.closed = true;
+                drop(delta);
                 Err(CommitFault::Device)
             }
         }

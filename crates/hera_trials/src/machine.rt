@@ -8,6 +8,7 @@ use hera_prims::{fits_rel, prim_rel};
 use hera_rows::RowSet;
 use rel_pages::{Base, PageRel, read_half};
 use std::alloc::{AllocError, Global};
+use std::mem::size_of;
 use std::process::Abort;
 use std::test::Fail;
 
@@ -100,6 +101,14 @@ fn code(alloc: Global) -> Result<Code, Fail> {
         Instr::Halt,
     ];
     code_of(alloc, Vec::from_array(alloc, instrs)?)
+}
+
+#[test]
+fn values_and_events_have_few_bytes(rt: HostRuntime) -> Result<(), Fail> {
+    assert_eq!(rt; size_of::<Scalar>(), 16);
+    assert_eq!(rt; size_of::<Value>(), 32);
+    assert_eq!(rt; size_of::<Event>(), 32);
+    Ok(())
 }
 
 /// A relation that was pushed has the rows of that moment.

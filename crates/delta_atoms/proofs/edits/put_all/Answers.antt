@@ -1,7 +1,7 @@
-use Rattle.std.proofs.Common.{◌∙◌, sym, ap, refl, subst, [], ◌∷◌, ◌++◌, List}
+use Rattle.std.proofs.Common.{sym, refl, subst, [], ◌∷◌, ◌++◌, List}
 use Rattle.std.proofs.lemmas.Result.{err_from_is_err_and}
 use Rattle.hera_meaning.specs.Deltas.{Atom}
-use Rattle.delta_atoms.specs.Atoms.{atoms_in, is_after}
+use Rattle.delta_atoms.specs.Atoms.{atoms_in}
 use Rattle.delta_atoms.specs.Refs.{atom_in, bound_of}
 use Rattle.delta_atoms.specs.Edits.{PutsAll}
 use Rattle.delta_atoms.proofs.Looks.{atoms_up}

@@ -1,4 +1,4 @@
-use Rattle.std.proofs.Common.{arith, ◌∙◌}
+use Rattle.std.proofs.Common.{◌∙◌}
 use Rattle.delta_atoms.specs.Atoms.{is_after}
 use Rattle.delta_atoms.specs.Refs.{atom_in, bound_of}
 use Rattle.delta_atoms.proofs.Nexts.{packed_at, this_part, next_part}

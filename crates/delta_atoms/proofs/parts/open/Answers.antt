@@ -1,9 +1,9 @@
-use Rattle.std.proofs.Common.{◌≡◌, ap, sym, subst, [], List, ℕ}
+use Rattle.std.proofs.Common.{◌≡◌, sym, subst, [], List, ℕ}
 use Rattle.hera_sets.specs.Rows.{IsAscending}
 use Rattle.hera_meaning.specs.declared.scalars.Sign.{Sign}
 use Rattle.hera_meaning.specs.declared.scalars.Sign.TheVariants.{Plus, Minus}
 use Rattle.delta_atoms.specs.declared.parts.Part.{Part}
-use Rattle.delta_atoms.specs.Parts.{side, IsPart}
+use Rattle.delta_atoms.specs.Parts.{side}
 use Rattle.delta_atoms.specs.Edits.{IsGap}
 use Rattle.delta_atoms.proofs.Places.{gap_ordered, gap_same, gap_at}
 use Rattle.delta_atoms.proofs.parts.open.Goals as goal

@@ -41,3 +41,9 @@ returns-clause-held c = holding_end (after_all c.args.base.now.state c.args.comm
 
 pub returns-clause-same : goal.returns-clause-same
 returns-clause-same c = same_collected (after_all c.args.base.now.state c.args.commits.now) c.args.changes.now.layers c.args.items.now.items c.loop-i.items.items c.loop-i.invariant.holding.same
+
+pub returns-in_err-v-clause-older : goal.returns-in_err-v-clause-older
+returns-in_err-v-clause-older c = c.loop-i.invariant.holding.older
+
+pub returns-clause-older : goal.returns-clause-older
+returns-clause-older c = c.loop-i.invariant.holding.older

@@ -1,4 +1,4 @@
-use Rattle.std.proofs.Common.{arith, ◌∙◌, refl, sym, Some, None}
+use Rattle.std.proofs.Common.{arith, ◌∙◌, refl, Some, None}
 use Rattle.delta_atoms.proofs.Nexts.{lesser_found, none_found, past_lower, past_same, past_higher}
 use Rattle.delta_atoms.proofs.parts.Part.above.Goals as goal
 

@@ -1,7 +1,0 @@
-use Rattle.std.proofs.Common.{ap}
-use Rattle.hera_syntax.specs.Outline.{hold}
-use Rattle.hera_parser.proofs.Steps.{as_marks}
-use Rattle.hera_parser.proofs.parser.Parser.keep.Goals as goal
-
-pub returns-clause-reads : goal.returns-clause-reads
-returns-clause-reads c = as_marks (ap hold c.in_ok-copy.ensures) c.in_ok-token.ensures.reads

@@ -1,0 +1,16 @@
+use Rattle.std.proofs.Common.{◌<◌, [], ◌∷◌, ◌++◌, length}
+use Rattle.std.specs.List.{flat_map}
+use Rattle.hera_syntax.specs.Grammar.{phrase}
+use Rattle.hera_syntax.specs.Grammar as phrases
+use Rattle.hera_syntax.specs.Outline.{agg_row, named_agg_outline, node}
+use Rattle.hera_parser_exprs.specs.Reading.{Gives}
+use Rattle.hera_parser_exprs.proofs.parser.Parser.aggs.Given as goal
+
+abbrev pub invariant-rest : goal.invariant-rest
+invariant-rest l = record {
+  reads : Gives (phrase phrases.aggs ∷ []) l.fn.self (node phrases.aggs 0 ++ named_agg_outline l.items.first ++ flat_map agg_row l.items.rest.items) (phrase phrases.more_aggs ∷ []) l.self;
+  shorter : length l.self < length l.fn.self;
+}
+
+abbrev pub decreases-rest : goal.decreases-rest
+decreases-rest l = length l.self

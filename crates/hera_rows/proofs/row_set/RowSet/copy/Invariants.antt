@@ -1,6 +1,0 @@
-use Rattle.std.proofs.Common.{◌≡◌, take}
-use Rattle.hera_rows.proofs.row_set.RowSet.copy.Given as goal
-
--- the rows up to this place are copied
-abbrev pub invariant-loop-i : goal.invariant-loop-i
-invariant-loop-i l = l.copy ≡ take l.i l.self
