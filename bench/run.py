@@ -118,6 +118,7 @@ def stored(table, folder):
         ("a folder of 1,000,000 rows opened", "stored_open.hera"),
         ("`count(R when {+R(0, 0)})` over 1,000,000 stored rows", "stored_count.hera"),
         ("`join` of 1,000 rows with 1,000,000 stored ones", "stored_join.hera"),
+        ("`foreach` over 1,000,000 stored rows under a delta", "stored_walk.hera"),
     ]:
         table.alone(title, lambda program: [program, "run", folders[program], TURNS, script(name)])
 

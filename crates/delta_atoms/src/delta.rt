@@ -31,10 +31,16 @@ enum Form {
 ///
 /// It is seen as `fail`, or as the list of its atoms, ascending by relation and then row, in which no
 /// relation and row stand twice. So no atom has both signs.
-#[derive(Drop)]
 pub struct Delta {
     form: Form,
     alloc: Global,
+}
+
+/// It is a function so that the proofs of whoever lets a delta go do not go through its forms.
+impl Drop for Delta {
+    fn drop(self) {
+        let Delta { form: _, alloc: _ } = self;
+    }
 }
 
 impl Model for Delta {

@@ -46,7 +46,7 @@ fn remainder(a: i64, b: i64) -> Option<Flat>
 }
 
 /// What an operation gives of two ints.
-#[inline]
+#[inline(always)]
 #[tactic(auto, using(crate::proofs::Others::others))]
 fn of_ints(op: &Op, a: i64, b: i64) -> Option<Flat>
     ensures { result ≡ flat_answer op.now (int_value a ∷ int_value b ∷ []) }
@@ -82,7 +82,7 @@ fn of_bools(op: &Op, a: bool, b: bool) -> Option<Flat>
 
 /// What an operation gives of two ints or two bools that fit it, if that is an int or a bool. Of
 /// others, and where it traps, it answers nothing.
-#[inline]
+#[inline(always)]
 #[tactic(auto, using(crate::proofs::Others::others))]
 pub fn flat_two(op: &Op, left: Flat, right: Flat) -> Option<Flat>
     ensures answer { result ≡ flat_answer op.now (flat_value left ∷ flat_value right ∷ []) }

@@ -38,6 +38,10 @@ newest_set_end f (x ∷ y ∷ ys) (suc i) w e =
     ap (λ zs. zs ++ f x ∷ []) (newest_set_end f (y ∷ ys) i w (omega (arith, e)))
     ∙ ap (λ zs. f w ∷ zs) (sym (drop_front (newest f (y ∷ ys)) (f x ∷ []) (newest_some f y ys)))
 
+-- what is put in the newest item's place
+pub put_last : {A B : Type 0} → (f : A → B) (xs : List A) (i : ℕ) (w : A) (b : B) → i + 1 ≡ length xs → f w ≡ b → newest f (slice_set xs i w) ≡ b ∷ drop 1 (newest f xs)
+put_last f xs i w b e h = newest_set_end f xs i w e ∙ ap (λ y. y ∷ drop 1 (newest f xs)) h
+
 pub newest_map : {A B : Type 0} → (f : A → B) (xs : List A) → map f (newest (λ x. x) xs) ≡ newest f xs
 newest_map f [] = refl
 newest_map f (x ∷ xs) = map-append f (newest (λ x. x) xs) (x ∷ []) ∙ ap (λ ys. ys ++ f x ∷ []) (newest_map f xs)
@@ -96,3 +100,5 @@ hopped_put locals ds k v same xs i w e h =
     (subst (λ ws. IsSomeAnd (current_in ws) (λ x. map plain_of (slice_set ds k v) ≡ set_local (map plain_of ds) k (tuple x))) (sym (newest_set_end (λ x. x) xs i w e)) (row_put w.current ds k v h))
 
 pub ruleset tops = (none_coming, none_current, none_changed, none_changed_at, changed, changed_at, changed_reach, same_set)
+
+pub ruleset lasts = (put_last, newest_length)

@@ -1,5 +1,5 @@
 -- Operands and slots: values, or relations that are named with a layer.
-use Rattle.std.specs.Prelude.{ℕ, suc, Bool, true, false, List, [], ◌∷◌, map, max, pos}
+use Rattle.std.specs.Prelude.{ℕ, suc, Bool, true, false, List, [], ◌∷◌, Option, None, Some, map, max, pos}
 use Rattle.hera_meaning.specs.declared.scalars.Scalar.{Scalar}
 use Rattle.hera_meaning.specs.declared.scalars.Scalar.TheVariants.{Int as int_scalar, Bool as bool_scalar, Text as text_scalar}
 use Rattle.hera_meaning.specs.Deltas.{State, rows_at}
@@ -86,3 +86,8 @@ held_in (relation r k) = int_value (pos 0)
 abbrev pub newest_in : List Item → Value
 newest_in [] = int_value (pos 0)
 newest_in (item ∷ items) = held_in item
+
+-- the value in a slot, where one is there
+abbrev pub slot_in : Option Value → Value
+slot_in None = int_value (pos 0)
+slot_in (Some v) = v

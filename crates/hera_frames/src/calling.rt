@@ -71,7 +71,9 @@ impl Operands {
         ensures all { waiting.new.items ≡ self.old.items }
         ensures none { self.new.items ≡ [] }
     {
-        waiting.items.clear();
+        if waiting.items.len() > 0 {
+            waiting.items.clear();
+        }
         if self.items.len() > 0 {
             swap(self, waiting);
         }

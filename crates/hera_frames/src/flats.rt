@@ -6,7 +6,7 @@ ghost use Rattle.hera_meaning.specs.Values.{scalar, tuple};
 ghost use Rattle.hera_meaning.specs.Worlds.{set_local};
 ghost use Rattle.hera_row.specs.Fields.{told};
 ghost use Rattle.hera_flat.specs.Flats.{flat_value, IsGiven};
-ghost use Rattle.hera_frames.specs.Items.{plain_of, item_of, held, held_in, newest_in, reach};
+ghost use Rattle.hera_frames.specs.Items.{plain_of, item_of, held, held_in, newest_in, slot_in, reach};
 
 use crate::values::{Datum, let_go, refill};
 use crate::{Locals, Operand, Operands};
@@ -74,6 +74,49 @@ impl Datum {
             Flat::Bool(b) => Datum::Bool(b),
         }
     }
+
+    /// Puts an int or a bool in the place of a value that may be another one.
+    #[inline(never)]
+    fn renew(&mut self, v: Flat)
+        ensures { plain_of self.new ≡ flat_value v }
+    {
+        let_go(replace(self, Datum::of_flat(v)));
+    }
+
+    /// Puts an int in the value's place.
+    #[inline(always)]
+    fn put_int(&mut self, n: i64)
+        ensures { plain_of self.new ≡ flat_value (Flat.Int n) }
+    {
+        match self {
+            Datum::Int(place) => *place = n,
+            Datum::Bool(_) => *self = Datum::Int(n),
+            _ => self.renew(Flat::Int(n)),
+        }
+    }
+
+    /// Puts a bool in the value's place.
+    #[inline(always)]
+    fn put_bool(&mut self, b: bool)
+        ensures { plain_of self.new ≡ flat_value (Flat.Bool b) }
+    {
+        match self {
+            Datum::Bool(place) => *place = b,
+            Datum::Int(_) => *self = Datum::Bool(b),
+            _ => self.renew(Flat::Bool(b)),
+        }
+    }
+
+    /// Puts an int or a bool in the value's place.
+    #[inline(always)]
+    pub(crate) fn put_flat(&mut self, v: Flat)
+        ensures { plain_of self.new ≡ flat_value v }
+    {
+        match v {
+            Flat::Int(n) => self.put_int(n),
+            Flat::Bool(b) => self.put_bool(b),
+        }
+    }
 }
 
 impl Operand {
@@ -85,6 +128,17 @@ impl Operand {
         match self {
             Operand::Held(v) => v.flat(),
             Operand::Named { .. } => None,
+        }
+    }
+
+    /// Puts an int or a bool in the operand's place.
+    #[inline(always)]
+    fn put_flat(&mut self, v: Flat)
+        ensures { item_of self.new ≡ held (flat_value v) }
+    {
+        match self {
+            Operand::Held(place) => place.put_flat(v),
+            Operand::Named { .. } => let_go(replace(self, Operand::Held(Datum::of_flat(v)))),
         }
     }
 }
@@ -116,17 +170,73 @@ impl Locals {
         }
     }
 
+    /// The int in a slot, where there is one.
+    #[inline]
+    #[tactic(auto, using(crate::proofs::Slots::copies))]
+    pub fn int_at(&self, i: usize) -> Option<i64>
+        ensures { IfSome result (λ n. slice_get self.now i ≡ Some (flat_value (Flat.Int n))) }
+    {
+        match self.items.get(i) {
+            Some(Datum::Int(n)) => Some(*n),
+            _ => None,
+        }
+    }
+
+    /// The int or bool at a place of the tuple in a slot, where there is one and the tuple is of the schema.
+    #[inline]
+    #[tactic(auto, using(crate::proofs::Slots::copies))]
+    pub fn field_at(&self, i: usize, schema: &Schema, place: usize) -> Option<Flat>
+        ensures there { IfSome result (λ f. slice_get self.now i ≡ Some (slot_in (slice_get self.now i))) }
+        ensures given { IfSome result (IsGiven (Op.Field schema.now place) (slot_in (slice_get self.now i) ∷ [])) }
+    {
+        match self.items.get(i) {
+            None => None,
+            Some(v) => v.flat_field(schema, place),
+        }
+    }
+
     /// Puts an int or a bool into a slot, if the slot is there.
     #[inline]
+    #[tactic(auto, using(crate::proofs::Slots::slots))]
     pub fn put_flat(&mut self, i: usize, v: Flat) -> bool
         ensures there { result ≡ is_some (slice_get self.old i) }
         ensures put { self.new ≡ set_local self.old i (flat_value v) }
     {
-        self.put(i, Datum::of_flat(v))
+        if i < self.items.len() {
+            self.items[i].put_flat(v);
+            true
+        } else {
+            false
+        }
     }
 }
 
 impl Operands {
+    /// The newest operand, where it is an int.
+    #[inline]
+    pub fn newest_int(&self) -> Option<i64>
+        ensures { IfSome result (λ n. self.now.items ≡ held (flat_value (Flat.Int n)) ∷ drop 1 self.now.items) }
+    {
+        match self.newest(0) {
+            Some(Operand::Held(Datum::Int(n))) => Some(*n),
+            _ => None,
+        }
+    }
+
+    /// The two newest operands, the newest one last, where both are ints.
+    #[inline]
+    pub fn newest_ints(&self) -> Option<(i64, i64)>
+        ensures items { IfSome result (λ p. self.now.items ≡ held (flat_value (Flat.Int p.1)) ∷ held (flat_value (Flat.Int p.0)) ∷ drop 2 self.now.items) }
+        ensures count { IfSome result (λ p. 2 ≤ length self.now.items) }
+    {
+        match (self.newest(1), self.newest(0)) {
+            (Some(Operand::Held(Datum::Int(first))), Some(Operand::Held(Datum::Int(second)))) => {
+                Some((*first, *second))
+            }
+            _ => None,
+        }
+    }
+
     /// The newest operand, where it is an int or a bool.
     #[inline]
     pub fn newest_flat(&self) -> Option<Flat>
@@ -201,7 +311,7 @@ impl Operands {
     }
 
     /// Takes the newest operand off and drops it, if there is one. Its place stays.
-    #[inline]
+    #[inline(always)]
     pub fn drop_newest(&mut self)
         ensures items { self.new.items ≡ drop 1 self.old.items }
         ensures within { reach self.new.items ≤ reach self.old.items }
@@ -227,15 +337,26 @@ impl Operands {
     }
 
     /// Puts an int or a bool in the place of the newest operand.
-    #[inline]
-    #[tactic(auto, using(hera_prims::proofs::Stacks::newest_push))]
+    #[inline(always)]
+    #[tactic(auto, using(crate::proofs::Tops::lasts))]
     pub fn replace_newest(&mut self, v: Flat)
         requires { 1 ≤ length self.old.items }
         ensures items { self.new.items ≡ held (flat_value v) ∷ drop 1 self.old.items }
         ensures within { reach self.new.items ≤ reach self.old.items }
     {
+        let last = self.items.len() - 1;
+        self.items[last].put_flat(v);
+    }
+
+    /// Puts an int or a bool in the place of the two newest operands.
+    #[inline(always)]
+    pub fn replace_two(&mut self, v: Flat)
+        requires { 2 ≤ length self.old.items }
+        ensures items { self.new.items ≡ held (flat_value v) ∷ drop 2 self.old.items }
+        ensures within { reach self.new.items ≤ reach self.old.items }
+    {
         self.drop_newest();
-        self.items.push_reserved(Operand::Held(Datum::of_flat(v)));
+        self.replace_newest(v);
     }
 }
 

@@ -26,6 +26,18 @@ fn fill(items: &mut Vec<Datum>, count: usize)
     }
 }
 
+/// Takes all values off, if there are some. Their places stay.
+#[inline]
+fn empty(items: &mut Vec<Datum>)
+    ensures items { items.new.items ≡ [] }
+    ensures len { vec_len items.new ≡ 0 }
+    ensures capacity { vec_capacity items.new ≡ vec_capacity items.old }
+{
+    if items.len() > 0 {
+        items.clear();
+    }
+}
+
 /// Lays a body's slots in the place of the values: its arguments, which are the newest operands and are taken
 /// off, in the order in which they were pushed, and the int 0 in each other slot. It takes no memory.
 #[inline]
@@ -36,7 +48,7 @@ fn lay(items: &mut Vec<Datum>, operands: &mut Operands, params: usize, slots: us
     requires held { AreHeld (take params operands.old.items) }
     ensures { IsBegun params slots operands.old.items operands.new.items (map plain_of items.new.items) }
 {
-    items.clear();
+    empty(items);
     fill(items, slots - params);
     operands.move_newest(items, params);
     items.reverse();

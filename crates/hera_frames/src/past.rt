@@ -16,6 +16,16 @@ pub(crate) fn collect_past(
 ) -> Result<RowSet, AllocError>
     ensures { IfOk result (λ set. set ≡ filter (is_past (option_copied bound.entry)) rows.now) }
 {
+    match bound {
+        None => rows.collect(alloc),
+        Some(_) => collect_behind(alloc, rows, bound),
+    }
+}
+
+/// The rows past the bound, as a set, sought one by one.
+fn collect_behind(alloc: Global, rows: &Hyp<'_>, bound: Option<&[u8]>) -> Result<RowSet, AllocError>
+    ensures { IfOk result (λ set. set ≡ filter (is_past (option_copied bound.entry)) rows.now) }
+{
     let mut set = RowSet::new(alloc);
     let mut last = bound;
     let mut mark = Mark::start();

@@ -1,11 +1,27 @@
 -- Instructions that are quiet.
-use Rattle.std.proofs.Common.{◌≡◌, suc, ◌+◌, List, sym, ap, ◌∙◌, subst, arith, zero-add}
+use Rattle.std.proofs.Common.{Bool, true, false, Option, None, ◌≡◌, ℕ, ℤ, suc, ◌+◌, ◌*◌, ◌<◌, List, [], ◌∷◌, length, map, Some, refl, sym, ap, ◌∙◌, subst, arith, zero-add}
+use Rattle.std.specs.Prelude.{slice_get}
+use Rattle.std.proofs.lemmas.List.{length-map}
 use Rattle.hera_meaning.specs.declared.schemas.RelDecl.{RelDecl}
 use Rattle.hera_meaning.specs.Deltas.{State}
 use Rattle.hera_meaning.specs.Hosts.{Hosts}
+use Rattle.hera_meaning.specs.declared.scalars.Scalar.TheVariants.{Int as int_scalar}
+use Rattle.hera_meaning.specs.declared.trees.Const.TheVariants.{Scalar as scalar_const}
+use Rattle.hera_meaning.specs.declared.trees.Op.{Op}
+use Rattle.hera_meaning.specs.Values.{Value, int_value}
 use Rattle.hera_code.specs.declared.instrs.Code.{Code}
-use Rattle.hera_code.specs.Machine.{Machine, Step, quiet, code_step}
+use Rattle.hera_code.specs.declared.instrs.Instr.{Instr}
+use Rattle.hera_code.specs.declared.instrs.Instr.TheVariants.{Push, Load, Prim, Unless}
+use Rattle.hera_meaning.specs.Fits.{arity, fits_of}
+use Rattle.hera_meaning.specs.Primitives.{Answer, gives, refuses, given}
+use Rattle.hera_code.specs.Forward.{Forward}
+use Rattle.hera_code.specs.Machine.{Machine, Step, quiet, says, commits, ends, Taken, taken, needs, needs_that, on_some, answers, answer_step, on_with, pushes, act, code_step}
+use Rattle.hera_frames.specs.Waiting.{frame_at}
 use Rattle.hera_code.specs.Reached.{after_step, exec_code}
+use Rattle.hera_machine.specs.Descends.{left}
+use Rattle.hera_machine.specs.Pairs.{with_value, then_parts, IsPast}
+use Rattle.hera_machine.specs.Working.{Work, machine_at}
+use Rattle.hera_machine.proofs.Lowered.{Lowers, step_lowers}
 use Rattle.hera_machine.specs.Standing.{Standing, machine_over, GoesQuietly}
 
 module _ (code : Code) (rels : List RelDecl) (hosts : Hosts) (s : State) where
@@ -22,6 +38,105 @@ module _ (code : Code) (rels : List RelDecl) (hosts : Hosts) (s : State) where
         ap (λ i. exec_code code rels hosts i s m es) more ∙ go (suc j) es
         ∙ ap (λ (t : Step). after_step t s es (λ s m es. exec_code code rels hosts j s m es)) (sym step),
   )
+
+  -- and more
+  pub quietly_on : (m n p : Machine) → GoesQuietly code rels hosts s m n → GoesQuietly code rels hosts s n p → GoesQuietly code rels hosts s m p
+  quietly_on m n p (k, go) (l, on) = (k + l, λ j es. let more : (k + l) + j ≡ k + (l + j) = omega arith in ap (λ i. exec_code code rels hosts i s m es) more ∙ go (l + j) es ∙ on j es)
+
+-- ---- two at once
+
+module _ (code : Code) (rels : List RelDecl) (hosts : Hosts) (s : State) (m p : Machine) (op : Op) (place : ℕ) where
+  -- a value is put up, and then the operation is done
+  quietly_pair : (i : Instr) (v : Value) → slice_get code.instrs m.at ≡ Some i → act code rels hosts (Some i) s m ≡ quiet (on_with (v ∷ m.operands) m) →
+      slice_get code.instrs (m.at + 1) ≡ Some (Prim op place) → quiet p ≡ with_value place op v m → GoesQuietly code rels hosts s m p
+  quietly_pair i v here puts next done =
+      let n : Machine = on_with (v ∷ m.operands) m in
+      let first : quiet n ≡ code_step code rels hosts s m = sym (ap (λ o. act code rels hosts o s m) here ∙ puts) in
+      let second : quiet p ≡ code_step code rels hosts s n = done ∙ sym (ap (λ o. act code rels hosts o s n) next) in
+      quietly_more code rels hosts s m n p (quietly_more code rels hosts s m m n (quietly_none code rels hosts s m m refl) first) second
+
+  pub quietly_loaded : (i : ℕ) (v : Value) → slice_get code.instrs m.at ≡ Some (Load i) → slice_get code.instrs (m.at + 1) ≡ Some (Prim op place) → slice_get m.locals i ≡ Some v →
+      quiet p ≡ with_value place op v m → GoesQuietly code rels hosts s m p
+  quietly_loaded i v here next there done = quietly_pair (Load i) v here (ap (λ o. pushes o m) there) next done
+
+  pub quietly_pushed : (n : ℤ) → slice_get code.instrs m.at ≡ Some (Push (scalar_const (int_scalar n))) → slice_get code.instrs (m.at + 1) ≡ Some (Prim op place) →
+      quiet p ≡ with_value place op (int_value n) m → GoesQuietly code rels hosts s m p
+  quietly_pushed n here next done = quietly_pair (Push (scalar_const (int_scalar n))) (int_value n) here refl next done
+
+-- ---- a third one, which jumps by what the operation gives
+
+-- where a quiet step stands: an instruction further, in the same frame
+abbrev StandsPast : Machine → Step → Type 0
+StandsPast m (quiet n) = (n.at ≡ m.at + 1) × (n.turns ≡ m.turns) × (n.callers ≡ m.callers)
+StandsPast m t = Unit {0}
+
+stands_answer : (place : ℕ) (m : Machine) (r : Answer) (vs : List Value) → StandsPast m (answer_step place r vs m)
+stands_answer place m (gives v) vs = (refl, refl, refl)
+stands_answer place m (refuses name) vs = tt
+
+stands_that : (m : Machine) (b : Bool) (t : Step) → StandsPast m t → StandsPast m (needs_that b t)
+stands_that m true t h = h
+stands_that m false t h = tt
+
+stands_needs : (m : Machine) (o : Option Taken) (go : Taken → Step) → ((t : Taken) → StandsPast m (go t)) → StandsPast m (needs o go)
+stands_needs m None go h = tt
+stands_needs m (Some t) go h = h t
+
+stands_computed : (place : ℕ) (op : Op) (m : Machine) → StandsPast m (on_some (arity op) m.operands (λ args vs. answers place op args vs m))
+stands_computed place op m = stands_needs m (taken (arity op) [] m.operands) _ (λ t. stands_that m (fits_of op t.args) _ (stands_answer place m (given op t.args) t.rest))
+
+abbrev IsQuiet : Step → Type 0
+IsQuiet (quiet m) = Unit {0}
+IsQuiet t = ⊥
+
+-- the machine behind a quiet step, which then jumps
+record Parting (code : Code) (a : ℕ) (m p : Machine) (t : Step) : Type 0 where
+  mid : Machine
+  first : t ≡ quiet mid
+  jump : quiet p ≡ then_parts code a (quiet mid)
+  past : StandsPast m (quiet mid)
+
+parting : (code : Code) (a : ℕ) (m p : Machine) (t : Step) → StandsPast m t → quiet p ≡ then_parts code a t → Parting code a m p t
+parting code a m p (quiet n) past done = record { mid = n; first = refl; jump = done; past = past }
+parting code a m p (says bs n) past done = absurd (subst IsQuiet done tt)
+parting code a m p (commits d n) past done = absurd (subst IsQuiet done tt)
+parting code a m p (ends stop) past done = absurd (subst IsQuiet done tt)
+
+module _ (code : Code) (rels : List RelDecl) (hosts : Hosts) (s : State) (m p : Machine) (op : Op) (place : ℕ) (z : ℤ) (a : ℕ)
+    (here : slice_get code.instrs m.at ≡ Some (Push (scalar_const (int_scalar z)))) (next : slice_get code.instrs (m.at + 1) ≡ Some (Prim op place)) (third : slice_get code.instrs (m.at + 2) ≡ Some (Unless a))
+    (done : quiet p ≡ then_parts code a (with_value place op (int_value z) m)) where
+  abbrev put : Machine
+  put = on_with (int_value z ∷ m.operands) m
+
+  parts : Parting code a put p (with_value place op (int_value z) m)
+  parts = parting code a put p (with_value place op (int_value z) m) (stands_computed place op put) done
+
+  at_third : slice_get code.instrs parts.mid.at ≡ Some (Unless a)
+  at_third = let two : m.at + 1 + 1 ≡ m.at + 2 = omega arith in ap (slice_get code.instrs) (parts.past.0 ∙ two) ∙ third
+
+  jumped : quiet p ≡ code_step code rels hosts s parts.mid
+  jumped = parts.jump ∙ sym (ap (λ o. act code rels hosts o s parts.mid) at_third)
+
+  pub quietly_parted : GoesQuietly code rels hosts s m p
+  quietly_parted =
+      quietly_more code rels hosts s m parts.mid p (quietly_pushed code rels hosts s m parts.mid op place z here next (sym parts.first)) jumped
+
+  pub parted_less : Forward code → left (length code.instrs) p < left (length code.instrs) m
+  parted_less forward =
+      let lower : Lowers (length code.instrs) parts.mid (quiet p) = subst (λ t. Lowers (length code.instrs) parts.mid t) (sym jumped) (step_lowers code rels hosts forward (slice_get code.instrs parts.mid.at) s parts.mid refl) in
+      let l : ℕ = length code.instrs in
+      let t : parts.mid.turns * (l + l) ≡ m.turns * (l + l) = ap (λ n. n * (l + l)) (parts.past.1) in
+      let c : length parts.mid.callers * l ≡ length m.callers * l = ap (λ fs. length fs * l) (parts.past.2) in
+      omega (arith, t, c, parts.past.0, lower.less_left)
+
+-- two instructions further less is left
+pub past_less : (l : ℕ) (old new : Work) → IsPast old new → old.at + 1 < l → left l (machine_at [] new) < left l (machine_at [] old)
+past_less l old new (at, turns, callers) within =
+    let t : new.turns * (l + l) ≡ old.turns * (l + l) = ap (λ n. n * (l + l)) turns in
+    let long : length (map (frame_at [] new.layers) new.callers) ≡ length (map (frame_at [] old.layers) old.callers) =
+    length-map new.callers (frame_at [] new.layers) ∙ ap (λ xs. length xs) callers ∙ sym (length-map old.callers (frame_at [] old.layers)) in
+    let c : length (map (frame_at [] new.layers) new.callers) * l ≡ length (map (frame_at [] old.layers) old.callers) * l = ap (λ n. n * l) long in
+    omega (arith, t, c, at, within)
 
 -- from the machine that this is
 pub quietly_of : (hosts : Hosts) (s : State) (m old : Standing) (n : Machine) → m ≡ old → GoesQuietly m.code m.relations hosts s (machine_over s m) n → GoesQuietly old.code old.relations hosts s (machine_over s old) n

@@ -6,3 +6,4 @@ pub mod Telling
 pub mod Sparing
 pub mod Finding
 pub mod Answering
+pub mod Pairs

@@ -131,7 +131,7 @@ impl<'c> Machine<'c> {
         }
     }
 
-    /// Executes the instructions at hand that have the quick way, some 4096 at most. It stops in front of one for
+    /// Executes the instructions at hand that have the quick way, 12,288 at most. It stops in front of one for
     /// which memory is refused.
     fn hurry(&mut self, base: &Base, commits: &[Delta])
         ensures quietly { self.old.status ≡ Status.Working → (hosts : Hosts) → let s = state_over base.now.state commits.now in GoesQuietly self.old.code self.old.relations hosts s (machine_over s self.old) (machine_over s self.new) }
@@ -146,7 +146,7 @@ impl<'c> Machine<'c> {
         }
     }
 
-    /// Executes instructions that have the quick way, as many as come and some 4096 at most, and then one as
+    /// Executes instructions that have the quick way, as many as come and 12,288 at most, and then one as
     /// `step` does, with the place for one more operand made before it. A refusal of the place is want of
     /// memory.
     pub fn advance(

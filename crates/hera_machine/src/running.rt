@@ -16,6 +16,7 @@ mod calls;
 mod changes;
 mod hosts;
 mod jumps;
+mod pairs;
 mod prims;
 mod quick;
 mod quick_calls;

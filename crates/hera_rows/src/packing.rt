@@ -129,6 +129,21 @@ impl Packing {
     pub(crate) fn copy(&self) -> Result<Packing, AllocError>
         ensures { IfOk result (λ copy. copy ≡ self.now) }
     {
+        if self.dead > 0 {
+            return self.packed();
+        }
+        let alloc = *self.bytes.allocator();
+        Ok(Packing {
+            bytes: Vec::from_slice(alloc, &self.bytes)?,
+            spans: Vec::from_slice(alloc, &self.spans)?,
+            dead: 0,
+        })
+    }
+
+    /// A set of its own with the same rows, one put behind the other.
+    fn packed(&self) -> Result<Packing, AllocError>
+        ensures { IfOk result (λ copy. copy ≡ self.now) }
+    {
         let alloc = *self.bytes.allocator();
         let mut copy = Packing {
             bytes: Vec::with_capacity(alloc, self.bytes.len() - self.dead)?,
@@ -224,7 +239,7 @@ impl Packing {
         ensures { self.new ≡ self.old }
     {
         if self.dead > self.bytes.len() / 2 + SLACK {
-            *self = self.copy()?;
+            *self = self.packed()?;
         }
         Ok(())
     }

@@ -9,11 +9,18 @@ use std::marker::Model;
 
 /// A strictly ascending list of rows, packed in one buffer.
 ///
-/// A set of no rows has no buffer, so that it takes no memory, and little place wherever it stands.
-#[derive(Drop)]
+/// A set into which no row came has no buffer: it takes no memory, and little place wherever it stands. One whose rows
+/// were all taken out may keep its buffer.
 pub struct RowSet {
     kept: Option<Box<Packing>>,
     alloc: Global,
+}
+
+/// It is a function so that the proofs of whoever lets a set go do not go through its parts.
+impl Drop for RowSet {
+    fn drop(self) {
+        let RowSet { kept: _, alloc: _ } = self;
+    }
 }
 
 impl Model for RowSet {
@@ -74,9 +81,7 @@ impl RowSet {
         match &mut self.kept {
             Some(rows) => rows.insert(row),
             None => {
-                let mut rows = Packing::new(self.alloc);
-                rows.push_last(row)?;
-                *self = RowSet::of(self.alloc, rows)?;
+                self.push_last(row)?;
                 Ok(true)
             }
         }

@@ -23,6 +23,9 @@ pub fn byte_order(a: &[u8], b: &[u8]) -> Ordering
         left = behind_x;
         right = behind_y;
     }
+    if left.is_empty() || right.is_empty() {
+        return left.len().cmp(&right.len());
+    }
     left.cmp(right)
 }
 

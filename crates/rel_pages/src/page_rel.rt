@@ -1,5 +1,5 @@
 //! The rows of one relation, in the bytes of its pages.
-ghost use Rattle.std.specs.Prelude.{◌≡◌, ◌<◌, ◌≤◌, ◌+◌, ◌-◌, ◌*◌, ◌++◌, length, List, ℕ, true, is_some, Option, IfSome, None, Some, take, drop};
+ghost use Rattle.std.specs.Prelude.{◌≡◌, ◌↔◌, IsTrue, [], ◌<◌, ◌≤◌, ◌+◌, ◌-◌, ◌*◌, ◌++◌, length, List, ℕ, true, is_some, Option, IfSome, None, Some, take, drop};
 ghost use Rattle.std.specs.List.{find};
 ghost use Rattle.std.specs.Option.{option_copied};
 ghost use Rattle.hera_sets.specs.Rows.{IsAscending};
@@ -75,6 +75,13 @@ impl<'a> PageRel<'a> {
             self.page,
             self.pages.len() / self.page,
         )
+    }
+
+    /// Whether there is no row. It looks at no page, and takes no memory.
+    pub fn is_empty(&self) -> bool
+        ensures { IsTrue result ↔ (self.now ≡ []) }
+    {
+        self.pages.is_empty()
     }
 }
 

@@ -14,9 +14,10 @@ use Rattle.hera_meaning.specs.declared.scalars.Sign.TheVariants.{Plus, Minus}
 use Rattle.hera_meaning.specs.Deltas.{Atom, Delta, fail, atoms, IsDelta, is_fail, is_plus, key_of, keys_of, rows_named, plus_atoms, minus_atoms}
 use Rattle.hera_meaning.proofs.Atoms.{rows_named-key}
 use Rattle.delta_atoms.specs.Atoms.{atoms_in, part_of}
-use Rattle.when_overlay.specs.Changed.{rows_after}
+use Rattle.delta_atoms.proofs.Sides.{ascending_part_of}
+use Rattle.when_overlay.specs.Changed.{changed, rows_after}
 use Rattle.when_overlay.specs.Seeking.{sign_in, later, sign_over, stands, named_in, named, pluses, met, next_of}
-use Rattle.when_overlay.proofs.Signing.{holds-after, ascending_after, sign_over-append, take_more}
+use Rattle.when_overlay.proofs.Signing.{holds-changed, ascending_changed, holds-after, ascending_after, sign_over-append, take_more}
 
 -- ---- the next of several lists
 
@@ -190,6 +191,33 @@ pub newest_sign : (b : Option Row) (r : ℕ) (es ds : List Delta) (d : Delta) (o
 newest_sign b r es ds d o q e up h g =
     ap (λ xs. sign_over r xs q) e ∙ sign_over-append r es (d ∷ []) q
     ∙ ap (λ (s : Option Sign). later s (sign_over r es q)) (put_in_here r d q up (found_named b r d o q h g))
+
+-- ---- one delta alone
+
+unsaid : (r : ℕ) (d : Delta) (q : Row) → holds (named_in r Plus d) q ≡ false → stands (sign_in r d q) false ≡ false
+unsaid r fail q e = refl
+unsaid r (atoms xs) q e = rw e (out (holds (rows_named r (minus_atoms xs)) q))
+  where
+    out : (m : Bool) → stands (cond m (Some Minus) None) false ≡ false
+    out true = refl
+    out false = refl
+
+held_alone : (r : ℕ) (d : Delta) (q : Row) → IsDelta d → holds (named_in r Plus d) q ≡ stands (sign_in r d q) false
+held_alone r d q up =
+    elim (holds (named_in r Plus d) q) as (λ p. holds (named_in r Plus d) q ≡ p → p ≡ stands (sign_in r d q) false) [
+      | true ↦ λ e. sym (ap (λ o. stands o false) (put_in_here r d q up e))
+      | false ↦ λ e. sym (unsaid r d q e)
+    ] refl
+
+ascending_named_in : (r : ℕ) (s : Sign) (d : Delta) → IsDelta d → IsAscending (named_in r s d)
+ascending_named_in r s fail up = tt
+ascending_named_in r s (atoms xs) up = ascending_part_of xs r s up
+
+-- where nothing was, what a delta puts in is what is there
+pub put_in_first : (r : ℕ) (d : Delta) → IsDelta d → named_in r Plus d ≡ changed r [] d
+put_in_first r d up =
+    same_rows (named_in r Plus d) (changed r [] d) (ascending_named_in r Plus d up) (ascending_changed r [] d tt)
+    (λ q. held_alone r d q up ∙ sym (holds-changed r [] d q))
 
 pub named_part : (r : ℕ) (s : Sign) (d : Delta) → is_fail d ≡ false → part_of (atoms_in d) r s ≡ named_in r s d
 named_part r s fail h = cc

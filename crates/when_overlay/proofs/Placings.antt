@@ -4,6 +4,7 @@ use Rattle.std.specs.List.{find, slice_get}
 use Rattle.std.proofs.lemmas.Bool.{both_ways}
 use Rattle.std.proofs.lemmas.Option.{none-some, same_Some, slice_get_past}
 use Rattle.hera_sets.specs.Rows.{Row, is_below, is_past, IsBelowAll, IsAscending}
+use Rattle.hera_sets.proofs.Order.{below_itself}
 use Rattle.hera_sets.proofs.Lists.{past_trans}
 use Rattle.when_overlay.specs.Placing.{EndsBefore, StartsPast}
 
@@ -41,3 +42,12 @@ starts_end b xs n e = starts_none b xs n (slice_get_past xs n (omega (arith, e))
 
 pub ends_at : (b : Option Row) (xs : List Row) (m n : ℕ) (r : Row) → n ≡ suc m → slice_get xs m ≡ Some r → is_past b r ≡ false → EndsBefore b xs n
 ends_at b xs m n r e here out = subst (EndsBefore b xs) (sym e) (r, here, out)
+
+-- behind a row of an ascending list stands the first one past it
+pub first_past : (xs : List Row) (n : ℕ) (b : Row) → IsAscending xs → slice_get xs n ≡ Some b → slice_get xs (suc n) ≡ find (is_past (Some b)) xs
+first_past xs n b up here = first_behind (Some b) xs (suc n) up (b, here, below_itself b) (λ r h. next_above xs n r up here h)
+  where
+    next_above : (xs : List Row) (n : ℕ) (r : Row) → IsAscending xs → slice_get xs n ≡ Some b → slice_get xs (suc n) ≡ Some r → is_below b r ≡ true
+    next_above [] n r up here h = absurd (none-some b here)
+    next_above (x ∷ xs) zero r up here h = subst (λ z. is_below z r ≡ true) (same_Some x b here) (below_row x xs 0 r up.0 h)
+    next_above (x ∷ xs) (suc n) r up here h = next_above xs n r up.1 here h

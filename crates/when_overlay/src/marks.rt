@@ -1,6 +1,6 @@
 //! About where a walk stands, and the first row past a bound of those that a delta puts in, looked for there
 //! before it is searched for.
-ghost use Rattle.std.specs.Prelude.{◌≡◌, true, slice_get};
+ghost use Rattle.std.specs.Prelude.{◌≡◌, ◌+◌, true, slice_get};
 ghost use Rattle.std.specs.List.{find};
 ghost use Rattle.std.specs.Option.{option_copied};
 ghost use Rattle.hera_sets.specs.Rows.{is_past, IsAscending};
@@ -12,7 +12,7 @@ ghost use Rattle.when_overlay.specs.Seeking.{named_in, next_of};
 use delta_atoms::Delta;
 use hera_meaning::{RelId, Sign};
 use hera_rows::RowSet;
-use hera_sets::is_below;
+use hera_sets::{is_below, is_same};
 use rel_pages::Place;
 
 /// About where a walk stands: in the pages, and among the rows that the newest layer puts in. It only saves
@@ -74,7 +74,16 @@ pub(crate) fn put_in_near<'s>(
     if delta.is_fail() {
         return PutIn { row: None, before };
     }
-    let rows = delta.part(rel, Sign::Plus);
+    row_near(delta.part(rel, Sign::Plus), bound, before)
+}
+
+/// The first row past the bound of a set. It is looked for behind so many rows and one more first, and behind so
+/// many.
+#[inline]
+pub(crate) fn row_near<'s>(rows: &'s RowSet, bound: Option<&[u8]>, before: usize) -> PutIn<'s>
+    ensures next { option_copied result.row ≡ find (is_past (option_copied bound.entry)) rows.now }
+    ensures ordered { IsAscending rows.now }
+{
     let before = rows_before(rows, bound, before);
     PutIn {
         row: row_at(rows, before),
@@ -82,18 +91,30 @@ pub(crate) fn put_in_near<'s>(
     }
 }
 
-/// How many rows stand before the first one past the bound: one more than is guessed, as where a walk goes on,
-/// or as many, or else what a search tells.
+/// How many rows stand before the first one past the bound: one more than is guessed, where a walk goes on from the
+/// row behind so many, or as many, or else what a search tells.
+#[inline]
 fn rows_before(rows: &RowSet, bound: Option<&[u8]>, guess: usize) -> usize
     ensures { slice_get rows.now result ≡ find (is_past (option_copied bound.entry)) rows.now }
 {
-    if guess < rows.len() && is_before(rows, bound, guess + 1) {
+    if guess < rows.len() && is_behind(rows, bound, guess) {
         return guess + 1;
     }
     if is_before(rows, bound, guess) {
         return guess;
     }
     count_before(rows, bound)
+}
+
+/// Whether the bound is the row behind so many.
+#[inline]
+fn is_behind(rows: &RowSet, bound: Option<&[u8]>, count: usize) -> bool
+    ensures { result ≡ true → slice_get rows.now (count + 1) ≡ find (is_past (option_copied bound.entry)) rows.now }
+{
+    match (row_at(rows, count), bound) {
+        (Some(row), Some(low)) => is_same(row, low),
+        _ => false,
+    }
 }
 
 /// Whether just so many rows stand before the first one past the bound.

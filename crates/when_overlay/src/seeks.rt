@@ -1,5 +1,5 @@
 //! The rows of a relation after commits and layers, sought where they stand.
-ghost use Rattle.std.specs.Prelude.{◌≡◌, ◌<◌, ◌++◌, List, ℕ, true, length, Option, Some, None, IfSome};
+ghost use Rattle.std.specs.Prelude.{◌≡◌, ◌<◌, ◌++◌, List, [], ℕ, true, length, Option, Some, None, IfSome};
 ghost use Rattle.std.specs.List.{find};
 ghost use Rattle.std.specs.Option.{option_copied};
 ghost use Rattle.hera_sets.specs.Rows.{is_past, IsAscending, holds};
@@ -10,11 +10,11 @@ ghost use Rattle.when_overlay.specs.Layered.{IsTip, path};
 ghost use Rattle.when_overlay.specs.Seeking.{named_in, named, met, next_of, sign_over, stands};
 
 use crate::Layers;
-use crate::marks::{Found, Mark, put_in_near};
+use crate::marks::{Found, Mark, put_in_near, row_near};
 use crate::signs::sign_of;
 use delta_atoms::Delta;
 use hera_meaning::{RelId, Sign};
-use hera_rows::Sorted;
+use hera_rows::{RowSet, Sorted};
 use hera_sets::{is_below, is_same};
 use rel_pages::{Near, PageRel, Place};
 
@@ -280,9 +280,9 @@ fn met_next<'s>(
     }
 }
 
-/// The first row past the bound that is there, and about where it stands: there it is looked for first. What
-/// was met and taken out again is passed over.
-pub(crate) fn above_near<'s>(
+/// The first row past the bound of those that are there, found among those that are met: what was met and taken
+/// out again is passed over.
+fn above_met<'s>(
     pages: &'s PageRel<'_>,
     commits: &'s [Delta],
     layers: &'s Layers,
@@ -307,5 +307,69 @@ pub(crate) fn above_near<'s>(
         }
         last = Some(row);
         mark = next.found.mark;
+    }
+}
+
+/// Whether nothing stands in the pages, and nothing is below a layer with this parent.
+fn is_bare(pages: &PageRel<'_>, commits: &[Delta], parent: Option<usize>) -> bool
+    ensures pages { result ≡ true → pages.now ≡ [] }
+    ensures commits { result ≡ true → commits.now ≡ [] }
+    ensures parent { result ≡ true → parent ≡ None }
+{
+    pages.is_empty() && commits.is_empty() && parent.is_none()
+}
+
+/// The rows that the layer at the tip puts in, where these are all that are there: nothing stands in the pages, and
+/// no delta is below.
+pub(crate) fn put_in_alone<'s>(
+    pages: &PageRel<'_>,
+    commits: &[Delta],
+    layers: &'s Layers,
+    tip: Option<usize>,
+    rel: RelId,
+) -> Option<&'s RowSet>
+    requires { IsTip layers.now.layers tip }
+    ensures { IfSome result (λ rows. rows.now ≡ rows_after rel.0 pages.now (commits.now ++ path layers.now.layers tip)) }
+{
+    let Some(i) = tip else {
+        return None;
+    };
+    let newest = layers.layer(i);
+    if newest.delta.is_fail() || !is_bare(pages, commits, newest.parent) {
+        return None;
+    }
+    Some(newest.delta.part(rel, Sign::Plus))
+}
+
+/// The first row past the bound of a set, and about where it stands.
+fn above_alone<'s>(rows: &'s RowSet, bound: Option<&[u8]>, mark: Mark) -> Found<'s>
+    ensures next { option_copied result.row ≡ find (is_past (option_copied bound.entry)) rows.now }
+    ensures ordered { IsAscending rows.now }
+{
+    let own = row_near(rows, bound, mark.put_in);
+    let mark = Mark {
+        put_in: own.before,
+        ..mark
+    };
+    Found { row: own.row, mark }
+}
+
+/// The first row past the bound that is there, and about where it stands: there it is looked for first.
+pub(crate) fn above_near<'s>(
+    pages: &'s PageRel<'_>,
+    commits: &'s [Delta],
+    layers: &'s Layers,
+    tip: Option<usize>,
+    rel: RelId,
+    bound: Option<&[u8]>,
+    mark: Mark,
+) -> Found<'s>
+    requires { IsTip layers.now.layers tip }
+    ensures next { option_copied result.row ≡ find (is_past (option_copied bound.entry)) (rows_after rel.0 pages.now (commits.now ++ path layers.now.layers tip)) }
+    ensures ordered { IsAscending (rows_after rel.0 pages.now (commits.now ++ path layers.now.layers tip)) }
+{
+    match put_in_alone(pages, commits, layers, tip, rel) {
+        Some(rows) => above_alone(rows, bound, mark),
+        None => above_met(pages, commits, layers, tip, rel, bound, mark),
     }
 }

@@ -107,6 +107,16 @@ impl<'a> Hyp<'a> {
     pub fn collect(&self, alloc: Global) -> Result<RowSet, AllocError>
         ensures { IfOk result (λ rows. rows ≡ self.now) }
     {
+        match seeks::put_in_alone(&self.pages, self.commits, self.layers, self.tip, self.rel) {
+            Some(rows) => rows.copy(),
+            None => self.collect_met(alloc),
+        }
+    }
+
+    /// A set of its own with the same rows, which are sought one by one.
+    fn collect_met(&self, alloc: Global) -> Result<RowSet, AllocError>
+        ensures { IfOk result (λ rows. rows ≡ self.now) }
+    {
         let mut set = RowSet::new(alloc);
         let mut last: Option<&[u8]> = None;
         let mut mark = Mark::start();

@@ -22,12 +22,13 @@ use hera_flat::{Flat, flat_one, flat_two};
 use hera_meaning::{Const, Op, Scalar, Schema};
 use rel_pages::Base;
 
-/// The most instructions that are executed at once.
+/// How often one instruction is executed, or two or three at once, before the machine makes a step of its own.
 const AT_ONCE: usize = 4096;
 
 impl Running {
     /// Executes the instructions at hand, as long as they are common ones on ints, bools and tuples, and at
-    /// most 4096 of them. It stops in front of one for which memory is refused.
+    /// most 12,288 of them. It stops in front of one for which memory is refused.
+    #[inline(never)]
     pub(crate) fn hurry(&mut self, code: &Code, base: &Base, commits: &[Delta])
         ensures quietly { (rels : List PlainDecl) → (hosts : Hosts) → let s = state_over base.now.state commits.now in GoesQuietly code.now rels hosts s (machine_at s self.old) (machine_at s self.new) }
         ensures less { Forward code.now → left (length code.now.instrs) (machine_at [] self.new) ≤ left (length code.now.instrs) (machine_at [] self.old) }
@@ -39,19 +40,19 @@ impl Running {
         }
     }
 
-    /// Executes the instruction at hand, if that is a common one on ints, bools and tuples. Where memory for it is
-    /// refused nothing has changed.
+    /// Executes the instruction at hand, if that is a common one on ints, bools and tuples, and the next one or two too
+    /// where they are done at once. Where memory for it is refused nothing has changed.
     #[inline]
     fn quick(&mut self, code: &Code, base: &Base, commits: &[Delta]) -> bool
-        ensures steps { (rels : List PlainDecl) → (hosts : Hosts) → let s = state_over base.now.state commits.now in result ≡ true → quiet (machine_at s self.new) ≡ code_step code.now rels hosts s (machine_at s self.old) }
-        ensures nearer { Forward code.now → result ≡ true → IsLower (length code.now.instrs) (machine_at [] self.old) (machine_at [] self.new) }
+        ensures quietly { (rels : List PlainDecl) → (hosts : Hosts) → let s = state_over base.now.state commits.now in result ≡ true → GoesQuietly code.now rels hosts s (machine_at s self.old) (machine_at s self.new) }
+        ensures less { Forward code.now → result ≡ true → left (length code.now.instrs) (machine_at [] self.new) < left (length code.now.instrs) (machine_at [] self.old) }
         ensures kept { result ≡ false → self.new ≡ self.old }
     {
         // for the proof alone: addresses of code are below 2^64 - 1
         let _len = code.instrs.len();
         match code.instrs.get(self.at) {
             None => false,
-            Some(instr) => self.hasten(instr, code, base, commits),
+            Some(instr) => { self.paired(instr, code) || self.hasten(instr, code, base, commits) }
         }
     }
 
@@ -75,7 +76,7 @@ impl Running {
             Instr::Next(i, a) => self.went_on(code, base, commits, *i, *a),
             Instr::Keep => self.kept(),
             Instr::Call(k) => self.called(code, *k),
-            Instr::Ret => self.resume(None),
+            Instr::Ret => self.returned_nothing(),
             Instr::RetVal => self.returned(),
             _ => false,
         }
@@ -100,9 +101,22 @@ impl Running {
         ensures done { (s : State) → result ≡ true → quiet (machine_at s self.new) ≡ pushes (slice_get (machine_at s self.old).locals i) (machine_at s self.old) }
         ensures kept { result ≡ false → self.new ≡ self.old }
     {
+        match self.locals.int_at(i as usize) {
+            Some(n) => self.pushed(Flat::Int(n)),
+            None => self.loaded_other(i),
+        }
+    }
+
+    /// Loads a slot that has a bool or a tuple.
+    #[inline(never)]
+    fn loaded_other(&mut self, i: u32) -> bool
+        requires { self.old.at + 1 < 2 ^ 64 }
+        ensures done { (s : State) → result ≡ true → quiet (machine_at s self.new) ≡ pushes (slice_get (machine_at s self.old).locals i) (machine_at s self.old) }
+        ensures kept { result ≡ false → self.new ≡ self.old }
+    {
         match self.locals.flat_at(i as usize) {
-            None => self.loaded_tuple(i),
             Some(v) => self.pushed(v),
+            None => self.loaded_tuple(i),
         }
     }
 
@@ -128,14 +142,33 @@ impl Running {
         ensures done { (s : State) → result ≡ true → quiet (machine_at s self.new) ≡ on_top (machine_at s self.old).operands (λ v vs. needs_slot i (machine_at s self.old) (quiet (record (machine_at s self.old) { at = (machine_at s self.old).at + 1; operands = vs; locals = set_local (machine_at s self.old).locals i v }))) }
         ensures kept { result ≡ false → self.new ≡ self.old }
     {
+        let Some(n) = self.operands.newest_int() else {
+            return self.stored_bool(i);
+        };
+        if !self.locals.has(i as usize) {
+            return false;
+        }
+        self.operands.drop_newest();
+        let _ = self.locals.put_flat(i as usize, Flat::Int(n));
+        self.at += 1;
+        true
+    }
+
+    /// Stores a bool in a slot.
+    #[inline(never)]
+    fn stored_bool(&mut self, i: u32) -> bool
+        requires { self.old.at + 1 < 2 ^ 64 }
+        ensures done { (s : State) → result ≡ true → quiet (machine_at s self.new) ≡ on_top (machine_at s self.old).operands (λ v vs. needs_slot i (machine_at s self.old) (quiet (record (machine_at s self.old) { at = (machine_at s self.old).at + 1; operands = vs; locals = set_local (machine_at s self.old).locals i v }))) }
+        ensures kept { result ≡ false → self.new ≡ self.old }
+    {
         let Some(v) = self.operands.newest_flat() else {
             return false;
         };
         if !self.locals.has(i as usize) {
             return false;
         }
-        let _ = self.locals.put_flat(i as usize, v);
         self.operands.drop_newest();
+        let _ = self.locals.put_flat(i as usize, v);
         self.at += 1;
         true
     }
@@ -146,15 +179,30 @@ impl Running {
         ensures done { (s : State) → result ≡ true → quiet (machine_at s self.new) ≡ on_some (arity op.now) (machine_at s self.old).operands (λ args vs. answers at op.now args vs (machine_at s self.old)) }
         ensures kept { result ≡ false → self.new ≡ self.old }
     {
-        // named for the contract alone: the operation does not trap here
-        let _at = at;
+        let Some((left, right)) = self.operands.newest_ints() else {
+            return self.computed_flats(op, at);
+        };
+        let Some(v) = flat_two(op, Flat::Int(left), Flat::Int(right)) else {
+            return self.computed_one(op, at);
+        };
+        self.operands.replace_two(v);
+        self.at += 1;
+        true
+    }
+
+    /// Does an operation on two operands that are not both ints, or on one.
+    #[inline(never)]
+    fn computed_flats(&mut self, op: &Op, at: u32) -> bool
+        requires { self.old.at + 1 < 2 ^ 64 }
+        ensures done { (s : State) → result ≡ true → quiet (machine_at s self.new) ≡ on_some (arity op.now) (machine_at s self.old).operands (λ args vs. answers at op.now args vs (machine_at s self.old)) }
+        ensures kept { result ≡ false → self.new ≡ self.old }
+    {
         match self.operands.newest_two() {
             None => self.computed_one(op, at),
             Some((left, right)) => match flat_two(op, left, right) {
                 None => self.computed_one(op, at),
                 Some(v) => {
-                    self.operands.drop_newest();
-                    self.operands.replace_newest(v);
+                    self.operands.replace_two(v);
                     self.at += 1;
                     true
                 }
@@ -162,7 +210,8 @@ impl Running {
         }
     }
 
-    #[inline]
+    /// Does an operation on one operand, where that is an int or a bool.
+    #[inline(never)]
     fn computed_one(&mut self, op: &Op, at: u32) -> bool
         requires { self.old.at + 1 < 2 ^ 64 }
         ensures done { (s : State) → result ≡ true → quiet (machine_at s self.new) ≡ on_some (arity op.now) (machine_at s self.old).operands (λ args vs. answers at op.now args vs (machine_at s self.old)) }

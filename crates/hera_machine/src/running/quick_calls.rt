@@ -28,7 +28,7 @@ pub(super) fn any_names(below: bool, operands: &Operands, walks: &Stack<Walk>) -
 
 impl Running {
     /// Calls the body of this number.
-    #[inline]
+    #[inline(never)]
     pub(super) fn called(&mut self, code: &Code, k: u32) -> bool
         requires { self.old.at + 1 < 2 ^ 64 }
         ensures done { (s : State) → result ≡ true → quiet (machine_at s self.new) ≡ calls_body (slice_get code.now.bodies k) (machine_at s self.old) }
@@ -75,8 +75,17 @@ impl Running {
         true
     }
 
+    /// Goes back to the frame that waits, if there is one.
+    #[inline(never)]
+    pub(super) fn returned_nothing(&mut self) -> bool
+        ensures done { (s : State) → result ≡ true → quiet (machine_at s self.new) ≡ goes_back (machine_at s self.old).callers [] (machine_at s self.old) }
+        ensures kept { result ≡ false → self.new ≡ self.old }
+    {
+        self.resume(None)
+    }
+
     /// Goes back to the frame that waits with the newest operand, if that is an int or a bool.
-    #[inline]
+    #[inline(never)]
     pub(super) fn returned(&mut self) -> bool
         ensures done { (s : State) → result ≡ true → quiet (machine_at s self.new) ≡ on_top (machine_at s self.old).operands (λ v vs. goes_back (machine_at s self.old).callers (v ∷ []) (machine_at s self.old)) }
         ensures kept { result ≡ false → self.new ≡ self.old }

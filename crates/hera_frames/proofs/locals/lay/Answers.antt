@@ -8,5 +8,5 @@ pub returns : goal.returns
 returns c =
     begun c.args.params c.args.slots c.args.operands.now.items c.move_newest.new.self.items c.fill.new.items.items c.move_newest.new.to.items c.reverse.new.self.items
     c.requires.there c.requires.held
-    (c.fill.ensures.items ∙ ap (λ xs. xs ++ replicate (c.args.slots - c.args.params) (Int (pos 0))) c.clear.ensures.items)
+    (c.fill.ensures.items ∙ ap (λ xs. xs ++ replicate (c.args.slots - c.args.params) (Int (pos 0))) c.empty.ensures.items)
     c.move_newest.ensures.moved c.reverse.ensures.items c.move_newest.ensures.rest

@@ -1,20 +1,12 @@
-use Rattle.std.proofs.Common.{refl, ◌∙◌, ap, sym}
+use Rattle.std.proofs.Common.{◌≡◌, ◌∙◌, ap, sym, subst, List}
+use Rattle.std.specs.Prelude.{IfOk}
+use Rattle.std.specs.List.{filter}
 use Rattle.std.specs.Option.{option_copied}
-use Rattle.hera_sets.proofs.Lists.{walk_falls}
-use Rattle.hera_frames.proofs.Collecting.{past_step, past_push, past_end}
+use Rattle.hera_sets.specs.Rows.{Row, is_past}
+use Rattle.hera_sets.proofs.Lists.{filter_past_none}
 use Rattle.hera_frames.proofs.past.collect_past.Goals as goal
 
-pub loop-row-init : goal.loop-row-init
-loop-row-init c = rw c.new-set.ensures refl
-
-pub push_last-requires : goal.push_last-requires
-push_last-requires c = past_push c.loop-row.set c.args.rows.now (option_copied c.args.bound) (option_copied c.loop-row.last) c.in-Some.row.now c.above_near-next.ensures.ordered (sym c.above_near-next.ensures.next ∙ ap option_copied c.in-Some.is) c.loop-row.invariant
-
-pub loop-row-smaller : goal.loop-row-smaller
-loop-row-smaller c = walk_falls c.args.rows.now (option_copied c.loop-row.last) c.in-Some.row.now c.above_near-next.ensures.ordered (sym c.above_near-next.ensures.next ∙ ap option_copied c.in-Some.is)
-
-pub loop-row-preserved : goal.loop-row-preserved
-loop-row-preserved c = rw c.in_ok-push_last.ensures.ok (past_step c.loop-row.set c.args.rows.now (option_copied c.args.bound) (option_copied c.loop-row.last) c.in-Some.row.now c.above_near-next.ensures.ordered (sym c.above_near-next.ensures.next ∙ ap option_copied c.in-Some.is) c.loop-row.invariant)
-
-pub returns-in_default : goal.returns-in_default
-returns-in_default c = past_end c.loop-row.set c.args.rows.now (option_copied c.args.bound) (option_copied c.loop-row.last) (sym c.above_near-next.ensures.next ∙ ap option_copied c.in_default.is) c.loop-row.invariant
+pub returns-in-None : goal.returns-in-None
+returns-in-None c =
+    let rows = c.args.rows.now in
+    subst (λ (all : List Row). IfOk c.collect.result (λ set. set ≡ all)) (sym (ap (λ b. filter (is_past (option_copied b)) rows) c.in-None.is ∙ filter_past_none rows)) c.collect.ensures

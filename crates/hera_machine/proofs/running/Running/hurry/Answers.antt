@@ -2,7 +2,7 @@ use Rattle.std.proofs.Common.{sym, refl, subst, arith}
 use Rattle.hera_machine.specs.Over.{state_over}
 use Rattle.hera_machine.specs.Standing.{GoesQuietly}
 use Rattle.hera_machine.specs.Working.{Work, machine_at}
-use Rattle.hera_machine.proofs.Quietly.{quietly_none, quietly_more}
+use Rattle.hera_machine.proofs.Quietly.{quietly_none, quietly_on}
 use Rattle.hera_machine.proofs.running.Running.hurry.Goals as goal
 
 pub returns-then-not-quick-clause-quietly : goal.returns-then-not-quick-clause-quietly
@@ -12,8 +12,8 @@ returns-then-not-quick-clause-quietly c = λ rels hosts.
 
 pub loop-preserved : goal.loop-preserved
 loop-preserved c = record {
-  quietly = λ rels hosts. quietly_more c.args.code.now rels hosts (state_over c.args.base.now.state c.args.commits.now) _ _ _ (c.loop.invariant.quietly rels hosts) (c.if-not-quick.ensures.steps rels hosts refl);
-  less = λ forward. let lower = c.if-not-quick.ensures.nearer forward refl in omega (arith, lower.less_left, c.loop.invariant.less forward);
+  quietly = λ rels hosts. quietly_on c.args.code.now rels hosts (state_over c.args.base.now.state c.args.commits.now) _ _ _ (c.loop.invariant.quietly rels hosts) (c.if-not-quick.ensures.quietly rels hosts refl);
+  less = λ forward. let lower = c.if-not-quick.ensures.less forward refl in omega (arith, lower, c.loop.invariant.less forward);
 }
 
 pub loop-init : goal.loop-init

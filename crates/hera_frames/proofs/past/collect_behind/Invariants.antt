@@ -2,7 +2,7 @@ use Rattle.std.proofs.Common.{◌≡◌, ◌++◌, length}
 use Rattle.std.specs.List.{filter}
 use Rattle.std.specs.Option.{option_copied}
 use Rattle.hera_sets.specs.Rows.{is_past}
-use Rattle.hera_frames.proofs.past.collect_past.Given as goal
+use Rattle.hera_frames.proofs.past.collect_behind.Given as goal
 
 -- the rows done, and those past the last one, are all rows past the bound
 abbrev pub invariant-loop-row : goal.invariant-loop-row

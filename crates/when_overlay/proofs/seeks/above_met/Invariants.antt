@@ -5,7 +5,7 @@ use Rattle.hera_sets.specs.Rows.{is_past, holds}
 use Rattle.when_overlay.specs.Changed.{rows_after}
 use Rattle.when_overlay.specs.Layered.{path}
 use Rattle.when_overlay.specs.Seeking.{met}
-use Rattle.when_overlay.proofs.seeks.above_near.Given as goal
+use Rattle.when_overlay.proofs.seeks.above_met.Given as goal
 
 -- what is sought behind the last row is what is sought
 abbrev pub invariant-loop-row : goal.invariant-loop-row
