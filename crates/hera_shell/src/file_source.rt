@@ -1,9 +1,10 @@
 ghost use Rattle.std.specs.Prelude.{◌≡◌, None};
 ghost use Rattle.std.specs.Io.{ReadsAtMost};
 
+use crate::retried::read_some;
 use hera_causes::{Failed, Source};
 use std::fs::{self, Files};
-use std::io::{self, Read};
+use std::io;
 
 /// The bytes of a file, which is opened at the first read. It tells nothing of them. Its count of faults rises by one
 /// with each opening and each read that fails, and stays at the last value of a `u64`.
@@ -35,7 +36,7 @@ impl<'a, R: Files> FileSource<'a, R> {
             Some(file) => file,
             None => fs::open(self.rt, self.path)?,
         };
-        let outcome = file.read(buf);
+        let outcome = read_some(&mut file, buf);
         self.file = Some(file);
         outcome
     }

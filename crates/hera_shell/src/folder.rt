@@ -1,9 +1,12 @@
 ghost use Rattle.std.specs.Prelude.{◌≤◌, length, IfOk};
 
+use crate::names::{make_in, make_named};
+use crate::retried::length_of;
+use crate::unsynced::{Unsynced, read_from, write_from};
 use hera_volume::FileId;
 use std::alloc::{AllocError, Global};
 use std::fs::{self, Files, OpenFile, OpenOptions};
-use std::io::{self, ErrorKind, Read, Seek, SeekFrom, Write};
+use std::io::{self, ErrorKind};
 
 /// The paths of a folder, of the folder above it and of its files.
 #[derive(Drop)]
@@ -37,39 +40,41 @@ impl Paths {
     }
 }
 
-/// The files that are open.
+/// One value for each of the three files.
 #[derive(Drop)]
-struct Opened<F: Drop> {
-    select: Option<F>,
-    left: Option<F>,
-    right: Option<F>,
+struct Each<T: Drop> {
+    select: T,
+    left: T,
+    right: T,
 }
 
-impl<F: Drop> Opened<F> {
-    fn take(&mut self, file: FileId) -> Option<F> {
+impl<T: Drop> Each<T> {
+    fn of(&mut self, file: FileId) -> &mut T {
         match file {
-            FileId::Select => self.select.take(),
-            FileId::Left => self.left.take(),
-            FileId::Right => self.right.take(),
-        }
-    }
-
-    fn put(&mut self, file: FileId, opened: F) {
-        match file {
-            FileId::Select => self.select = Some(opened),
-            FileId::Left => self.left = Some(opened),
-            FileId::Right => self.right = Some(opened),
+            FileId::Select => &mut self.select,
+            FileId::Left => &mut self.left,
+            FileId::Right => &mut self.right,
         }
     }
 }
 
 /// A folder with the files `select`, `left` and `right`, each opened at the first call on it. The folder, those above it
 /// that are missing, and a missing file are made at the first write. Where there is no folder at all, each call fails.
+///
+/// A file's name is synced before its first byte is written, with the names of the folders on the way to it, whoever
+/// made them: an earlier process may have made them and come to its end before the sync.
+///
+/// Where a sync of a file fails, the system may take what it could not write for written. So all that was written to the
+/// file since its last sync that went well is then written again, as a read gives it, and the next sync of any process
+/// writes it or fails too.
 #[derive(Drop)]
 pub(crate) struct Folder<'a, R: Files> {
     rt: &'a R,
     paths: Option<Paths>,
-    opened: Opened<R::File>,
+    opened: Each<Option<R::File>>,
+    unsynced: Each<Unsynced>,
+    /// Whether the file's name is synced.
+    named: Each<bool>,
 }
 
 impl<'a, R: Files> Folder<'a, R> {
@@ -78,17 +83,27 @@ impl<'a, R: Files> Folder<'a, R> {
         Folder {
             rt,
             paths,
-            opened: Opened {
+            opened: Each {
                 select: None,
                 left: None,
                 right: None,
+            },
+            unsynced: Each {
+                select: Unsynced::all(),
+                left: Unsynced::all(),
+                right: Unsynced::all(),
+            },
+            named: Each {
+                select: false,
+                left: false,
+                right: false,
             },
         }
     }
 
     /// The file, or `None` where it is missing.
     fn find(&mut self, file: FileId) -> io::Result<Option<R::File>> {
-        if let Some(opened) = self.opened.take(file) {
+        if let Some(opened) = self.opened.of(file).take() {
             return Ok(Some(opened));
         }
         let Some(paths) = &self.paths else {
@@ -103,12 +118,27 @@ impl<'a, R: Files> Folder<'a, R> {
         }
     }
 
-    /// A new file, whose name is synced.
-    fn make(&mut self, file: FileId) -> io::Result<R::File> {
+    /// The file, which is made where it is missing. Its name is synced then.
+    fn find_named(&mut self, file: FileId) -> io::Result<R::File> {
+        if let Some(opened) = self.find(file)? {
+            if *self.named.of(file) || length_of(&opened)? > 0 {
+                *self.named.of(file) = true;
+                return Ok(opened);
+            }
+        }
+        let opened = self.make_named_file(file)?;
+        *self.named.of(file) = true;
+        Ok(opened)
+    }
+
+    /// The file, which is made where it is missing, with its folder. The names of both are synced.
+    fn make_named_file(&self, file: FileId) -> io::Result<R::File> {
         let Some(paths) = &self.paths else {
             return Err(io::Error::from(ErrorKind::Unsupported));
         };
-        let folder = folder_at(self.rt, paths)?;
+        make_named(self.rt, paths.folder.as_str())?;
+        make_in(self.rt, paths.above.as_str(), paths.folder.as_str())?;
+        let folder = fs::open(self.rt, paths.folder.as_str())?;
         let mut how = OpenOptions::new();
         how.read(true).write(true).create(true);
         let opened = how.open(self.rt, paths.of(file))?;
@@ -120,9 +150,9 @@ impl<'a, R: Files> Folder<'a, R> {
     pub(crate) fn len(&mut self, file: FileId) -> io::Result<u64> {
         match self.find(file)? {
             Some(opened) => {
-                let outcome = opened.metadata();
-                self.opened.put(file, opened);
-                Ok(outcome?.len())
+                let outcome = length_of(&opened);
+                *self.opened.of(file) = Some(opened);
+                outcome
             }
             None => Ok(0),
         }
@@ -135,7 +165,7 @@ impl<'a, R: Files> Folder<'a, R> {
         match self.find(file)? {
             Some(mut opened) => {
                 let outcome = read_from(&mut opened, at, buf);
-                self.opened.put(file, opened);
+                *self.opened.of(file) = Some(opened);
                 outcome
             }
             None => Ok(0),
@@ -144,12 +174,11 @@ impl<'a, R: Files> Folder<'a, R> {
 
     /// Puts the bytes over what stands at `at`.
     pub(crate) fn write_at(&mut self, file: FileId, at: u64, bytes: &[u8]) -> io::Result<()> {
-        let mut opened = match self.find(file)? {
-            Some(opened) => opened,
-            None => self.make(file)?,
-        };
+        let mut opened = self.find_named(file)?;
+        let unsynced = self.unsynced.of(file);
+        *unsynced = unsynced.with(at, bytes.len());
         let outcome = write_from(&mut opened, at, bytes);
-        self.opened.put(file, opened);
+        *self.opened.of(file) = Some(opened);
         outcome
     }
 
@@ -157,8 +186,8 @@ impl<'a, R: Files> Folder<'a, R> {
     pub(crate) fn cut(&mut self, file: FileId, len: u64) -> io::Result<()> {
         match self.find(file)? {
             Some(opened) => {
-                let outcome = opened.set_len(len);
-                self.opened.put(file, opened);
+                let outcome = self.shorten(file, &opened, len);
+                *self.opened.of(file) = Some(opened);
                 outcome
             }
             None if len == 0 => Ok(()),
@@ -166,50 +195,38 @@ impl<'a, R: Files> Folder<'a, R> {
         }
     }
 
+    /// Shortens an open file. One that has bytes has a name that is synced.
+    fn shorten(&mut self, file: FileId, opened: &R::File, len: u64) -> io::Result<()> {
+        if length_of(opened)? > 0 {
+            *self.named.of(file) = true;
+        }
+        opened.set_len(len)
+    }
+
     /// Syncs the file, where it is not missing.
     pub(crate) fn sync(&mut self, file: FileId) -> io::Result<()> {
         match self.find(file)? {
-            Some(opened) => {
-                let outcome = opened.sync_all();
-                self.opened.put(file, opened);
+            Some(mut opened) => {
+                let outcome = self.sync_or_write_again(file, &mut opened);
+                *self.opened.of(file) = Some(opened);
                 outcome
             }
             None => Ok(()),
         }
     }
-}
 
-/// Reads from `at` on until `buf` is full or the file ends.
-fn read_from<F: Read + Seek>(opened: &mut F, at: u64, buf: &mut [u8]) -> io::Result<usize>
-    ensures { IfOk result (λ n. n ≤ length buf.old) }
-{
-    opened.seek(SeekFrom::Start(at))?;
-    let mut count = 0;
-    while count < buf.len() {
-        let more = opened.read(&mut buf[count..])?;
-        if more == 0 {
-            return Ok(count);
+    /// Syncs an open file. Where that fails, what was unsynced is written again.
+    fn sync_or_write_again(&mut self, file: FileId, opened: &mut R::File) -> io::Result<()> {
+        let unsynced = self.unsynced.of(file);
+        match opened.sync_all() {
+            Ok(()) => {
+                *unsynced = Unsynced::none();
+                Ok(())
+            }
+            Err(error) => {
+                let _outcome = unsynced.write_again(opened);
+                Err(error)
+            }
         }
-        count += more;
-    }
-    Ok(count)
-}
-
-/// Writes all the bytes from `at` on.
-fn write_from<F: Write + Seek>(opened: &mut F, at: u64, bytes: &[u8]) -> io::Result<()> {
-    opened.seek(SeekFrom::Start(at))?;
-    opened.write_all(bytes)
-}
-
-/// The folder itself, which is made where it is missing, with those above it. Its name is synced then.
-fn folder_at<R: Files>(rt: &R, paths: &Paths) -> io::Result<R::File> {
-    match fs::open(rt, paths.folder.as_str()) {
-        Ok(folder) => Ok(folder),
-        Err(error) if error.kind() == ErrorKind::NotFound => {
-            fs::create_dir_all(rt, paths.folder.as_str())?;
-            fs::open(rt, paths.above.as_str())?.sync_all()?;
-            fs::open(rt, paths.folder.as_str())
-        }
-        Err(error) => Err(error),
     }
 }

@@ -10,19 +10,28 @@ ghost use Rattle.std.specs.Prelude.{◌≡◌, IfOk, length};
 mod file_outside;
 mod file_source;
 mod folder;
+mod names;
+mod retried;
 mod standard_output;
+mod standard_streams;
+mod unsynced;
 
 use file_outside::FileOutside;
 use file_source::FileSource;
 use folder::Paths;
 use hera_meaning::Scalar;
 use hera_top::{files_of, folder_of, hera};
+use standard_streams::take_closed;
 use program_hosts::{band, bucket, clamp, is_sku, program_hosts};
 use std::alloc::{AllocError, Global};
+use std::os::fd::AsRawFd;
 use std::fs::Files;
 use std::io;
 use std::process::ExitCode;
 use std::rt::Env;
+
+/// The status where standard output failed.
+const OUTPUT_FAILED: u8 = 8;
 
 /// The status where there was no memory.
 const NO_MEMORY: u8 = 9;
@@ -87,6 +96,18 @@ fn status<R: Env + Files + Print + AllocGlobal + Drop>(rt: &R) -> Result<u8, All
     ))
 }
 
+/// Carries out the command line with no file behind a standard stream, and gives the exit status.
+fn status_apart<R: Env + Files + Print + AllocGlobal + Drop>(rt: &R) -> u8
+where
+    R::File: AsRawFd,
+{
+    match take_closed(rt.alloc(), rt) {
+        Ok(_taken) => status(rt).unwrap_or(NO_MEMORY),
+        Err(error) if error.kind() == io::ErrorKind::OutOfMemory => NO_MEMORY,
+        Err(_) => OUTPUT_FAILED,
+    }
+}
+
 fn main(rt: HostRuntime) -> ExitCode {
-    ExitCode::from(status(&rt).unwrap_or(NO_MEMORY))
+    ExitCode::from(status_apart(&rt))
 }

@@ -1,5 +1,6 @@
 ghost use Rattle.std.specs.Prelude.{None};
 
+use crate::retried::print_some;
 use hera_causes::{Failed, Output};
 
 /// Standard output. It tells nothing of the bytes so far. Its count of faults rises by one with each write that fails,
@@ -32,7 +33,7 @@ impl<'a, P: Print> Output for StandardOutput<'a, P> {
         if bytes.is_empty() {
             return Ok(0);
         }
-        match self.rt.write_some(bytes) {
+        match print_some(self.rt, bytes) {
             Ok(n) if n > 0 => Ok(n),
             _ => {
                 self.faults = self.faults.saturating_add(1);
@@ -46,14 +47,25 @@ impl<'a, P: Print> Output for StandardOutput<'a, P> {
 mod tests {
     use super::*;
     use hera_causes::emit_all;
+    use std::cell::Cell;
     use std::fmt::Display;
     use std::io::{Error, ErrorKind, Result};
     use std::test::Fail;
 
-    /// An output that takes so many bytes of each piece.
+    /// An output that takes so many bytes of each piece, once so many signals have interrupted it.
     #[derive(Drop)]
     struct Sink {
         takes: usize,
+        signals: Cell<u8>,
+    }
+
+    impl Sink {
+        fn new(takes: usize, signals: u8) -> Sink {
+            Sink {
+                takes,
+                signals: Cell::new(signals),
+            }
+        }
     }
 
     impl Print for Sink {
@@ -70,17 +82,22 @@ mod tests {
         }
 
         fn write_some(&self, bytes: &[u8]) -> Result<usize> {
+            let signals = self.signals.get();
+            self.signals.set(signals.saturating_sub(1));
+            if signals > 0 {
+                return Err(Error::from(ErrorKind::Interrupted));
+            }
             Ok(self.takes.min(bytes.len()))
         }
     }
 
     #[test]
     fn a_piece_that_is_not_taken_is_a_fault(rt: HostRuntime) -> std::result::Result<(), Fail> {
-        let slow = Sink { takes: 1 };
+        let slow = Sink::new(1, 2);
         let mut output = StandardOutput::new(&slow);
         assert!(rt; emit_all(&mut output, b"14\n").is_ok());
         assert_eq!(rt; output.faults, 0);
-        let full = Sink { takes: 0 };
+        let full = Sink::new(0, 0);
         let mut output = StandardOutput::new(&full);
         assert!(rt; emit_all(&mut output, b"14\n").is_err());
         assert_eq!(rt; output.faults, 1);
