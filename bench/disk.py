@@ -8,6 +8,7 @@ above it is synced.
 """
 
 import os
+import re
 
 NAMES = ("select", "left", "right")
 CLEAN, DIRTY, LOST = 0, 1, 2
@@ -62,30 +63,29 @@ class File:
         if self.least != self.most:
             self.length_is_lost = True
 
-    def is_free(self, place):
-        return place >= self.least or self.places[place] != CLEAN if place < len(self.cache) else True
-
-    def image(self, length, byte):
-        """So many bytes, with byte(place) wherever a loss of power may leave any."""
-        return bytes(byte(place) if self.is_free(place) else self.cache[place] for place in range(length))
+    def image(self, length, other):
+        """So many bytes, with those of another wherever a loss of power may leave any."""
+        found = self.cache[:length].ljust(length, b"\0")
+        for run in re.finditer(rb"[^\0]+", self.places[:length]):
+            found[run.start() : run.end()] = other[run.start() : run.end()]
+        found[self.least :] = other[self.least : length]
+        return bytes(found)
 
     def images(self, draw):
         """What may be left: each subset of what was written, and other bytes, with several lengths."""
-        if not self.pending and self.least == self.most and not any(self.places):
-            return [bytes(self.cache)]
-        found = []
-        lengths = {self.least, self.most, draw.randint(self.least, self.most)}
+        missing = [] if self.named else [None]
+        if self.least == self.most and not any(self.places):
+            return [bytes(self.cache)] + missing
+        others = [bytes([byte]) * self.most for byte in (0, 1, 255)] + [draw.randbytes(self.most)]
         for subset in range(1 << min(len(self.pending), 4)):
             data = bytearray(self.disk.ljust(self.most, b"\0"))
             for number, (at, piece) in enumerate(self.pending[-4:]):
                 if subset >> number & 1:
                     data[at : at + len(piece)] = piece
-            data = bytes(data).ljust(self.most, b"\0")
-            found += [self.image(length, data.__getitem__) for length in lengths]
-        for byte in (0, 1, 255):
-            found += [self.image(length, lambda place: byte) for length in lengths]
-        found += [self.image(length, lambda place: draw.randrange(256)) for length in lengths]
-        return list(dict.fromkeys(found)) + ([] if self.named else [None])
+            others.append(bytes(data))
+        lengths = {self.least, self.most, draw.randint(self.least, self.most)}
+        found = [self.image(length, other) for other in others for length in sorted(lengths)]
+        return list(dict.fromkeys(found)) + missing
 
 
 class Disk:

@@ -196,7 +196,9 @@ class Session:
         data = self.draw.choice(list(self.disk.images(self.draw, 8)))
         self.story.append("loss of power")
         self.told = []
-        self.box.fill(self.box.folder, data)
+        self.box.clear()
+        if any(piece is not None for piece in data.values()):
+            self.box.fill(self.box.folder, data)
         self.disk = Disk(self.box.folder, data)
 
     def lose_behind(self):
@@ -236,15 +238,18 @@ def plans(lines):
             yield number, f"{number}+:EIO"
 
 
-def blame(box, lines, number):
-    """The status of a failure of this call alone, and whether it may also go well."""
+def blame(box, clean, number):
+    """The statuses that may come of a failure of this call alone."""
+    text, status, lines = clean
     disk = Disk(box.folder, {})
     for line in lines[: number - 1]:
         disk.follow(line)
     name, descriptor, _, _, payload = lines[number - 1].split(" ")
     path = bytes.fromhex(payload).decode() if name in ("open", "mkdir") else disk.opened.get(int(descriptor), "")
-    if name == "close" or name == "mkdir" or path == "/" and name == "open" and number == 1:
-        return {0, 6}
+    if name in ("close", "mkdir"):
+        return {status, 6}
+    if number == 1:
+        return {status, 8}
     if descriptor == "1":
         return {8}
     return {7} if path == box.script else {6}
@@ -258,7 +263,7 @@ def try_call(box, draw, case, plan, clean, number):
     fate = plan.split(":")[1]
     if fate in ("EINTR", "short") and (text, status) != clean[:2]:
         raise Wrong(f"{session.story}: {text[:200]!r} {status} in place of {clean[:2]}")
-    if fate in ("EIO", "ENOSPC") and status not in blame(box, clean[2], number) | {clean[1]} & {5}:
+    if fate in ("EIO", "ENOSPC") and status not in blame(box, clean, number):
         raise Wrong(f"{session.story}: status {status}")
     session.lose_power(3)
     session.do("dump")

@@ -21,12 +21,12 @@ use file_source::FileSource;
 use folder::Paths;
 use hera_meaning::Scalar;
 use hera_top::{files_of, folder_of, hera};
-use standard_streams::take_closed;
 use program_hosts::{band, bucket, clamp, is_sku, program_hosts};
+use standard_streams::take_closed;
 use std::alloc::{AllocError, Global};
-use std::os::fd::AsRawFd;
 use std::fs::Files;
 use std::io;
+use std::os::fd::AsRawFd;
 use std::process::ExitCode;
 use std::rt::Env;
 

@@ -1,9 +1,9 @@
 //! The numbers of the three standard streams.
 
 use std::alloc::Global;
-use std::os::fd::AsRawFd;
 use std::fs::{self, Files};
 use std::io;
+use std::os::fd::AsRawFd;
 
 /// The number of the last standard stream.
 const LAST_STREAM: i32 = 2;

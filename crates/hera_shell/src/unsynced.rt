@@ -53,7 +53,10 @@ impl Unsynced {
 
     /// Writes what stands at these places again, and sets the file's length again, so that the system takes both for
     /// unsynced once more. A page that can't be read or written stays as it is.
-    pub(crate) fn write_again<F: Read + Write + Seek + OpenFile>(self, opened: &mut F) -> io::Result<()> {
+    pub(crate) fn write_again<F: Read + Write + Seek + OpenFile>(
+        self,
+        opened: &mut F,
+    ) -> io::Result<()> {
         let len = length_of(opened)?;
         let end = self.to.min(len);
         for page in self.from / PAGE..end.div_ceil(PAGE) {
@@ -75,7 +78,11 @@ fn write_page_again<F: Read + Write + Seek>(opened: &mut F, from: u64, to: u64) 
 }
 
 /// Reads from `at` on until `buf` is full or the file ends.
-pub(crate) fn read_from<F: Read + Seek>(opened: &mut F, at: u64, buf: &mut [u8]) -> io::Result<usize>
+pub(crate) fn read_from<F: Read + Seek>(
+    opened: &mut F,
+    at: u64,
+    buf: &mut [u8],
+) -> io::Result<usize>
     ensures { IfOk result (λ n. n ≤ length buf.old) }
 {
     seek_to(opened, at)?;
