@@ -31,9 +31,9 @@ from disk import NAMES, Disk
 BENCH = os.path.dirname(os.path.abspath(__file__))
 UNREAD = b"script unread\n"
 KILLED = -signal.SIGKILL
-RELATION = b"relation R(a int);\n"
-# Rows that are put in by one commit, so that a half has several pages.
-MANY = frozenset(range(10000, 11300))
+RELATION = b"relation R(a int, b text);\n"
+# Rows with long texts, put in by one commit, so that a half has several pages.
+MANY = frozenset(range(10000, 10060))
 
 
 class Answer:
@@ -53,8 +53,12 @@ class Answer:
         return []
 
 
+def text_of(row):
+    return b"x" * 200 if row in MANY else b""
+
+
 def dump_text(state):
-    rows = b"".join(b"[%d]\n" % row for row in sorted(state))
+    rows = b"".join(b'[%d, "%s"]\n' % (row, text_of(row)) for row in sorted(state))
     return RELATION + b"rows %d\n" % len(state) + rows
 
 
@@ -62,7 +66,7 @@ def script_of(rows):
     """A script that commits each of these rows, or sets of rows, one after the other."""
     text = b""
     for some in rows:
-        atoms = b"; ".join(b"apply {+R(%d)}" % row for row in sorted(some))
+        atoms = b"; ".join(b'apply {+R(%d, "%s")}' % (row, text_of(row)) for row in sorted(some))
         text += atoms + b"; commit;\n"
     return RELATION + b"main {\n" + text + b"}\n"
 
@@ -362,8 +366,8 @@ def try_streams(box, options, number, processes):
 
 
 def random_plan(draw):
-    fate = draw.choice(["EIO", "EIO", "ENOSPC", "EINTR", "short", "part", "before", "behind"])
-    return f"{draw.randint(1, 60)}{draw.choice(['', '', '+'])}:{fate}"
+    fate = draw.choice(["EIO", "EIO+", "ENOSPC", "EINTR", "short", "part", "before", "behind"])
+    return f"{draw.randint(1, 60)}{'+' * fate.count('+')}:{fate.strip('+')}"
 
 
 def try_chain(box, draw):
