@@ -7,12 +7,14 @@ to the disk, unless they are written again, as Linux does it. The name of a file
 above it is synced.
 """
 
+import errno
 import os
 import re
 
 NAMES = ("select", "left", "right")
 CLEAN, DIRTY, LOST = 0, 1, 2
 O_CREAT = 0o100
+INTERRUPTED = -errno.EINTR
 
 
 class File:
@@ -111,7 +113,7 @@ class Disk:
             self.unnamed.add(os.path.normpath(bytes.fromhex(payload).decode()))
         elif name == "close":
             self.opened.pop(descriptor, None)
-        elif name == "fsync":
+        elif name == "fsync" and answer != INTERRUPTED:
             self.sync(descriptor, answer == 0)
         elif self.file_at(descriptor) and answer >= 0 and name == "write":
             self.file_at(descriptor).write(number, bytes.fromhex(payload))

@@ -7,8 +7,9 @@
 //   before, behind     the end of the program, before the call or behind it
 // A number with a + behind it, as in 7+:EIO, stands for this call and all later syncs. A name in place of a number, as in
 // left:EIO, stands for the first sync of that file: so the system tells a failure that came behind the back of all.
-// FAULTS_LOG names a file to which each call adds a line: its name, its descriptor, what it answered, a number (the place
-// of a read or a write, the length of a cut, the flags of an opening), and the path or the bytes written, in hexadecimal.
+// FAULTS_LOG names a file to which each call adds a line: its name, its descriptor, what it answered (below 0 the error), a
+// number (the place of a read or a write, the length of a cut, the flags of an opening), and the path or the bytes written,
+// in hexadecimal.
 #define _GNU_SOURCE
 #include <errno.h>
 #include <fcntl.h>
@@ -97,7 +98,7 @@ static long done(enum fate fate, const char *name, int fd, long answer, long lon
     if (log_file >= 0) {
         char *line = NULL;
         char head[128];
-        int length = snprintf(head, sizeof head, "%s %d %ld %lld ", name, fd, answer, number);
+        int length = snprintf(head, sizeof head, "%s %d %ld %lld ", name, fd, answer < 0 ? -(long)error : answer, number);
         size_t whole = length + 2 * size + 1;
         static char room[1 << 20];
         if (whole < sizeof room) {

@@ -20,13 +20,14 @@ import multiprocessing
 import os
 import random
 import resource
+import shutil
 import signal
 import subprocess
 import sys
 import time
 
 from common import Folder, Wrong, call
-from disk import NAMES, Disk
+from disk import INTERRUPTED, NAMES, Disk
 
 BENCH = os.path.dirname(os.path.abspath(__file__))
 UNREAD = b"script unread\n"
@@ -124,10 +125,8 @@ class Box(Folder):
         return found
 
     def clear(self):
-        if os.path.isdir(self.folder):
-            self.fill(self.folder, {})
-            os.rmdir(self.folder)
-            os.rmdir(os.path.dirname(self.folder))
+        """Takes the folder away, and the one above it."""
+        shutil.rmtree(os.path.dirname(self.folder), ignore_errors=True)
 
     def ask(self, command, rows=(), plan="", **more):
         """Calls the program with a plan of failures, and gives its answer and the lines of its calls."""
@@ -187,7 +186,7 @@ class Session:
         self.disk.follow(line)
         name, descriptor, answer = line.split(" ")[:3]
         path = os.path.basename(self.disk.opened.get(int(descriptor), ""))
-        if name == "fsync" and answer != "0" and path in self.told:
+        if name == "fsync" and int(answer) not in (0, INTERRUPTED) and path in self.told:
             self.told.remove(path)
 
     def lose_power(self, most):
