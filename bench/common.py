@@ -1,10 +1,12 @@
 """What the parts of the driver share: a call of the program, the judge of its answer, and a folder to try it on."""
 
+import multiprocessing
 import os
 import re
 import shutil
 import subprocess
 import tempfile
+import time
 
 # After so many seconds a call is taken for one that does not return.
 HANG = 600
@@ -94,3 +96,23 @@ class Folder:
             except FileNotFoundError:
                 files.append(b"")
         return files
+
+
+def in_processes(part, unit, work, arguments, processes):
+    """A part in several processes: each calls `work` with its arguments, its number and a queue, into which it puts how
+    many went well, and what was wrong or None. Gives how many went well in all."""
+    answers, begun = multiprocessing.Queue(), time.monotonic()
+    workers = [
+        multiprocessing.Process(target=work, args=(*arguments, number, answers)) for number in range(processes)
+    ]
+    for worker in workers:
+        worker.start()
+    told = [answers.get() for _ in workers]
+    for worker in workers:
+        worker.join()
+    for _, wrong in told:
+        if wrong:
+            raise Wrong(f"{part}: {wrong}")
+    count = sum(count for count, _ in told)
+    print(f"{part}: {count} {unit} in {time.monotonic() - begun:.0f} s", flush=True)
+    return count

@@ -16,7 +16,6 @@ the commits that were acknowledged, or these and the next one. The disk of a los
 """
 
 import argparse
-import multiprocessing
 import os
 import random
 import resource
@@ -24,9 +23,8 @@ import shutil
 import signal
 import subprocess
 import sys
-import time
 
-from common import Folder, Wrong, call
+from common import Folder, Wrong, call, in_processes
 from disk import INTERRUPTED, NAMES, Disk
 
 BENCH = os.path.dirname(os.path.abspath(__file__))
@@ -415,22 +413,7 @@ def work(part, options, library, number, answers):
 
 def run_part(part, options, library):
     """A part in several processes. Gives how many answers of the program were right."""
-    answers, begun = multiprocessing.Queue(), time.monotonic()
-    workers = [
-        multiprocessing.Process(target=work, args=(part, options, library, number, answers))
-        for number in range(options.processes)
-    ]
-    for worker in workers:
-        worker.start()
-    told = [answers.get() for _ in workers]
-    for worker in workers:
-        worker.join()
-    for _, wrong in told:
-        if wrong:
-            raise Wrong(f"{part}: {wrong}")
-    made = sum(count for count, _ in told)
-    print(f"{part}: {made} answers in {time.monotonic() - begun:.0f} s", flush=True)
-    return made
+    return in_processes(part, "answers", work, (part, options, library), options.processes)
 
 
 def main():

@@ -16,7 +16,6 @@ part scripts, take N seconds each, in N processes at a time.
 """
 
 import argparse
-import multiprocessing
 import os
 import random
 import resource
@@ -26,7 +25,7 @@ import time
 
 import memory
 import reader
-from common import Folder, Wrong, call, judge
+from common import Folder, Wrong, call, in_processes, judge
 from inputs import Halves, Scripts
 
 
@@ -138,7 +137,7 @@ MEMORY = 4 << 30
 PARTS = {"bytes": try_bytes, "halves": try_halves, "scripts": try_scripts}
 
 
-def work(part, program, number, processes, seconds, seed, answers):
+def work(part, program, processes, seconds, seed, number, answers):
     """One process of a part: counts its inputs until the time is over, or something is wrong."""
     signal.signal(signal.SIGINT, signal.SIG_IGN)
     draw, count, end = random.Random(f"{seed} {number}"), 0, time.monotonic() + seconds
@@ -154,24 +153,9 @@ def work(part, program, number, processes, seconds, seed, answers):
 
 
 def run_part(part, options):
-    """A part in several processes, and how many inputs went well."""
-    answers, begun = multiprocessing.Queue(), time.monotonic()
-    workers = [
-        multiprocessing.Process(
-            target=work,
-            args=(part, options.program, number, options.processes, options.seconds, options.seed, answers),
-        )
-        for number in range(options.processes)
-    ]
-    for worker in workers:
-        worker.start()
-    told = [answers.get() for _ in workers]
-    for worker in workers:
-        worker.join()
-    for _, wrong in told:
-        if wrong:
-            raise Wrong(f"{part}: {wrong}")
-    print(f"{part}: {sum(count for count, _ in told)} inputs in {time.monotonic() - begun:.0f} s", flush=True)
+    """A part in several processes."""
+    arguments = (part, options.program, options.processes, options.seconds, options.seed)
+    in_processes(part, "inputs", work, arguments, options.processes)
 
 
 def main():
