@@ -5,7 +5,8 @@ README's table of statuses has not: a crash, a hang, another status, or a text t
     bench/hostile.py PROGRAM [--seconds N] [--processes N] [--seed N] [--only PART] [--cases PROGRAM]
 
 Its parts:
-  bytes    each byte of the 43-byte half of docs/FORMATS.md set to each of 256 values, and each cut of it, by `dump`
+  bytes    each byte of the 43-byte half of docs/FORMATS.md, in either format, set to each of 256 values, and each cut of it,
+           by `dump`
   halves   databases well formed and damaged, by `dump` and `checkpoint`
   scripts  random bytes, token soups, broken examples and phrases of the grammar, by `check`, `list`, `eval`, `init`, `run`
   memory   each allocation of a command refused in turn: on a script, and on init, run, dump and checkpoint of a folder
@@ -43,10 +44,11 @@ def compare_dump(program, folder, select, left, right=b""):
 
 def try_bytes(program, folder, draw, number, processes):
     """Each byte of the example set to each value, and each cut of it; a share of these, by `number`."""
-    half, count = reader.EXAMPLE, 0
-    changed = [half[:place] for place in range(len(half) + 1)]
-    for place in range(len(half)):
-        changed += [half[:place] + bytes([byte]) + half[place + 1 :] for byte in range(256)]
+    count, changed = 0, []
+    for half in reader.EXAMPLES:
+        changed += [half[:place] for place in range(len(half) + 1)]
+        for place in range(len(half)):
+            changed += [half[:place] + bytes([byte]) + half[place + 1 :] for byte in range(256)]
     for left in changed[number::processes]:
         count += compare_dump(program, folder, b"\0", left)
     if number == 0:

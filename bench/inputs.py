@@ -5,7 +5,7 @@ import os
 import random
 import re
 
-from reader import EXAMPLE, MAGIC, PAGE
+from reader import EXAMPLES, PAGES
 
 KEYWORDS = (
     "relation func proc main int bool text delta rel tuple if else while foreach in print apply commit rollback assert "
@@ -16,7 +16,7 @@ PUNCTUATION = "( ) [ ] { } , ; : . = == != < <= > >= + - * / % ! & && ||".split(
 NAMES = "R S T a b c x y f p été 关系 _".split()
 OTHERS = [
     "0", "1", "7", "9223372036854775807", "9223372036854775808", "00", "1000",
-    '""', '"x"', '"\\n"', '"' + "y" * 255 + '"', '"' + "y" * 256 + '"', '"é"', '"\\q"', '"',
+    '""', '"x"', '"\\n"', '"' + "y" * 1023 + '"', '"' + "y" * 1024 + '"', '"é"', '"\\q"', '"',
     "// note\n", "/* note */", "/*/", "/*", "\\", "#", "\0", "\ufeff", "\u2028", "ͺ",
 ]
 
@@ -199,7 +199,7 @@ class Halves:
         self.draw = draw
 
     def draw_one(self):
-        half = self.draw.choice([EXAMPLE, self.half()])
+        half = self.draw.choice([*EXAMPLES, self.half(), self.half()])
         for _ in range(self.draw.choice([0, 1, 1, 1, 2, 3])):
             half = self.damage(half)
         return half
@@ -234,16 +234,16 @@ class Halves:
             return self.draw.choice([0, 1, 2**63, 2**64 - 1, self.draw.randrange(2**64)]).to_bytes(8, "big")
         if kind == 2:
             return bytes([self.draw.randrange(2)])
-        return self.draw.choice(["", "a", 'q"\\\n\t', "é", "z" * self.draw.randrange(256)]).encode()[:255] + b"\0"
+        return self.draw.choice(["", "a", 'q"\\\n\t', "é", "z" * self.draw.choice([7, 255, 1023])]).encode() + b"\0"
 
     def row(self, kinds):
         return b"".join(self.field(kind) for kind in kinds)
 
-    def pages(self, relation, rows):
-        """The pages of a relation with these rows, filled in order."""
+    def pages(self, size, relation, rows):
+        """The pages of so many bytes of a relation with these rows, filled in order."""
         pages, page, count = [], b"", 0
         for row in rows:
-            if 4 + len(page) + len(row) > PAGE:
+            if 4 + len(page) + len(row) > size:
                 pages.append((count, page))
                 page, count = b"", 0
             page += row
@@ -251,7 +251,7 @@ class Halves:
         if count:
             pages.append((count, page))
         number = relation.to_bytes(2, "big")
-        return [(number + count.to_bytes(2, "big") + page).ljust(PAGE, b"\0") for count, page in pages]
+        return [(number + count.to_bytes(2, "big") + page).ljust(size, b"\0") for count, page in pages]
 
     def record(self, kinds_of):
         atoms = {}
@@ -264,6 +264,7 @@ class Halves:
         return b"\1" + len(atoms).to_bytes(4, "big") + body
 
     def half(self):
+        magic, size = self.draw.choice([*PAGES.items()])
         names, header, kinds_of = [], b"", []
         for _ in range(self.draw.choice([0, 1, 1, 2, 3])):
             attributes = []
@@ -277,8 +278,8 @@ class Halves:
         pages = []
         for relation, kinds in enumerate(kinds_of):
             rows = {self.row(kinds) for _ in range(self.draw.choice([0, 1, 2, 40, 300]))}
-            pages += self.pages(relation, sorted(rows))
+            pages += self.pages(size, relation, sorted(row for row in rows if 4 + len(row) <= size))
         journal = b"".join(self.record(kinds_of) for _ in range(self.draw.randrange(3))) if kinds_of else b""
         behind = self.draw.randbytes(self.draw.choice([0, 0, 5]))
         count = len(kinds_of).to_bytes(2, "big")
-        return MAGIC + count + header + len(pages).to_bytes(4, "big") + b"".join(pages) + journal + b"\0" + behind
+        return magic + count + header + len(pages).to_bytes(4, "big") + b"".join(pages) + journal + b"\0" + behind

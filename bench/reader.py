@@ -4,8 +4,8 @@ Nothing here is taken from the program: what the two say of the same bytes is co
 """
 
 LONGEST = 268_435_456
-MAGIC = b"HERA0001"
-PAGE = 8192
+# the bytes of a page, by the format's magic
+PAGES = {b"HERA0001": 8192, b"HERA0002": 32_768}
 KINDS = {1: "int", 2: "bool", 3: "text"}
 
 
@@ -66,7 +66,7 @@ def row_length(data, at, schema):
                 return None
             at += 1
         else:
-            end = data.find(b"\0", at, at + 256)
+            end = data.find(b"\0", at, at + 1024)
             if end < 0:
                 return None
             try:
@@ -80,7 +80,8 @@ def row_length(data, at, schema):
 
 
 def read_header(fields):
-    fields.take(8, lambda magic: magic == MAGIC)
+    """The bytes of a page, and the relations."""
+    size = PAGES[fields.take(8, lambda magic: magic in PAGES)]
     catalogue = []
     for _ in range(fields.number(2, lambda n: n <= 256)):
         name = fields.name([relation for relation, _ in catalogue])
@@ -89,10 +90,10 @@ def read_header(fields):
             attribute = fields.name([earlier for earlier, _ in schema])
             schema.append((attribute, KINDS[fields.number(1, lambda n: n in KINDS)]))
         catalogue.append((name, schema))
-    return catalogue
+    return size, catalogue
 
 
-def read_pages(fields, catalogue):
+def read_pages(fields, size, catalogue):
     state = [[] for _ in catalogue]
     before, used = -1, 0
     for _ in range(fields.number(4)):
@@ -104,15 +105,15 @@ def read_pages(fields, catalogue):
             at = fields.at
 
             def belongs(row):
-                if at + len(row) > start + PAGE:
+                if at + len(row) > start + size:
                     return False
                 if rows and row <= rows[-1]:
                     return False
-                return not (place == 0 and full is not None and full + len(row) <= PAGE)
+                return not (place == 0 and full is not None and full + len(row) <= size)
 
             rows.append(fields.row(catalogue[relation][1], belongs))
         before, used = relation, fields.at - start
-        fill = start + PAGE - fields.at
+        fill = start + size - fields.at
         if fill:
             fields.take(fill, lambda rest: not any(rest))
     return state
@@ -141,8 +142,8 @@ def read_half(data):
     if len(data) > LONGEST:
         raise Damaged(LONGEST)
     fields = Fields(data)
-    catalogue = read_header(fields)
-    state = read_pages(fields, catalogue)
+    size, catalogue = read_header(fields)
+    state = read_pages(fields, size, catalogue)
     return catalogue, read_journal(fields, catalogue, state)
 
 
@@ -187,12 +188,15 @@ def dump(select, left, right):
     return b"".join(lines), 0
 
 
-# The example of docs/FORMATS.md: two relations, and one commit of {+R(1)}.
+# The example of docs/FORMATS.md: two relations, and one commit of {+R(1)}, in format 2.
 EXAMPLE = bytes.fromhex(
-    "48 45 52 41 30 30 30 31  00 02"
+    "48 45 52 41 30 30 30 32  00 02"
     "01 52 01 01 61 01  01 53 01 01 61 01  00 00 00 00"
     "01 00 00 00 01 01 00 00 80 00 00 00 00 00 00 01 00"
 )
+
+# The same half in each format.
+EXAMPLES = [magic + EXAMPLE[8:] for magic in PAGES]
 
 
 def with_bytes(half, changes):
@@ -203,28 +207,30 @@ def with_bytes(half, changes):
     return bytes(changed)
 
 
-# The wanted places of damage of the example, each written by hand from the table of fields.
+# Changes of the example with the wanted places of damage, each written by hand from the table of fields.
 PLACES = [
-    ("cut to 7 bytes", EXAMPLE[:7], 0),
-    ("257 relations", with_bytes(EXAMPLE, {8: 1, 9: 1}), 8),
-    ("a kind that is none", with_bytes(EXAMPLE, {15: 4}), 15),
-    ("a relation named twice", with_bytes(EXAMPLE, {17: 0x52}), 17),
-    ("a page too many", with_bytes(EXAMPLE, {25: 1}), 26),
-    ("cut before the gate", EXAMPLE[:26], 26),
-    ("a sign that is none", with_bytes(EXAMPLE, {31: 3}), 31),
-    ("a relation that is none", with_bytes(EXAMPLE, {33: 2}), 32),
-    ("two atoms in place of one", with_bytes(EXAMPLE, {30: 2}), 42),
-    ("cut before the last gate", EXAMPLE[:42], 42),
+    ("cut to 7 bytes", lambda half: half[:7], 0),
+    ("another magic", lambda half: with_bytes(half, {7: 0x33}), 0),
+    ("257 relations", lambda half: with_bytes(half, {8: 1, 9: 1}), 8),
+    ("a kind that is none", lambda half: with_bytes(half, {15: 4}), 15),
+    ("a relation named twice", lambda half: with_bytes(half, {17: 0x52}), 17),
+    ("a page too many", lambda half: with_bytes(half, {25: 1}), 26),
+    ("cut before the gate", lambda half: half[:26], 26),
+    ("a sign that is none", lambda half: with_bytes(half, {31: 3}), 31),
+    ("a relation that is none", lambda half: with_bytes(half, {33: 2}), 32),
+    ("two atoms in place of one", lambda half: with_bytes(half, {30: 2}), 42),
+    ("cut before the last gate", lambda half: half[:42], 42),
 ]
 
 
 def check_itself():
     """The reader meets what docs/FORMATS.md says of its example."""
-    text, status = dump(b"\0", EXAMPLE, b"")
-    assert (text, status) == (b"relation R(a int);\nrows 1\n[1]\nrelation S(a int);\nrows 0\n", 0), text
-    for what, half, place in PLACES:
-        wanted = (b"damaged left at %d\n" % place, 5)
-        assert dump(b"\0", half, b"") == wanted, (what, dump(b"\0", half, b""))
+    for half in EXAMPLES:
+        text, status = dump(b"\0", half, b"")
+        assert (text, status) == (b"relation R(a int);\nrows 1\n[1]\nrelation S(a int);\nrows 0\n", 0), text
+        for what, change, place in PLACES:
+            wanted = (b"damaged left at %d\n" % place, 5)
+            assert dump(b"\0", change(half), b"") == wanted, (what, dump(b"\0", change(half), b""))
 
 
 if __name__ == "__main__":

@@ -4,28 +4,25 @@ use Rattle.std.specs.Prelude.{false, All}
 use Rattle.std.specs.List.{flat_map}
 use Rattle.std.proofs.lemmas.List.{length-append, length-take, take_at, drop_at, get_or-append_right}
 use Rattle.std.proofs.lemmas.List.Elements.{All-push}
+use Rattle.hera_meaning.specs.Commits.{after_all}
 use Rattle.hera_meaning.specs.declared.schemas.RelDecl.{RelDecl}
 use Rattle.hera_meaning.specs.Catalogues.{IsCatalogue}
 use Rattle.hera_meaning.specs.Deltas.{State, Atom, Delta, fail, atoms, apply_of, is_fail, IsDelta, IsDeltaOf}
 use Rattle.delta_atoms.specs.Atoms.{atoms_in}
 use Rattle.rel_format.specs.Pages.{Format, pages_of}
-use Rattle.rel_format.specs.Journal.{atom_bytes, record_of, sealed, state_behind, IsRecordOf, IsHalf, half_limit}
+use Rattle.rel_format.specs.Journal.{atom_bytes, record_of, sealed, IsRecordOf, IsHalf, half_limit}
 use Rattle.rel_format.proofs.Printed.{one_more}
 use Rattle.hera_volume.specs.Disk.{Disk, IsSettled}
 use Rattle.commit_journal.specs.Gate.{IsWithout, IsWith, IsEither, IsReady}
 use Rattle.commit_journal.specs.Prepare.{need_of}
 use Rattle.commit_journal.specs.Places.{IsJournal, Stops}
-use Rattle.commit_journal.specs.Halves.{state_with, HasPages, IsHalfTo}
+use Rattle.commit_journal.specs.Halves.{HasPages, IsHalfTo}
 use Rattle.commit_journal.proofs.Once.{printed_whole}
 use Rattle.commit_journal.proofs.Records.{few_atoms, length_record}
 
 -- ---- a journal behind its pages
 
-state_told : (s : State) (records : List (List Atom)) → state_with s (map atoms records) ≡ state_behind s records
-state_told s [] = refl
-state_told s (xs ∷ records) = state_told (apply_of s (atoms xs)) records
-
-pub half_read : (f : Format) (bytes : List ℕ) (rels : List RelDecl) (state : State) (at : ℕ) (deltas : List Delta) (end : ℕ) → HasPages f bytes rels state at → IsJournal rels bytes at deltas end → IsHalfTo f bytes rels (state_with state deltas) end
+pub half_read : (f : Format) (bytes : List ℕ) (rels : List RelDecl) (state : State) (at : ℕ) (deltas : List Delta) (end : ℕ) → HasPages f bytes rels state at → IsJournal rels bytes at deltas end → IsHalfTo f bytes rels (after_all state deltas) end
 half_read f bytes rels state at deltas end pages journal =
     let size = ap (λ (l : List ℕ). length l) pages.printed in
     let front = pages_of f rels state in
@@ -36,13 +33,14 @@ half_read f bytes rels state at deltas end pages journal =
         catalogue = pages.catalogue;
         paged = state;
         valid = pages.valid;
+        fit = pages.fit;
         deltas = journal.records;
         records = journal.valid;
         gate = journal.gate;
         closed = journal.closed;
         rest = drop (end + 1) bytes;
         printed = journal.printed ∙ ap (λ (l : List ℕ). l ++ middle ++ journal.gate ∷ drop (end + 1) bytes) pages.printed;
-        behind = ap (state_with state) journal.told ∙ state_told state journal.records;
+        behind = ap (after_all state) journal.told;
       };
       place = omega (arith, journal.place, size, pages.within, length-take at bytes, length-append front middle);
     }
@@ -70,6 +68,7 @@ half_without f old new rels state end h without short = record {
     catalogue = h.half.catalogue;
     paged = h.half.paged;
     valid = h.half.valid;
+    fit = h.half.fit;
     deltas = h.half.deltas;
     records = h.half.records;
     gate = without.gate;
@@ -81,7 +80,7 @@ half_without f old new rels state end h without short = record {
   place = h.place;
 }
 
-state_push : (s : State) (records : List (List Atom)) (xs : List Atom) → apply_of (state_behind s records) (atoms xs) ≡ state_behind s (records ++ xs ∷ [])
+state_push : (s : State) (records : List (List Atom)) (xs : List Atom) → apply_of (after_all s (map atoms records)) (atoms xs) ≡ after_all s (map atoms (records ++ xs ∷ []))
 state_push s [] xs = refl
 state_push s (r ∷ records) xs = state_push (apply_of s (atoms r)) records xs
 
@@ -101,6 +100,7 @@ half_with f old new rels state end xs h valid sealed_in short =
         catalogue = h.half.catalogue;
         paged = h.half.paged;
         valid = h.half.valid;
+        fit = h.half.fit;
         deltas = h.half.deltas ++ xs ∷ [];
         records = All-push (IsRecordOf rels) h.half.deltas xs h.half.records valid;
         gate = 0;

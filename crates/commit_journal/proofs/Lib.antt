@@ -1,7 +1,6 @@
 pub mod Complete
 pub mod Gates
 pub mod Halves
-pub mod Lengths
 pub mod Once
 pub mod Printed
 pub mod Records

@@ -4,7 +4,7 @@ use Rattle.std.specs.List.{flat_map}
 use Rattle.hera_meaning.specs.declared.schemas.RelDecl.{RelDecl}
 use Rattle.hera_meaning.specs.Catalogues.{IsCatalogue}
 use Rattle.hera_meaning.specs.Deltas.{State, IsState, Delta, apply_of}
-use Rattle.rel_format.specs.Pages.{Format, pages_of}
+use Rattle.rel_format.specs.Pages.{Format, Fit, pages_of}
 use Rattle.rel_format.specs.Journal.{IsHalf, half_limit, sealed}
 use Rattle.rel_format.specs.Walk.{ReachesBy, StopsBy}
 use Rattle.rel_format.specs.Table.{Stand, Book, at_magic, at_page, is_whole as are_pages_whole, next as next_in_pages}
@@ -56,16 +56,12 @@ pub record IsDamageOfHalf (f : Format) (bytes : List ℕ) (at : ℕ) : Type 0 wh
 
 -- ---- what stands in it
 
--- the state after deltas in order
-abbrev pub state_with : State → List Delta → State
-state_with s [] = s
-state_with s (d ∷ deltas) = state_with (apply_of s d) deltas
-
 -- the pages of this catalogue and state end at this place, before the first gate
 pub record HasPages (f : Format) (bytes : List ℕ) (rels : List RelDecl) (state : State) (at : ℕ) : Type 0 where
   pub short : length bytes ≤ half_limit
   pub catalogue : IsCatalogue rels
   pub valid : IsState rels state
+  pub fit : Fit f.page state
   pub within : at ≤ length bytes
   pub printed : take at bytes ≡ pages_of f rels state
   pub ends : (b : Book) × (b.rels ≡ rels) × ReachesInPages f bytes at (at_page b 0)

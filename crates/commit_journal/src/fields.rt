@@ -9,16 +9,8 @@ ghost use Rattle.commit_journal.specs.Table.{sign_field, follows, rel_field, row
 
 use delta_atoms::AtomRef;
 use hera_meaning::{Schema, Sign};
-use hera_row::row_len;
 use hera_sets::is_below;
-
-/// The bytes from a place on.
-fn rest_at(bytes: &[u8], at: usize) -> &[u8]
-    requires { at ≤ length bytes.now }
-    ensures { result.now ≡ drop at bytes.entry.now }
-{
-    bytes.split_at(at).1
-}
+use rel_format::{first_len, number16, number32, rest_at};
 
 /// The first byte.
 fn first_byte(bytes: &[u8]) -> Option<u8>
@@ -29,28 +21,6 @@ fn first_byte(bytes: &[u8]) -> Option<u8>
         [b, ..] => Some(*b),
         _ => None,
     }
-}
-
-/// The first two bytes, a number.
-fn number16(bytes: &[u8]) -> Option<u16>
-    ensures value { result ≡ number w16 bytes.now }
-    ensures within { IfSome result (λ n. 2 ≤ length bytes.now) }
-{
-    if bytes.len() < 2 {
-        return None;
-    }
-    Some(u16::from_be_bytes([bytes[0], bytes[1]]))
-}
-
-/// The first four bytes, a number.
-fn number32(bytes: &[u8]) -> Option<u32>
-    ensures value { result ≡ number w32 bytes.now }
-    ensures within { IfSome result (λ n. 4 ≤ length bytes.now) }
-{
-    if bytes.len() < 4 {
-        return None;
-    }
-    Some(u32::from_be_bytes([bytes[0], bytes[1], bytes[2], bytes[3]]))
 }
 
 /// The first byte, a sign.
@@ -102,14 +72,6 @@ fn row_keeps(before: Option<AtomRef<'_>>, rel: u16, row: &[u8]) -> bool
             }
         }
     }
-}
-
-/// The length of the row with which the bytes begin.
-fn first_len(schema: &Schema, bytes: &[u8]) -> Option<usize>
-    ensures value { result ≡ row_len_of schema.now bytes.now }
-    ensures within { IfSome result (λ n. n ≤ length bytes.now) }
-{
-    row_len(schema, bytes)
 }
 
 /// The row with which the bytes begin.

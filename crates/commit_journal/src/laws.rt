@@ -1,6 +1,7 @@
 //! Laws of the definitions.
 ghost use Rattle.std.specs.Prelude.{◌≡◌, ◌≢◌, ◌≤◌, ◌⊎◌, ◌+◌, ◌++◌, ◌∷◌, ℕ, List, length, take, drop, map, All};
 ghost use Rattle.std.specs.List.{flat_map};
+ghost use Rattle.hera_meaning.specs.Commits.{after_all};
 ghost use Rattle.hera_meaning.specs.declared.schemas.RelDecl.{RelDecl};
 ghost use Rattle.hera_meaning.specs.Deltas.{Atom, Delta, State, atoms, apply_of};
 ghost use Rattle.rel_format.specs.Pages.{Format, pages_of};
@@ -9,7 +10,7 @@ ghost use Rattle.rel_format.specs.Places.{Stops as StopsInPages};
 ghost use Rattle.commit_journal.specs.Gate.{IsEither};
 ghost use Rattle.commit_journal.specs.Prepare.{need_of};
 ghost use Rattle.commit_journal.specs.Places.{IsJournal, Stops};
-ghost use Rattle.commit_journal.specs.Halves.{state_with, HasPages, IsHalfTo, IsDamageOfHalf};
+ghost use Rattle.commit_journal.specs.Halves.{HasPages, IsHalfTo, IsDamageOfHalf};
 
 /// The first field of a half that breaks its rule, before its first gate or in its journal, begins
 /// where the longest good prefix ends.
@@ -23,7 +24,7 @@ pub fn damage_ends_the_longest_good_prefix()
 /// after the journal's deltas.
 pub fn pages_and_journal_are_a_half()
     ensures { (f : Format) (bytes : List ℕ) (rels : List RelDecl) (state : State) (first : ℕ) (deltas : List Delta) (end : ℕ) →
-        HasPages f bytes rels state first → IsJournal rels bytes first deltas end → IsHalfTo f bytes rels (state_with state deltas) end }
+        HasPages f bytes rels state first → IsJournal rels bytes first deltas end → IsHalfTo f bytes rels (after_all state deltas) end }
 {}
 
 /// With a record or without, as sealing leaves it at each moment, a half has its state after the

@@ -36,7 +36,7 @@ impl Model for Prepared {
 }
 
 impl Prepared {
-    ghost use Rattle.std.specs.Prelude.{◌≡◌, ◌^◌, ◌<◌, [], ◌∷◌, ◌++◌, IfOk};
+    ghost use Rattle.std.specs.Prelude.{◌≡◌, ◌^◌, ◌+◌, ◌<◌, [], ◌∷◌, ◌++◌, length, IfOk};
 
     /// The record with this body.
     pub(crate) fn new(mut body: Vec<u8>, end: u64) -> Result<Prepared, AllocError>
@@ -53,6 +53,13 @@ impl Prepared {
         ensures { result.now ≡ self.now.body ++ 0 ∷ [] }
     {
         &self.bytes
+    }
+
+    /// The place of the gate behind the record, which is the next one once the record is sealed.
+    pub fn next_gate(&self) -> u64
+        ensures { result ≡ self.now.end + length self.now.body + 1 }
+    {
+        self.end + self.bytes.as_slice().len() as u64
     }
 
     /// The place of the record's gate.

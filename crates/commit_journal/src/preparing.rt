@@ -2,7 +2,7 @@
 ghost use Rattle.std.specs.Prelude.{◌≡◌, ◌≤◌, ◌<◌, ◌^◌, false, IfOk, IfErr, OnOk};
 ghost use Rattle.hera_meaning.specs.Deltas.{is_fail};
 ghost use Rattle.delta_atoms.specs.Atoms.{atoms_in};
-ghost use Rattle.rel_format.specs.Journal.{record_of};
+ghost use Rattle.rel_format.specs.Journal.{record_of, half_limit};
 ghost use Rattle.commit_journal.specs.Prepare.{need_of, IsRefusal};
 
 use crate::writing::{record_bytes, record_len};
@@ -14,7 +14,7 @@ use std::alloc::Global;
 /// and the next gate end behind the limit, and tells both numbers.
 pub fn prepare(alloc: Global, delta: &Delta, end: u64, limit: u64) -> Result<Prepared, PrepareFault>
     requires known { is_fail delta.now ≡ false }
-    requires limit { limit ≤ 268435456 }
+    requires limit { limit ≤ half_limit }
     ensures body { IfOk result (λ p. p.body ≡ record_of (atoms_in delta.now)) }
     ensures end { IfOk result (λ p. p.end ≡ end) }
     ensures fits { OnOk result (need_of (atoms_in delta.now) end ≤ limit) }

@@ -1,7 +1,9 @@
 -- What the atoms are after a change of parts.
 use Rattle.std.proofs.Common.{◌≡◌, ℕ, Bool, true, false, cond, eqb, not, ◌||◌, ◌&&◌, List, [], ◌∷◌, ◌++◌, filter, Option, Some, None, refl, sym, ap, ◌∙◌, subst}
 use Rattle.std.specs.Option.{is_some}
-use Rattle.std.proofs.lemmas.Bool.{both_ways, or_parts}
+use Rattle.std.proofs.lemmas.Bool.{both_ways, or_parts, false≢true}
+use Rattle.std.proofs.lemmas.List.{append-nil}
+use Rattle.std.proofs.lemmas.List.Elements.{filter-append}
 use Rattle.hera_sets.specs.Rows.{Row, is_same, is_below, IsBelowAll, IsAscending, holds, put, without}
 use Rattle.hera_sets.proofs.Order.{same_true, same_itself, same_cons, before, level, behind, stands as standing}
 use Rattle.hera_sets.proofs.Members.{holds-put, holds-filter}
@@ -344,5 +346,123 @@ news_step xs done a d e h g =
     ∙ ap atoms (sym (news-push xs done a))
   where
     by : (b : Bool) → cond b (atoms (news xs done)) (atoms (news xs done ++ a ∷ [])) ≡ atoms (cond b (news xs done) (news xs done ++ a ∷ []))
+    by true = refl
+    by false = refl
+
+-- ---- a first delta under the second
+
+pub named_plus : (xs : List Atom) (k : Row) → gives (sign_at xs k) Plus ≡ true → true ≡ holds (keys_of xs) k
+named_plus xs k h = by (sign_at xs k) h ∙ sym (holds-keys_of xs k)
+  where
+    by : (o : Option Sign) → gives o Plus ≡ true → true ≡ is_some o
+    by None g = absurd (false≢true g)
+    by (Some s) g = refl
+
+pub named_minus : (xs : List Atom) (k : Row) → gives (sign_at xs k) Plus ≡ false → gives (sign_at xs k) Minus ≡ holds (keys_of xs) k
+named_minus xs k h = by (sign_at xs k) h ∙ sym (holds-keys_of xs k)
+  where
+    by : (o : Option Sign) → gives o Plus ≡ false → gives o Minus ≡ is_some o
+    by None g = refl
+    by (Some Plus) g = absurd (false≢true (sym g))
+    by (Some Minus) g = refl
+
+-- what is missing of a sign
+abbrev miss : Option Sign → Option Sign → Option Sign
+miss o x = keep (λ s. not (is_some o)) x
+
+under_table : (o x : Option Sign) → sign_in (gives (miss o x) Plus || gives o Plus) (gives (miss o x) Minus || gives o Minus) ≡ first_of o (miss o x)
+under_table None None = refl
+under_table None (Some Plus) = refl
+under_table None (Some Minus) = refl
+under_table (Some Plus) None = refl
+under_table (Some Plus) (Some s) = refl
+under_table (Some Minus) None = refl
+under_table (Some Minus) (Some s) = refl
+
+under_apart : (o x : Option Sign) → ((gives (miss o x) Plus || gives o Plus) && (gives (miss o x) Minus || gives o Minus)) ≡ false
+under_apart None None = refl
+under_apart None (Some Plus) = refl
+under_apart None (Some Minus) = refl
+under_apart (Some Plus) None = refl
+under_apart (Some Plus) (Some s) = refl
+under_apart (Some Minus) None = refl
+under_apart (Some Minus) (Some s) = refl
+
+miss_table : (o x : Option Sign) (s : Sign) → gives (miss o x) s ≡ true → gives o s ≡ false
+miss_table None x s h = refl
+miss_table (Some t) None s h = absurd (false≢true h)
+miss_table (Some t) (Some u) s h = absurd (false≢true h)
+
+module _ (xs : List Atom) (old mid : List Part) (k : ArePacked old) (ux : IsAscending (keys_of xs)) where
+  abbrev absent : List Atom
+  absent = unnamed xs (atoms_of old)
+
+  absent_stands : (s : Sign) (n : ℕ) (r : Row) → stands absent s n r ≡ gives (miss (sign_at (atoms_of old) (n ∷ r)) (sign_at xs (n ∷ r))) s
+  absent_stands s n r =
+      stands-signs absent s n r (ascending_filter _ xs ux)
+      ∙ ap (λ o. gives o s) (sign_at-filter (λ q t. not (holds (keys_of (atoms_of old)) q)) xs (n ∷ r) ux ∙ ap (λ b. keep (λ t. not b) (sign_at xs (n ∷ r))) (holds-keys_of (atoms_of old) (n ∷ r)))
+
+  under_members : PutsAll absent old mid → (s : Sign) (n : ℕ) (r : Row) → holds (rows_at s n mid) r ≡ (gives (miss (sign_at (atoms_of old) (n ∷ r)) (sign_at xs (n ∷ r))) s || gives (sign_at (atoms_of old) (n ∷ r)) s)
+  under_members h s n r = h s n r ∙ (λ i. absent_stands s n r i || rows_give s n old r k i)
+
+  pub under_packed : AreOrdered mid → PutsAll absent old mid → ArePacked mid
+  under_packed up h = record {
+    ordered = up;
+    apart = λ n r. (λ i. under_members h Plus n r i && under_members h Minus n r i) ∙ under_apart (sign_at (atoms_of old) (n ∷ r)) (sign_at xs (n ∷ r));
+  }
+
+  pub under_atoms : AreOrdered mid → PutsAll absent old mid → atoms_of mid ≡ joint_atoms xs (atoms_of old)
+  under_atoms up h =
+      same_signs (atoms_of mid) (joint_atoms xs (atoms_of old)) (ascending_atoms_of mid up (under_packed up h).apart) (ascending_joint xs (atoms_of old) ux (ascending_atoms_of old k.ordered k.apart)) at
+    where
+      at : (q : Row) → sign_at (atoms_of mid) q ≡ sign_at (joint_atoms xs (atoms_of old)) q
+      at [] = sign_at_nil (atoms_of mid) ∙ sym (sign_at_nil (joint_atoms xs (atoms_of old)))
+      at (n ∷ r) =
+          sign_at-atoms_of mid n r up
+          ∙ (λ i. sign_in (under_members h Plus n r i) (under_members h Minus n r i))
+          ∙ under_table (sign_at (atoms_of old) (n ∷ r)) (sign_at xs (n ∷ r))
+          ∙ sym (sign_at-joint xs (atoms_of old) (n ∷ r) ux)
+
+  -- some put in, and then taken out again
+  pub under_undone : (new : List Part) → PutsSome absent old mid → TakesAll false absent mid new → (s : Sign) (n : ℕ) (r : Row) → holds (rows_at s n new) r ≡ holds (rows_at s n old) r
+  under_undone new h g s n r = g s n r ∙ by (stands absent s n r) refl
+    where
+      by : (b : Bool) → stands absent s n r ≡ b → (not b && holds (rows_at s n mid) r) ≡ holds (rows_at s n old) r
+      by true e = sym (rows_give s n old r k ∙ miss_table (sign_at (atoms_of old) (n ∷ r)) (sign_at xs (n ∷ r)) s (sym (absent_stands s n r) ∙ e))
+      by false e = h s n r e
+
+-- ---- what is missing, atom by atom
+
+missing-push : (xs ys : List Atom) (a : Atom) → unnamed (xs ++ a ∷ []) ys ≡ cond (holds (keys_of ys) (key_of a)) (unnamed xs ys) (unnamed xs ys ++ a ∷ [])
+missing-push xs ys a = filter-append (λ b. not (holds (keys_of ys) (key_of b))) xs (a ∷ []) ∙ by (holds (keys_of ys) (key_of a))
+  where
+    by : (b : Bool) → unnamed xs ys ++ cond (not b) (a ∷ []) [] ≡ cond b (unnamed xs ys) (unnamed xs ys ++ a ∷ [])
+    by true = append-nil (unnamed xs ys)
+    by false = refl
+
+pub ascending_kept_last : (t : Atom → Bool) (xs : List Atom) (a : Atom) → IsAscending (keys_of (xs ++ a ∷ [])) → IsAscending (keys_of (filter t xs ++ a ∷ []))
+ascending_kept_last t [] a up = up
+ascending_kept_last t (y ∷ ys) a up = by (t y) (ascending_kept_last t ys a up.1)
+  where
+    all : (zs : List Atom) → IsBelowAll (key_of y) (keys_of (zs ++ a ∷ [])) → IsBelowAll (key_of y) (keys_of (filter t zs ++ a ∷ []))
+    all [] h = h
+    all (z ∷ zs) h = one (t z) (all zs h.1)
+      where
+        one : (b : Bool) → IsBelowAll (key_of y) (keys_of (filter t zs ++ a ∷ [])) → IsBelowAll (key_of y) (keys_of (cond b (z ∷ filter t zs) (filter t zs) ++ a ∷ []))
+        one true g = (h.0, g)
+        one false g = g
+
+    by : (b : Bool) → IsAscending (keys_of (filter t ys ++ a ∷ [])) → IsAscending (keys_of (cond b (y ∷ filter t ys) (filter t ys) ++ a ∷ []))
+    by true h = (all ys up.0, h)
+    by false h = h
+
+pub missing_step : (ys done : List Atom) (a : Atom) (d e : Delta) → d ≡ atoms (unnamed done ys) → e ≡ cond (holds (keys_of ys) (key_of a)) d (with_last d a) → e ≡ atoms (unnamed (done ++ a ∷ []) ys)
+missing_step ys done a d e h g =
+    g
+    ∙ ap (λ (x : Delta). cond (holds (keys_of ys) (key_of a)) x (with_last x a)) h
+    ∙ by (holds (keys_of ys) (key_of a))
+    ∙ ap atoms (sym (missing-push done ys a))
+  where
+    by : (b : Bool) → cond b (atoms (unnamed done ys)) (atoms (unnamed done ys ++ a ∷ [])) ≡ atoms (cond b (unnamed done ys) (unnamed done ys ++ a ∷ []))
     by true = refl
     by false = refl

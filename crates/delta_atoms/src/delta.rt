@@ -7,8 +7,8 @@ ghost use Rattle.hera_meaning.specs.Values.{same_atom, same_sign};
 ghost use Rattle.delta_atoms.specs.Atoms.{atom_of, bulk_of, atoms_in, sign_at, have_relation, part_of, with_last, is_after};
 ghost use Rattle.delta_atoms.specs.Refs.{atom_in, bound_of};
 
-use super::AtomRef;
 use super::packed_atoms::PackedAtoms;
+use super::{AtomMark, AtomRef};
 use hera_meaning::{RelId, Sign};
 use hera_rows::{RowSet, Sorted};
 use hera_sets::is_same;
@@ -172,9 +172,22 @@ impl Delta {
         ensures next { option_map atom_in result ≡ find (is_after (bound_of bound.entry)) (atoms_in self.now) }
         ensures valid { IsDelta self.now }
     {
+        self.above_from(bound, &mut AtomMark::start())
+    }
+
+    /// The first atom past the bound, as `above` finds it. It is looked for beside the mark first, which is then set to
+    /// where it stands: a walk that hands on each atom and its mark searches for none. Any mark is right.
+    pub fn above_from<'s>(
+        &'s self,
+        bound: Option<AtomRef<'_>>,
+        mark: &mut AtomMark,
+    ) -> Option<AtomRef<'s>>
+        ensures next { option_map atom_in result ≡ find (is_after (bound_of bound.entry)) (atoms_in self.now) }
+        ensures valid { IsDelta self.now }
+    {
         match &self.form {
             Form::Fail(_) | Form::Empty(_) => None,
-            Form::Atoms(kept) => kept.above(bound),
+            Form::Atoms(kept) => kept.above(bound, mark),
         }
     }
 
@@ -197,9 +210,11 @@ impl Delta {
         ensures { IsTrue result ↔ (atoms_in self.now ≡ atoms_in other.now) }
     {
         let mut last: Option<AtomRef<'_>> = None;
+        let mut left = AtomMark::start();
+        let mut right = AtomMark::start();
         loop {
-            let atom = self.above(last);
-            if are_same(atom, other.above(last)) {
+            let atom = self.above_from(last, &mut left);
+            if are_same(atom, other.above_from(last, &mut right)) {
                 match atom {
                     None => return true,
                     Some(a) => last = Some(a),
@@ -251,6 +266,35 @@ impl Delta {
             }
             Form::Atoms(kept) => kept.put_over(second),
         }
+    }
+
+    /// Puts the first delta under this one, which is their smash: each atom of this one with its sign, and each atom of the
+    /// first whose relation and row this one does not hold. It is `fail` where either is. Without memory all is as before.
+    pub fn smash_under(&mut self, first: &Delta) -> Result<(), AllocError>
+        ensures ok { OnOk result (self.new ≡ smash_of first.now self.old) }
+        ensures err { OnErr result (self.new ≡ self.old) }
+    {
+        if first.is_fail() {
+            self.make_fail();
+            return Ok(());
+        }
+        match &mut self.form {
+            Form::Fail(_) => Ok(()),
+            Form::Empty(_) => {
+                let mut kept = PackedAtoms::new(self.alloc);
+                kept.put_under(first)?;
+                *self = Delta::of(self.alloc, kept)?;
+                Ok(())
+            }
+            Form::Atoms(kept) => kept.put_under(first),
+        }
+    }
+
+    /// Makes this delta `fail`. It takes no memory.
+    pub fn make_fail(&mut self)
+        ensures { self.new ≡ fail }
+    {
+        *self = Delta::fail(self.alloc);
     }
 
     /// A delta of its own that equals this one.

@@ -1,14 +1,14 @@
 //! Changes of the parts of a delta, by the atoms of another.
 ghost use Rattle.std.specs.Prelude.{◌≡◌, false, cond, [], ◌∷◌, ◌++◌, IfOk, OnOk, OnErr};
-ghost use Rattle.hera_meaning.specs.Deltas.{atoms, is_fail, IsDelta, keys_of, joint_atoms, key_of};
-ghost use Rattle.hera_sets.specs.Rows.{IsAscending};
+ghost use Rattle.hera_meaning.specs.Deltas.{atoms, is_fail, IsDelta, keys_of, joint_atoms, key_of, unnamed};
+ghost use Rattle.hera_sets.specs.Rows.{IsAscending, holds};
 ghost use Rattle.delta_atoms.specs.Atoms.{atom_of, atoms_in, sign_at, with_last};
 ghost use Rattle.delta_atoms.specs.Parts.{atoms_of, AreOrdered, ArePacked};
 ghost use Rattle.delta_atoms.specs.Refs.{atom_in};
 ghost use Rattle.delta_atoms.specs.Edits.{gives, turned, PutsAll, PutsSome, TakesAll, news};
 
 use super::parts::{Part, put_row, search, take_row};
-use super::{AtomRef, Delta};
+use super::{AtomMark, AtomRef, Delta};
 use hera_meaning::{RelId, Sign};
 use hera_rows::Sorted;
 use std::alloc::{AllocError, Global};
@@ -58,6 +58,80 @@ pub(crate) fn put_over(
     }
 }
 
+/// Puts the first delta under the atoms of the parts, which win. Without memory the atoms are as before.
+///
+/// The rows whose relation and row the parts do not have are put in. Where one can't be put in, those
+/// put in are taken out again.
+pub(crate) fn put_under(
+    parts: &mut Vec<Part>,
+    alloc: Global,
+    first: &Delta,
+) -> Result<(), AllocError>
+    requires { ArePacked parts.old.items }
+    ensures packed { ArePacked parts.new.items }
+    ensures ok { OnOk result (atoms_of parts.new.items ≡ joint_atoms (atoms_in first.now) (atoms_of parts.old.items)) }
+    ensures err { OnErr result (atoms_of parts.new.items ≡ atoms_of parts.old.items) }
+{
+    let absent = missing(parts, alloc, first)?;
+    match put_all(parts, alloc, &absent) {
+        Ok(()) => Ok(()),
+        Err(e) => {
+            take_all(parts, false, &absent);
+            Err(e)
+        }
+    }
+}
+
+/// The atoms of the first delta whose relation and row the parts do not have.
+fn missing(parts: &[Part], alloc: Global, first: &Delta) -> Result<Delta, AllocError>
+    requires { ArePacked parts.now }
+    ensures fresh { IfOk result (λ fresh. fresh ≡ atoms (unnamed (atoms_in first.now) (atoms_of parts.now))) }
+    ensures valid { IsDelta first.now }
+{
+    let mut fresh = Delta::empty(alloc);
+    let mut last: Option<AtomRef<'_>> = None;
+    let mut mark = AtomMark::start();
+    while let Some(atom) = first.above_from(last, &mut mark) {
+        push_missing(&mut fresh, parts, atom)?;
+        last = Some(atom);
+    }
+    Ok(fresh)
+}
+
+/// Puts the atom behind all others, unless the parts have its relation and row.
+fn push_missing(fresh: &mut Delta, parts: &[Part], atom: AtomRef<'_>) -> Result<(), AllocError>
+    requires packed { ArePacked parts.now }
+    requires known { is_fail fresh.old ≡ false }
+    requires last { IsDelta (with_last fresh.old (atom_in atom)) }
+    ensures { OnOk result (fresh.new ≡ cond (holds (keys_of (atoms_of parts.now)) (key_of (atom_in atom.entry))) fresh.old (with_last fresh.old (atom_in atom.entry))) }
+{
+    if is_named(parts, atom) {
+        Ok(())
+    } else {
+        fresh.push_last(atom.sign, atom.rel, atom.row)?;
+        Ok(())
+    }
+}
+
+/// Whether the parts have the atom's relation and row, with whatever sign.
+fn is_named(parts: &[Part], atom: AtomRef<'_>) -> bool
+    requires { ArePacked parts.now }
+    ensures { result ≡ holds (keys_of (atoms_of parts.now)) (key_of (atom_in atom.entry)) }
+{
+    let put_in = AtomRef {
+        sign: Sign::Plus,
+        ..atom
+    };
+    if has(parts, put_in) {
+        return true;
+    }
+    let taken_out = AtomRef {
+        sign: Sign::Minus,
+        ..atom
+    };
+    has(parts, taken_out)
+}
+
 /// The atoms of the second delta that the parts do not have with their sign.
 fn news(parts: &[Part], alloc: Global, second: &Delta) -> Result<Delta, AllocError>
     requires { ArePacked parts.now }
@@ -66,7 +140,8 @@ fn news(parts: &[Part], alloc: Global, second: &Delta) -> Result<Delta, AllocErr
 {
     let mut fresh = Delta::empty(alloc);
     let mut last: Option<AtomRef<'_>> = None;
-    while let Some(atom) = second.above(last) {
+    let mut mark = AtomMark::start();
+    while let Some(atom) = second.above_from(last, &mut mark) {
         push_new(&mut fresh, parts, atom)?;
         last = Some(atom);
     }
@@ -107,7 +182,8 @@ fn put_all(parts: &mut Vec<Part>, alloc: Global, fresh: &Delta) -> Result<(), Al
     ensures err { OnErr result (PutsSome (atoms_in fresh.now) parts.old.items parts.new.items) }
 {
     let mut last: Option<AtomRef<'_>> = None;
-    while let Some(atom) = fresh.above(last) {
+    let mut mark = AtomMark::start();
+    while let Some(atom) = fresh.above_from(last, &mut mark) {
         put_row(parts, alloc, atom.sign, atom.rel, atom.row)?;
         last = Some(atom);
     }
@@ -121,7 +197,8 @@ fn take_all(parts: &mut Vec<Part>, turn: bool, fresh: &Delta)
     ensures taken { TakesAll turn (atoms_in fresh.now) parts.old.items parts.new.items }
 {
     let mut last: Option<AtomRef<'_>> = None;
-    while let Some(atom) = fresh.above(last) {
+    let mut mark = AtomMark::start();
+    while let Some(atom) = fresh.above_from(last, &mut mark) {
         take_row(parts, turned(turn, atom.sign), atom.rel, atom.row);
         last = Some(atom);
     }

@@ -11,6 +11,6 @@ mod packed_atoms;
 mod parts;
 mod value;
 
-pub use atom::AtomRef;
+pub use atom::{AtomMark, AtomRef};
 pub use delta::Delta;
 pub use value::{Value, copy_value};

@@ -7,7 +7,7 @@ ghost use Rattle.delta_atoms.specs.Atoms.{atom_of, bulk_of, atoms_in, part_of, i
 ghost use Rattle.delta_atoms.specs.Refs.{atom_in, bound_of};
 
 use super::parts::{self, Part};
-use super::{AtomRef, Delta, edits};
+use super::{AtomMark, AtomRef, Delta, edits};
 use hera_meaning::{RelId, Sign};
 use hera_rows::RowSet;
 use std::alloc::{AllocError, Global};
@@ -93,11 +93,16 @@ impl PackedAtoms {
     }
 
     /// The first atom past the bound in order of relation and then row, whatever the bound's sign.
-    pub(crate) fn above<'s>(&'s self, bound: Option<AtomRef<'_>>) -> Option<AtomRef<'s>>
+    /// It is looked for beside the mark first, which is then set.
+    pub(crate) fn above<'s>(
+        &'s self,
+        bound: Option<AtomRef<'_>>,
+        mark: &mut AtomMark,
+    ) -> Option<AtomRef<'s>>
         ensures next { option_map atom_in result ≡ find (is_after (bound_of bound.entry)) self.now }
         ensures valid { IsDelta (atoms self.now) }
     {
-        parts::first_after(&self.parts, bound)
+        parts::first_after(&self.parts, bound, mark)
     }
 
     /// Puts an atom behind all others, which is greater by relation and then row. Without memory all
@@ -116,6 +121,14 @@ impl PackedAtoms {
         ensures err { OnErr result (self.new ≡ self.old) }
     {
         edits::put_over(&mut self.parts, self.alloc, second)
+    }
+
+    /// Puts the atoms of the first delta under these, as in a smash. Without memory all is as before.
+    pub(crate) fn put_under(&mut self, first: &Delta) -> Result<(), AllocError>
+        ensures ok { OnOk result (self.new ≡ joint_atoms (atoms_in first.now) self.old) }
+        ensures err { OnErr result (self.new ≡ self.old) }
+    {
+        edits::put_under(&mut self.parts, self.alloc, first)
     }
 
     /// The same atoms in a place of their own.

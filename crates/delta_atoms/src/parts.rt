@@ -8,7 +8,7 @@ ghost use Rattle.delta_atoms.specs.Parts.{side, atoms_at, atoms_of, lesser, IsPa
 ghost use Rattle.delta_atoms.specs.Refs.{atom_in, bound_of};
 ghost use Rattle.delta_atoms.specs.Edits.{put_in, taken_out, one_side, IsAt, IsGap, HaveSame, Puts, Takes};
 
-use super::AtomRef;
+use super::{AtomMark, AtomRef};
 use hera_meaning::{RelId, Sign};
 use hera_rows::{RowSet, Sorted};
 use hera_sets::is_below;
@@ -66,11 +66,15 @@ impl Part {
         })
     }
 
-    /// The first atom whose row lies past the bound.
-    fn next<'s>(&'s self, bound: Option<&[u8]>) -> Option<AtomRef<'s>>
+    /// The first atom whose row lies past the bound. It is looked for beside the mark first, which is then set.
+    fn next<'s>(&'s self, bound: Option<&[u8]>, mark: &mut AtomMark) -> Option<AtomRef<'s>>
         ensures { option_map atom_in result ≡ lesser self.now.rel.0 (find (is_past (option_copied bound.entry)) self.now.plus) (find (is_past (option_copied bound.entry)) self.now.minus) }
     {
-        match (self.plus.above(bound), self.minus.above(bound)) {
+        let plus = self.plus.above_near(bound, mark.plus);
+        let minus = self.minus.above_near(bound, mark.minus);
+        mark.plus = plus.spot;
+        mark.minus = minus.spot;
+        match (plus.row, minus.row) {
             (None, None) => None,
             (Some(row), None) => Some(self.atom(Sign::Plus, row)),
             (None, Some(row)) => Some(self.atom(Sign::Minus, row)),
@@ -96,17 +100,17 @@ impl Part {
     }
 
     /// The first atom past the bound, whose sign says nothing.
-    fn above<'s>(&'s self, bound: Option<AtomRef<'_>>) -> Option<AtomRef<'s>>
+    fn above<'s>(&'s self, bound: Option<AtomRef<'_>>, mark: &mut AtomMark) -> Option<AtomRef<'s>>
         requires { IsPackedPart self.now }
         ensures { option_map atom_in result ≡ find (is_after (bound_of bound.entry)) (atoms_at self.now) }
     {
         match bound {
-            None => self.next(None),
+            None => self.next(None, mark),
             Some(last) => {
                 if last.rel.0 < self.rel.0 {
-                    self.next(None)
+                    self.next(None, mark)
                 } else if last.rel.0 == self.rel.0 {
-                    self.next(Some(last.row))
+                    self.next(Some(last.row), mark)
                 } else {
                     None
                 }
@@ -145,13 +149,17 @@ impl Part {
     }
 }
 
-/// The first atom past the bound, whose sign says nothing.
-pub(crate) fn first_after<'s>(parts: &'s [Part], bound: Option<AtomRef<'_>>) -> Option<AtomRef<'s>>
+/// The first atom past the bound, whose sign says nothing. It is looked for beside the mark first, which is then set.
+pub(crate) fn first_after<'s>(
+    parts: &'s [Part],
+    bound: Option<AtomRef<'_>>,
+    mark: &mut AtomMark,
+) -> Option<AtomRef<'s>>
     requires { ArePacked parts.now }
     ensures { option_map atom_in result ≡ find (is_after (bound_of bound.entry)) (atoms_of parts.now) }
 {
     for part in parts {
-        if let Some(atom) = part.above(bound) {
+        if let Some(atom) = part.above(bound, mark) {
             return Some(atom);
         }
     }

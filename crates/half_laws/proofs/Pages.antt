@@ -14,7 +14,8 @@ use Rattle.hera_meaning.specs.Schemas.{IsSchema}
 use Rattle.hera_meaning.specs.Catalogues.{IsDecl, IsCatalogue}
 use Rattle.hera_meaning.specs.Rows.{IsRow}
 use Rattle.hera_meaning.specs.Deltas.{State, IsState, schema_of}
-use Rattle.rel_format.specs.Pages.{Format, page_head, header_of, joined, used_by, zeros, page_bytes, rel_bytes, rels_bytes, paged, page_count, pages_of}
+use Rattle.rel_format.specs.Pages.{Format, Fit, page_head, header_of, joined, used_by, zeros, page_bytes, rel_bytes, rels_bytes, paged, page_count, pages_of}
+use Rattle.rel_format.specs.Journal.{half_limit}
 use Rattle.rel_format.specs.Fields.{PageEnd, number, rel_field, row_count_field, row_field, had_no_room, fill_field, follows}
 use Rattle.rel_format.specs.Greedy.{all_rows, Follow, ArePages}
 use Rattle.rel_format.specs.Table.{Book, Page, at_rels, at_page, at_row, at_fill, no_pages, add_page, last_row, end_of_page, with_page, with_row_in, page_before, row_before, used_before, behind_row, row_in, field, long_field}
@@ -211,14 +212,14 @@ module _ (f : Format) (bytes : List ℕ) (rels : List RelDecl) (format : IsForma
   abbrev AllEnd : ℕ → List (List (List Row)) → Type 0
   AllEnd at pages = (e : Option PageEnd) × Reaches f bytes at (at_page (book rels pages e) 0)
 
-  rels_read : (at n : ℕ) (done ds : List RelDecl) (s : State) (front : List (List (List Row))) (last : Option PageEnd) (tail : List ℕ) → rels ≡ done ++ ds → length done ≡ n → length front ≡ n → IsState ds s → All IsDecl ds → IsBelow last n →
+  rels_read : (at n : ℕ) (done ds : List RelDecl) (s : State) (front : List (List (List Row))) (last : Option PageEnd) (tail : List ℕ) → rels ≡ done ++ ds → length done ≡ n → length front ≡ n → IsState ds s → Fit f.page s → All IsDecl ds → IsBelow last n →
       drop at bytes ≡ rels_bytes f.page n s ++ tail → Reaches f bytes at (at_page (book rels (front ++ map (λ (d : RelDecl). []) ds) last) (page_count f.page s)) → AllEnd (at + length (rels_bytes f.page n s)) (front ++ map (paged f.page) s)
-  rels_read at n done [] [] front last tail is size place state decls below e reached =
+  rels_read at n done [] [] front last tail is size place state fit decls below e reached =
       let same : at ≡ at + 0 = omega arith in
       (last, subst (λ (m : ℕ). Reaches f bytes m (at_page (book rels (front ++ []) last) 0)) same reached)
-  rels_read at n done [] (rows ∷ s) front last tail is size place state decls below e reached = absurd state
-  rels_read at n done (d ∷ ds) [] front last tail is size place state decls below e reached = absurd state
-  rels_read at n done (d ∷ ds) (rows ∷ s) front last tail is size place state decls below e reached =
+  rels_read at n done [] (rows ∷ s) front last tail is size place state fit decls below e reached = absurd state
+  rels_read at n done (d ∷ ds) [] front last tail is size place state fit decls below e reached = absurd state
+  rels_read at n done (d ∷ ds) (rows ∷ s) front last tail is size place state fit decls below e reached =
       let decl = All-head IsDecl d ds decls in
       let schema = d.schema in
       let pages = paged f.page rows in
@@ -230,10 +231,10 @@ module _ (f : Format) (bytes : List ℕ) (rels : List RelDecl) (format : IsForma
       let same_rows = paged_rows f.page rows in
       let here : drop at bytes ≡ one ++ (rest ++ tail) = e ∙ append_assoc one rest tail in
       let first = rel_read f bytes rels n schema format (omega (arith, few)) there known decl.schema front (map (λ (x : RelDecl). []) ds) place at last pages (page_count f.page s) (rest ++ tail)
-      (paged_pages f.page rows format.roomy (all_fit schema rows decl.schema state.0.1)) (subst IsAscending (sym same_rows) state.0.0) (subst (All (IsRow schema)) (sym same_rows) state.0.1) below here reached in
+      (paged_pages f.page rows fit.0) (subst IsAscending (sym same_rows) state.0.0) (subst (All (IsRow schema)) (sym same_rows) state.0.1) below here reached in
       let next_done : rels ≡ (done ++ d ∷ []) ++ ds = is ∙ sym (append_assoc done (d ∷ []) ds) in
       let regrouped = sym (append_assoc front (pages ∷ []) (map (λ (x : RelDecl). []) ds)) in
-      let others = rels_read (at + length one) (suc n) (done ++ d ∷ []) ds s (front ++ pages ∷ []) first.0 tail next_done (omega (arith, size, length-append done (d ∷ []))) (omega (arith, place, length-append front (pages ∷ []))) state.1 (All-tail IsDecl d ds decls) first.1
+      let others = rels_read (at + length one) (suc n) (done ++ d ∷ []) ds s (front ++ pages ∷ []) first.0 tail next_done (omega (arith, size, length-append done (d ∷ []))) (omega (arith, place, length-append front (pages ∷ []))) state.1 fit.1 (All-tail IsDecl d ds decls) first.1
       (behind bytes at (length one) one (rest ++ tail) refl here)
       (subst (λ (x : List (List (List Row))). Reaches f bytes (at + length one) (at_page (book rels x first.0) (page_count f.page s))) regrouped first.2) in
       let same : at + length one + length rest ≡ at + length (one ++ rest) = omega (arith, length-append one rest) in
@@ -244,8 +245,8 @@ module _ (f : Format) (bytes : List ℕ) (rels : List RelDecl) (format : IsForma
   regroup_all a b c t = simp append_assoc
 
   -- the pages of a catalogue and a state are walked to their end
-  pub pages_walked : (s : State) (tail : List ℕ) → IsCatalogue rels → IsState rels s → length bytes ≤ 268435456 → bytes ≡ pages_of f rels s ++ tail → AllEnd (length (pages_of f rels s)) (map (paged f.page) s)
-  pages_walked s tail valid state small e =
+  pub pages_walked : (s : State) (tail : List ℕ) → IsCatalogue rels → IsState rels s → Fit f.page s → length bytes ≤ half_limit → bytes ≡ pages_of f rels s ++ tail → AllEnd (length (pages_of f rels s)) (map (paged f.page) s)
+  pages_walked s tail valid state fit small e =
       let header = header_of f rels in
       let count = to_be_bytes w32 (page_count f.page s) in
       let pages = rels_bytes f.page 0 s in
@@ -260,6 +261,6 @@ module _ (f : Format) (bytes : List ℕ) (rels : List RelDecl) (format : IsForma
       let fits : page_count f.page s ≤ 4294967295 = omega (arith, counted_long f.page 0 s, small, long, length-append (header ++ count ++ pages) tail, length-append (header ++ count) pages) in
       let one = header_read f bytes rels (count ++ (pages ++ tail)) format.magic valid first in
       let two = step f bytes at (at_rels rels zero) 4 (at_page (no_pages rels) (page_count f.page s)) one (ap (field 4 (at_page (no_pages rels))) (ap (number w32) counted ∙ number32_printed (page_count f.page s) (pages ++ tail) fits)) in
-      let all = rels_read (at + 4) 0 [] rels s [] None tail refl refl refl state valid.decls tt third two in
+      let all = rels_read (at + 4) 0 [] rels s [] None tail refl refl refl state fit valid.decls tt third two in
       let place : at + 4 + length pages ≡ length (pages_of f rels s) = omega (arith, length-append (header ++ count) pages, length-append header count) in
       subst (λ (n : ℕ). AllEnd n (map (paged f.page) s)) place all

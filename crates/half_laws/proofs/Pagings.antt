@@ -8,7 +8,7 @@ use Rattle.std.proofs.lemmas.List.Concat.{flat_map-append}
 use Rattle.std.proofs.lemmas.List.Elements.{All-head, All-tail}
 use Rattle.hera_sets.specs.Rows.{Row}
 use Rattle.hera_meaning.specs.Deltas.{State}
-use Rattle.rel_format.specs.Pages.{page_head, with_row, fill_from, paged, joined, used_by, page_bytes, rel_bytes, rels_bytes, page_count}
+use Rattle.rel_format.specs.Pages.{page_head, FitsIn, with_row, fill_from, paged, joined, used_by, page_bytes, rel_bytes, rels_bytes, page_count}
 use Rattle.rel_format.specs.Greedy.{all_rows, Follow, ArePages}
 use Rattle.half_writer.proofs.RowSizes.{FitsPage}
 
@@ -37,12 +37,12 @@ record Filled (page used : ℕ) (pages : List (List Row)) : Type 0 where
   fits : used + length (joined first) ≤ page
   follow : Follow page (used + length (joined first)) more
 
-filled : (page used : ℕ) (rows : List Row) → 4100 ≤ page → used ≤ page → All FitsPage rows → Filled page used (fill_from page used rows)
-filled page used [] roomy within all = record { first = []; more = []; is = refl; fits = omega (arith, within); follow = tt }
-filled page used (r ∷ rows) roomy within all = by (λ (n : ℕ) (h : n ≤ page). filled page n rows roomy h (All-tail FitsPage r rows all)) (nat_le (used + length r) page) refl
+filled : (page used : ℕ) (rows : List Row) → used ≤ page → All (FitsIn page) rows → Filled page used (fill_from page used rows)
+filled page used [] within all = record { first = []; more = []; is = refl; fits = omega (arith, within); follow = tt }
+filled page used (r ∷ rows) within all = by (λ (n : ℕ) (h : n ≤ page). filled page n rows h (All-tail (FitsIn page) r rows all)) (nat_le (used + length r) page) refl
   where
-    here : FitsPage r
-    here = All-head FitsPage r rows all
+    here : FitsIn page r
+    here = All-head (FitsIn page) r rows all
 
     by : ((n : ℕ) → n ≤ page → Filled page n (fill_from page n rows)) → (b : Bool) → nat_le (used + length r) page ≡ b → Filled page used (cond b (with_row r (fill_from page (used + length r) rows)) ([] ∷ with_row r (fill_from page (page_head + length r) rows)))
     by again true h =
@@ -56,7 +56,7 @@ filled page used (r ∷ rows) roomy within all = by (λ (n : ℕ) (h : n ≤ pag
           follow = subst (λ (n : ℕ). Follow page n m.more) size m.follow;
         }
     by again false h =
-        let m = again (page_head + length r) (omega (arith, here.few, roomy)) in
+        let m = again (page_head + length r) here in
         let size : (page_head + length r) + length (joined m.first) ≡ page_head + length (joined (r ∷ m.first)) = omega (arith, length-append r (joined m.first)) in
         let over = leb-false (used + length r) page h in
         record {
@@ -67,11 +67,11 @@ filled page used (r ∷ rows) roomy within all = by (λ (n : ℕ) (h : n ≤ pag
           follow = (omega (arith, over), omega (arith, size, m.fits), subst (λ (n : ℕ). Follow page n m.more) size m.follow);
         }
 
-pub paged_pages : (page : ℕ) (rows : List Row) → 4100 ≤ page → All FitsPage rows → ArePages page (paged page rows)
-paged_pages page [] roomy all = tt
-paged_pages page (r ∷ rows) roomy all =
-    let here = All-head FitsPage r rows all in
-    let m = filled page (page_head + length r) rows roomy (omega (arith, here.few, roomy)) (All-tail FitsPage r rows all) in
+pub paged_pages : (page : ℕ) (rows : List Row) → All (FitsIn page) rows → ArePages page (paged page rows)
+paged_pages page [] all = tt
+paged_pages page (r ∷ rows) all =
+    let here = All-head (FitsIn page) r rows all in
+    let m = filled page (page_head + length r) rows here (All-tail (FitsIn page) r rows all) in
     let size : (page_head + length r) + length (joined m.first) ≡ page_head + length (joined (r ∷ m.first)) = omega (arith, length-append r (joined m.first)) in
     subst (ArePages page) (sym (ap (with_row r) m.is)) (omega (arith, size, m.fits), subst (λ (n : ℕ). Follow page n m.more) size m.follow)
 

@@ -18,7 +18,7 @@ use Rattle.hera_meaning.specs.Rows.{IsRow}
 use Rattle.rel_format.specs.Pages.{kind_byte, zeros}
 use Rattle.rel_format.specs.Fields.{PageEnd, kept, piece, number, is_identifier, new_name, magic_field, length_field, width_field, count_field, kind_field, follows, rel_field, row_count_field, row_keeps, row_field, fill_field}
 use Rattle.rel_format.proofs.Names.{identifier_passes}
-use Rattle.rel_pages.proofs.Lengths.{row_in_front}
+use Rattle.rel_format.proofs.Lengths.{row_in_front}
 
 -- behind a front the tail stands
 pub behind : (bytes : List ℕ) (at n : ℕ) (front tail : List ℕ) → length front ≡ n → drop at bytes ≡ front ++ tail → drop (at + n) bytes ≡ tail

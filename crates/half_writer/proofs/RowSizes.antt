@@ -19,7 +19,7 @@ use Rattle.hera_row.proofs.RowLemmas.{first_field}
 
 pub record FieldSize (s : Scalar) : Type 0 where
   pub some : 1 ≤ length (field_bytes s)
-  pub few : length (field_bytes s) ≤ 256
+  pub few : length (field_bytes s) ≤ 1024
 
 field_size : (s : Scalar) → is_scalar s ≡ true → FieldSize s
 field_size (int_scalar v) h = let size = length-to_be_bytes (shifted v) in record { some = omega (arith, size); few = omega (arith, size) }
@@ -28,7 +28,7 @@ field_size (text_scalar t) h = let short = (text_tests t h).short in record { so
 
 pub record RowSize (schema : List Attr) (row : List ℕ) : Type 0 where
   pub some : length schema ≤ length row
-  pub few : length row ≤ 256 * length schema
+  pub few : length row ≤ 1024 * length schema
 
 tuple_size : (schema : List Attr) (tuple : List Scalar) → is_tuple schema tuple ≡ true → RowSize schema (row_of tuple)
 tuple_size [] [] h = record { some = omega arith; few = omega arith }
@@ -43,7 +43,7 @@ tuple_size (a ∷ attrs) (s ∷ rest) h =
 -- a row of a schema has a byte at least, and fits into a page
 pub record FitsPage (row : List ℕ) : Type 0 where
   pub some : 1 ≤ length row
-  pub few : length row ≤ 4096
+  pub few : length row ≤ 16384
 
 pub fits_page : (schema : List Attr) (row : List ℕ) → IsSchema schema → IsRow schema row → FitsPage row
 fits_page schema row valid h =

@@ -1,5 +1,6 @@
 -- Pages of a relation as they are written.
 use Rattle.std.specs.Prelude.{◌≡◌, ℕ, ◌+◌, List, ◌++◌, length}
+use Rattle.rel_format.specs.declared.version.TheConstants.{PAGE_TWO}
 use Rattle.hera_sets.specs.Rows.{Row}
 use Rattle.rel_format.specs.Pages.{joined, paged, rel_bytes}
 use Rattle.half_writer.specs.declared.open_page.OpenPage.{OpenPage}
@@ -17,11 +18,11 @@ pub record IsPaging (t : Task) (rest : List Row) (bytes : List ℕ) (page : Open
   pub held : List Row
   pub rows : page.rows.items ≡ joined held
   pub count : page.count ≡ length held
-  pub printed : bytes ++ rel_bytes 8192 t.rel (held ++ rest) ≡ t.front ++ rel_bytes 8192 t.rel t.all
+  pub printed : bytes ++ rel_bytes PAGE_TWO t.rel (held ++ rest) ≡ t.front ++ rel_bytes PAGE_TWO t.rel t.all
   pub done : ℕ
   pub before : page.before ≡ t.first + done
-  pub pages : done + length (paged 8192 (held ++ rest)) ≡ length (paged 8192 t.all)
-  pub size : length bytes ≡ length t.front + pages_size 8192 done
+  pub pages : done + length (paged PAGE_TWO (held ++ rest)) ≡ length (paged PAGE_TWO t.all)
+  pub size : length bytes ≡ length t.front + pages_size PAGE_TWO done
 
 -- the open page with a row more
 pub record IsPut (page : OpenPage) (row : Row) (next : OpenPage) : Type 0 where

@@ -58,27 +58,27 @@ mod tests {
             assert!(rt; has_names(&schema));
             catalogue.add(name, schema)?;
         }
-        let mut writer = HalfWriter::new(rt.alloc(), &catalogue, 16_411)?;
+        let mut writer = HalfWriter::new(rt.alloc(), &catalogue, 65_563)?;
         writer.add(&rows)?;
         writer.add(&rows)?;
         let bytes = writer.finish()?;
-        assert_eq!(rt; bytes.len(), 16_411);
+        assert_eq!(rt; bytes.len(), 65_563);
         assert_eq!(rt;
             bytes.as_slice().split_at(31).0,
-            b"HERA0001\0\x02\x01R\x01\x01a\x02\x01S\x01\x01a\x02\0\0\0\x02\0\0\0\x01\x01".as_slice()
+            b"HERA0002\0\x02\x01R\x01\x01a\x02\x01S\x01\x01a\x02\0\0\0\x02\0\0\0\x01\x01".as_slice()
         );
         assert_eq!(rt;
-            bytes.as_slice().split_at(8218).1.split_at(5).0,
+            bytes.as_slice().split_at(32794).1.split_at(5).0,
             b"\0\x01\0\x01\x01".as_slice()
         );
-        let mut writer = HalfWriter::new(rt.alloc(), &catalogue, 16_410)?;
+        let mut writer = HalfWriter::new(rt.alloc(), &catalogue, 65_562)?;
         writer.add(&rows)?;
         assert!(rt;
             matches!(
                 writer.add(&rows),
                 Err(HalfFault::Full {
-                    need: 16_411,
-                    limit: 16_410
+                    need: 65_563,
+                    limit: 65_562
                 })
             )
         );

@@ -1,5 +1,6 @@
 //! The page that is open.
 ghost use Rattle.std.specs.Prelude.{◌≡◌, ◌≤◌, ◌+◌, ◌++◌, [], length, IfOk};
+ghost use Rattle.rel_format.specs.declared.version.TheConstants.{HALF_LIMIT, PAGE_TWO};
 
 use std::alloc::{AllocError, Global};
 
@@ -9,7 +10,7 @@ pub(crate) struct OpenPage {
     pub(crate) rows: Vec<u8>,
     pub(crate) count: u16,
     pub(crate) before: u32,
-    ghost fits: { 4 + length rows.items ≤ 8192 },
+    ghost fits: { 4 + length rows.items ≤ PAGE_TWO },
     ghost few: { count ≤ length rows.items },
 }
 
@@ -29,7 +30,7 @@ impl OpenPage {
 
     /// The next page, without rows.
     pub(crate) fn next(self) -> OpenPage
-        requires { self.before ≤ 268435456 }
+        requires { self.before ≤ HALF_LIMIT }
         ensures rows { result.rows.items ≡ [] }
         ensures count { result.count ≡ 0 }
         ensures before { result.before ≡ self.before + 1 }
@@ -50,7 +51,7 @@ impl OpenPage {
     /// The page with a row more, which fits.
     pub(crate) fn push(self, row: &[u8]) -> Result<OpenPage, AllocError>
         requires some { 1 ≤ length row.now }
-        requires fits { 4 + length self.rows.items + length row.now ≤ 8192 }
+        requires fits { 4 + length self.rows.items + length row.now ≤ PAGE_TWO }
         ensures rows { IfOk result (λ page. page.rows.items ≡ self.rows.items ++ row.now) }
         ensures count { IfOk result (λ page. page.count ≡ self.count + 1) }
         ensures before { IfOk result (λ page. page.before ≡ self.before) }

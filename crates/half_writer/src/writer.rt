@@ -1,7 +1,8 @@
 //! The writer of halves.
 ghost use Rattle.std.specs.Prelude.{◌≡◌, ◌≤◌, ◌<◌, ◌+◌, ◌++◌, ◌∷◌, [], ℕ, List, length, IfOk, IfErr, OnOk};
+ghost use Rattle.rel_format.specs.declared.version.TheConstants.{HALF_LIMIT, PAGE_TWO};
 ghost use Rattle.std.specs.Int.{to_be_bytes, w32};
-ghost use Rattle.rel_format.specs.Pages.{format_one, paged, half_of};
+ghost use Rattle.rel_format.specs.Pages.{format_two, paged, half_of};
 ghost use Rattle.half_writer.specs.Written.{AreRows, IsFullAt, IsFirstFull, written_of, with_rel, finished, need_of};
 ghost use Rattle.hera_meaning.specs.declared.schemas.RelDecl.{RelDecl};
 ghost use Rattle.hera_meaning.specs.Deltas.{State};
@@ -10,7 +11,7 @@ use crate::adding::add_pages;
 use crate::pages::HalfFault;
 use hera_row::Catalogue;
 use hera_rows::Sorted;
-use rel_format::header_bytes;
+use rel_format::{Version, header_bytes};
 use std::alloc::{AllocError, Global};
 use std::marker::Model;
 
@@ -29,22 +30,23 @@ pub struct HalfWriter {
 
 impl Model for HalfWriter {
     ghost use Rattle.std.specs.Prelude.{◌≤◌, length};
+    ghost use Rattle.rel_format.specs.declared.version.TheConstants.{HALF_LIMIT};
     ghost use Rattle.half_writer.specs.Written.{Written};
 
     ghost Value = { Written };
 
     ghost view = { λ w. record { header = w.header.items; added = w.added; count = w.count; pages = w.pages.items; limit = w.limit } };
 
-    ghost invariant = { λ w. record { few : w.count ≤ length w.pages.items; within : length w.pages.items ≤ 268435456; limit : w.limit ≤ 268435456 } };
+    ghost invariant = { λ w. record { few : w.count ≤ length w.pages.items; within : length w.pages.items ≤ HALF_LIMIT; limit : w.limit ≤ HALF_LIMIT } };
 }
 
 impl HalfWriter {
     /// The writer of a half of these relations, of at most so many bytes.
     pub fn new(alloc: Global, catalogue: &Catalogue, limit: u64) -> Result<HalfWriter, AllocError>
-        requires { limit ≤ 268435456 }
-        ensures { IfOk result (λ writer. writer ≡ written_of format_one catalogue.now limit []) }
+        requires { limit ≤ HALF_LIMIT }
+        ensures { IfOk result (λ writer. writer ≡ written_of format_two catalogue.now limit []) }
     {
-        let header = header_bytes(alloc, b"HERA0001", catalogue)?;
+        let header = header_bytes(alloc, Version::Two.magic(), catalogue)?;
         Ok(HalfWriter {
             header,
             added: 0,
@@ -59,9 +61,9 @@ impl HalfWriter {
     pub fn add<S: Sorted>(&mut self, rows: &S) -> Result<(), HalfFault>
         requires more { self.old.added < 256 }
         requires rows { AreRows (S.rows rows.now) }
-        ensures add { OnOk result (self.new ≡ with_rel 8192 self.old (S.rows rows.now)) }
+        ensures add { OnOk result (self.new ≡ with_rel PAGE_TWO self.old (S.rows rows.now)) }
         ensures room { OnOk result (need_of self.new ≤ self.new.limit) }
-        ensures full { IfErr result (IsFirstFull 8192 (need_of self.old) (length (paged 8192 (S.rows rows.now))) self.old.limit) }
+        ensures full { IfErr result (IsFirstFull PAGE_TWO (need_of self.old) (length (paged PAGE_TWO (S.rows rows.now))) self.old.limit) }
     {
         let head = self.header.as_slice().len() as u64 + COUNT_AND_GATE;
         let added = add_pages(
@@ -90,7 +92,7 @@ impl HalfWriter {
     /// pass the limit.
     pub fn finish(self) -> Result<Vec<u8>, HalfFault>
         ensures bytes { IfOk result (λ bytes. bytes.items ≡ finished self) }
-        ensures half { (rels : List RelDecl) (limit : ℕ) (state : State) → self ≡ written_of format_one rels limit state → IfOk result (λ bytes. bytes.items ≡ half_of format_one rels state) }
+        ensures half { (rels : List RelDecl) (limit : ℕ) (state : State) → self ≡ written_of format_two rels limit state → IfOk result (λ bytes. bytes.items ≡ half_of format_two rels state) }
         ensures room { OnOk result (need_of self ≤ self.limit) }
         ensures full { IfErr result (IsFullAt (need_of self) self.limit) }
     {

@@ -7,7 +7,7 @@ use Rattle.hera_meaning.specs.declared.schemas.Attr.{Attr}
 use Rattle.hera_meaning.specs.Scalars.{scalar_less}
 use Rattle.hera_meaning.specs.Rows.{field_at}
 use Rattle.hera_meaning.specs.Aggregates.{column, least_from, greatest_from, least_scalar, greatest_scalar}
-use Rattle.hera_aggregate.specs.Behind.{rows_behind}
+use Rattle.rel_algebra.specs.Fronts.{rows_behind}
 use Rattle.hera_aggregate.specs.Extremes.{with_lesser, with_greater, found_least, found_greatest, found_or_zero}
 
 pub rows_behind-none : (rows : List Row) → rows_behind 0 rows ≡ rows

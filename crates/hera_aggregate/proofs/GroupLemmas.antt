@@ -9,7 +9,7 @@ use Rattle.hera_sets.proofs.Order.{same_itself}
 use Rattle.hera_meaning.specs.declared.schemas.Attr.{Attr}
 use Rattle.hera_meaning.specs.Relations.{at_places}
 use Rattle.hera_meaning.specs.Aggregates.{is_few, rows_of_key}
-use Rattle.hera_aggregate.specs.Behind.{rows_behind}
+use Rattle.rel_algebra.specs.Fronts.{rows_behind}
 use Rattle.hera_aggregate.specs.declared.ends.AggEnd.{AggEnd}
 use Rattle.hera_aggregate.specs.declared.ends.AggEnd.TheVariants.{Overflow, EmptyMin, Memory}
 use Rattle.hera_aggregate.specs.Groups.{IsGroupEnd}

@@ -16,9 +16,8 @@ use Rattle.hera_meaning.specs.Relations.{piece_at, at_places, project_of}
 use Rattle.hera_meaning.specs.Aggregates.{rows_of_key}
 use Rattle.hera_row.proofs.FieldLemmas.{first_piece-field_bytes}
 use Rattle.hera_row.proofs.RowLemmas.{first_field}
-use Rattle.rel_algebra.specs.Fronts.{begins, begun_of}
-use Rattle.rel_algebra.proofs.FrontLemmas.{below-behind, same-behind, begins_whole, begins-behind}
-use Rattle.hera_aggregate.specs.Behind.{rows_behind}
+use Rattle.rel_algebra.specs.Fronts.{begins, begun_of, rows_behind}
+use Rattle.rel_algebra.proofs.FrontLemmas.{ascending_behind, holds-behind}
 use Rattle.hera_aggregate.specs.Groups.{keyed_row}
 
 -- ---- no key begins another
@@ -68,38 +67,6 @@ no_key_begins_another schema by x y u v (ss, h, e) (ts, g, f) w =
     let xs = key_of-row schema by ss x h e in
     let ys = key_of-row schema by ts y g f in
     xs ∙ keys_apart schema ss ts by u v h g (ap (λ t. t ++ u) (sym xs) ∙ w ∙ ap (λ t. t ++ v) ys) ∙ sym ys
-
--- ---- what lies behind a key
-
-all_behind : (k t : Row) (ts : List Row) → begins k t ≡ true → IsBelowAll t ts → IsBelowAll (drop (length k) t) (rows_behind (length k) (begun_of k ts))
-all_behind k t [] m all = tt
-all_behind k t (s ∷ ts) m all = by (all_behind k t ts m all.1) (begins k s) refl
-  where
-    by : IsBelowAll (drop (length k) t) (rows_behind (length k) (begun_of k ts)) → (v : Bool) → begins k s ≡ v → IsBelowAll (drop (length k) t) (rows_behind (length k) (begun_of k (s ∷ ts)))
-    by more true e =
-        let below : is_below (drop (length k) t) (drop (length k) s) ≡ true = sym (below-behind k (drop (length k) t) (drop (length k) s)) ∙ (λ i. is_below (begins_whole k t m i) (begins_whole k s e i)) ∙ all.0 in
-        rw e (below, more)
-    by more false e = rw e more
-
-pub ascending_behind : (k : Row) (ts : List Row) → IsAscending ts → IsAscending (rows_behind (length k) (begun_of k ts))
-ascending_behind k [] up = tt
-ascending_behind k (t ∷ ts) up = by (ascending_behind k ts up.1) (begins k t) refl
-  where
-    by : IsAscending (rows_behind (length k) (begun_of k ts)) → (v : Bool) → begins k t ≡ v → IsAscending (rows_behind (length k) (begun_of k (t ∷ ts)))
-    by more true e = rw e (all_behind k t ts e up.0, more)
-    by more false e = rw e more
-
-pub holds-behind : (k x : Row) (ts : List Row) → holds (rows_behind (length k) (begun_of k ts)) x ≡ holds ts (k ++ x)
-holds-behind k x [] = refl
-holds-behind k x (t ∷ ts) = by (holds-behind k x ts) (begins k t) refl
-  where
-    by : holds (rows_behind (length k) (begun_of k ts)) x ≡ holds ts (k ++ x) → (v : Bool) → begins k t ≡ v → holds (rows_behind (length k) (begun_of k (t ∷ ts))) x ≡ holds (t ∷ ts) (k ++ x)
-    by more true e =
-        let here : is_same x (drop (length k) t) ≡ is_same (k ++ x) t = sym (same-behind k x (drop (length k) t)) ∙ ap (is_same (k ++ x)) (begins_whole k t e) in
-        rw e (λ i. here i || more i)
-    by more false e =
-        let other : is_same (k ++ x) t ≡ false = false_from_ne_true _ (λ s. both_ways _ e (ap (begins k) (sym (same_true (k ++ x) t s)) ∙ begins-behind k x)) in
-        rw (e, other) more
 
 -- ---- the rows behind a key are the rows of the key
 

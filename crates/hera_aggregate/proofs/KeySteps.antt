@@ -7,7 +7,7 @@ use Rattle.hera_meaning.specs.Rows.{IsRow}
 use Rattle.hera_meaning.specs.Relations.{project_of}
 use Rattle.hera_meaning.specs.Aggregates.{rows_of_key}
 use Rattle.rel_algebra.specs.Fronts.{begun_of}
-use Rattle.hera_aggregate.specs.Behind.{rows_behind}
+use Rattle.rel_algebra.specs.Fronts.{rows_behind}
 use Rattle.hera_aggregate.specs.Groups.{keyed_row}
 use Rattle.hera_aggregate.proofs.KeyLemmas.{rows_behind-key, key_found}
 use Rattle.hera_aggregate.proofs.GroupLemmas.{found_held}

@@ -14,7 +14,7 @@ use Rattle.hera_meaning.specs.declared.schemas.Attr.{Attr}
 use Rattle.hera_meaning.specs.Scalars.{fits_int}
 use Rattle.hera_meaning.specs.Rows.{field_at}
 use Rattle.hera_meaning.specs.Aggregates.{int_of, sum_of}
-use Rattle.hera_aggregate.specs.Behind.{rows_behind}
+use Rattle.rel_algebra.specs.Fronts.{rows_behind}
 
 -- what holds of all rows without their first bytes holds so of the one found
 pub all_found : (P : Row → Type 0) (p : Row → Bool) (skip : ℕ) (xs : List Row) (r : Row) → All P (rows_behind skip xs) → find p xs ≡ Some r → P (drop skip r)

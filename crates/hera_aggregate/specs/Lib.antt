@@ -1,3 +1,2 @@
 pub mod Extremes
-pub mod Behind
 pub mod Groups

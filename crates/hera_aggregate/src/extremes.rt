@@ -5,14 +5,14 @@ ghost use Rattle.hera_meaning.specs.Scalars.{scalar_less};
 ghost use Rattle.hera_meaning.specs.Rows.{IsRow};
 ghost use Rattle.hera_meaning.specs.Aggregates.{column, least_scalar, greatest_scalar};
 ghost use Rattle.hera_row.specs.Fields.{told};
-ghost use Rattle.hera_aggregate.specs.Behind.{rows_behind};
+ghost use Rattle.rel_algebra.specs.Fronts.{rows_behind};
 ghost use Rattle.hera_aggregate.specs.Extremes.{with_lesser, with_greater, found_least, found_greatest, IsExtremeEnd, HasRows};
 
 use crate::behind::behind;
 use crate::ends::AggEnd;
 use hera_meaning::{Scalar, ScalarRef, Schema, Text};
 use hera_row::field;
-use hera_rows::Sorted;
+use hera_rows::{Mark, Sorted};
 use hera_sets::is_below;
 use std::alloc::Global;
 
@@ -63,7 +63,8 @@ pub fn least_field<'a, A: Sorted>(
 {
     let mut best: Option<ScalarRef<'a>> = None;
     let mut last: Option<&[u8]> = None;
-    while let Some(row) = a.above(last) {
+    let mut mark = Mark::start();
+    while let Some(row) = a.above_from(last, &mut mark) {
         best = Some(lesser(best, field(schema, behind(row, skip), i)));
         last = Some(row);
     }
@@ -83,7 +84,8 @@ pub fn greatest_field<'a, A: Sorted>(
 {
     let mut best: Option<ScalarRef<'a>> = None;
     let mut last: Option<&[u8]> = None;
-    while let Some(row) = a.above(last) {
+    let mut mark = Mark::start();
+    while let Some(row) = a.above_from(last, &mut mark) {
         best = Some(greater(best, field(schema, behind(row, skip), i)));
         last = Some(row);
     }

@@ -5,7 +5,7 @@ ghost use Rattle.hera_sets.specs.Rows.{normal, IsAscending};
 ghost use Rattle.hera_meaning.specs.Rows.{IsRow, field_bytes};
 ghost use Rattle.hera_meaning.specs.Aggregates.{is_few, agg_of, is_agg_in_range, are_sums_in_range, group_of};
 ghost use Rattle.hera_row.specs.Fields.{told};
-ghost use Rattle.hera_aggregate.specs.Behind.{rows_behind};
+ghost use Rattle.rel_algebra.specs.Fronts.{rows_behind};
 ghost use Rattle.hera_aggregate.specs.Extremes.{found_or_zero};
 ghost use Rattle.hera_aggregate.specs.Groups.{IsAggWithin, keyed_row, aggs_bytes, are_aggs_in_range, IsGroupEnd};
 
@@ -15,8 +15,8 @@ use crate::extremes::{greatest_field, least_field};
 use crate::fields::push_field;
 use crate::sums::{narrowed, total};
 use hera_meaning::{Agg, ScalarRef, Schema};
-use hera_rows::{RowBuf, RowSet, Sorted};
-use rel_algebra::{Begun, at_places, project, set_of};
+use hera_rows::{Mark, RowBuf, RowSet, Sorted};
+use rel_algebra::{Begun, at_places, project};
 use std::alloc::{AllocError, Global};
 
 /// One row for each key, which is the fields at the places `by`: the key, and behind it the aggregates
@@ -38,19 +38,19 @@ pub fn group<A: Sorted>(
     count(a)?;
     let keys = project(alloc, schema, by, a)?;
     let keyed = keyed(alloc, schema, by, a)?;
-    let mut groups = Vec::new(alloc);
+    let mut groups = RowSet::new(alloc);
     let mut last: Option<&[u8]> = None;
-    while let Some(key) = keys.above(last) {
+    let mut mark = Mark::start();
+    while let Some(key) = keys.above_from(last, &mut mark) {
         let rows = Begun {
             a: &keyed,
             front: key,
         };
         let row = group_row(alloc, schema, aggs, key, &rows)?;
-        groups.push(row)?;
+        groups.insert(row.bytes())?;
         last = Some(key);
     }
-    let set = set_of(alloc, groups)?;
-    Ok(set)
+    Ok(groups)
 }
 
 /// The rows, each behind its key.
@@ -63,16 +63,17 @@ fn keyed<A: Sorted>(
     ensures set { IfOk result (λ set. set ≡ normal (map (keyed_row schema.now by.now) (A.rows a.now))) }
     ensures ordered { IsAscending (A.rows a.now) }
 {
-    let mut rows = Vec::new(alloc);
+    let mut set = RowSet::new(alloc);
     let mut last: Option<&[u8]> = None;
-    while let Some(row) = a.above(last) {
+    let mut mark = Mark::start();
+    while let Some(row) = a.above_from(last, &mut mark) {
         let key = at_places(alloc, schema, by, row)?;
         let mut bytes = key.into_vec();
         bytes.extend_from_slice(row)?;
-        rows.push(RowBuf::from_vec(bytes))?;
+        set.insert(&bytes)?;
         last = Some(row);
     }
-    set_of(alloc, rows)
+    Ok(set)
 }
 
 /// The key, and behind it the aggregates of the rows behind the key.

@@ -3,14 +3,14 @@ ghost use Rattle.std.specs.Prelude.{◌≡◌, ◌<◌, ◌≤ℤ◌, ◌&&◌, 
 ghost use Rattle.hera_meaning.specs.Scalars.{fits_int};
 ghost use Rattle.hera_meaning.specs.Rows.{IsRow, field_at};
 ghost use Rattle.hera_meaning.specs.Aggregates.{is_few, int_of, sum_of};
-ghost use Rattle.hera_aggregate.specs.Behind.{rows_behind};
+ghost use Rattle.rel_algebra.specs.Fronts.{rows_behind};
 
 use crate::behind::behind;
 use crate::counting::count;
 use crate::ends::AggEnd;
 use hera_meaning::{ScalarRef, Schema};
 use hera_row::field;
-use hera_rows::Sorted;
+use hera_rows::{Mark, Sorted};
 
 /// The exact sum of the ints at place `i`, and Overflow exactly where it is not in the range of an
 /// int, or there are more than 2^63 - 1 rows. It takes no memory.
@@ -34,7 +34,8 @@ pub fn total<A: Sorted>(schema: &Schema, i: usize, skip: usize, a: &A) -> i128
 {
     let mut total: i128 = 0;
     let mut last: Option<&[u8]> = None;
-    while let Some(row) = a.above(last) {
+    let mut mark = Mark::start();
+    while let Some(row) = a.above_from(last, &mut mark) {
         total += i128::from(int_at(schema, behind(row, skip), i));
         last = Some(row);
     }

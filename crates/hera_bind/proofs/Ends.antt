@@ -1,5 +1,5 @@
 -- Binding changes numbers of relations alone: walks, slots that are set, returns and addresses stay.
-use Rattle.std.proofs.Common.{◌≡◌, ℕ, suc, ◌+◌, List, [], ◌∷◌, refl, ap, ◌∙◌, Bool, true, false}
+use Rattle.std.proofs.Common.{◌≡◌, ℕ, suc, ◌+◌, List, [], ◌∷◌, Some, None, refl, ap, ◌∙◌, Bool, true, false}
 use Rattle.std.specs.Prelude.{map}
 use Rattle.hera_meaning.specs.declared.schemas.RelDecl.{RelDecl}
 use Rattle.hera_meaning.specs.Trees.{Expr, constant, local, relation, prim, chain, and_all, or_any, when, select, map_each, call, host, Exprs, no_more, then_expr, Links, no_link, link, Hypos, no_hypo, hypo, Command, set_slot, if_arms, while, foreach, print, apply, commit, rollback, assert, return, return_value, call_proc, Block, no_stmt, then_stmt, Arms, no_arm, arm, Body_tree}
@@ -43,7 +43,7 @@ module _ (own catalogue : List RelDecl) where
     walks_same_command (foreach i of block) = rw (walks_same of, walks_same_block block) refl
     walks_same_command (print e shape) = walks_same e
     walks_same_command (apply d at) = walks_same d
-    walks_same_command commit = refl
+    walks_same_command (commit label) = refl
     walks_same_command rollback = refl
     walks_same_command (assert c at) = walks_same c
     walks_same_command return = refl
@@ -66,7 +66,7 @@ module _ (own catalogue : List RelDecl) where
     sets_same (foreach i of block) = sets_same_block block
     sets_same (print e shape) = refl
     sets_same (apply d at) = refl
-    sets_same commit = refl
+    sets_same (commit label) = refl
     sets_same rollback = refl
     sets_same (assert c at) = refl
     sets_same return = refl
@@ -88,7 +88,7 @@ module _ (own catalogue : List RelDecl) where
   readable_same seen rs (foreach i of block) = refl
   readable_same seen rs (print e shape) = refl
   readable_same seen rs (apply d at) = refl
-  readable_same seen rs commit = refl
+  readable_same seen rs (commit label) = refl
   readable_same seen rs rollback = refl
   readable_same seen rs (assert c at) = refl
   readable_same seen rs return = refl
@@ -108,7 +108,7 @@ module _ (own catalogue : List RelDecl) where
     command_returns_same (foreach i of block) = refl
     command_returns_same (print e shape) = refl
     command_returns_same (apply d at) = refl
-    command_returns_same commit = refl
+    command_returns_same (commit label) = refl
     command_returns_same rollback = refl
     command_returns_same (assert c at) = refl
     command_returns_same return = refl
@@ -170,7 +170,8 @@ module _ (own catalogue : List RelDecl) where
     command_end_same (foreach i of block) a = ap (λ k. k + 1 + 1) (block_end_same block (expr_end (bound_expr own catalogue of) a + 1 + 1) ∙ ap (λ k. block_end block (k + 1 + 1)) (end_same of a))
     command_end_same (print e shape) a = ap (λ k. k + 1) (end_same e a)
     command_end_same (apply d at) a = ap (λ k. k + 1) (end_same d a)
-    command_end_same commit a = refl
+    command_end_same (commit None) a = refl
+    command_end_same (commit (Some label)) a = refl
     command_end_same rollback a = refl
     command_end_same (assert c at) a = ap (λ k. k + 1) (end_same c a)
     command_end_same return a = refl

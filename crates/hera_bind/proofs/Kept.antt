@@ -160,7 +160,7 @@ module _ (own catalogue : List RelDecl) (known : (r : ℕ) → r < length own �
       sound_kept seen rs inside (foreach i of block) h = (h.0, of_kept rs of (of_table h.0) h.1, h.2, block_kept seen (i ∷ rs) (i ∷ inside) block h.3)
       sound_kept seen rs inside (print e shape) h = (of_kept rs e _ h.0, h.1)
       sound_kept seen rs inside (apply d at) h = (of_kept rs d of_delta h.0, h.1)
-      sound_kept seen rs inside commit h = h
+      sound_kept seen rs inside (commit label) h = h
       sound_kept seen rs inside rollback h = h
       sound_kept seen rs inside (assert c at) h = of_kept rs c bool_form h
       sound_kept seen rs inside return h = h

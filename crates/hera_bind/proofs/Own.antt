@@ -83,7 +83,7 @@ module _ (sc : Scope) (known : (r : ℕ) → r < length sc.rels → number_in sc
     command_own seen rs inside (foreach i of block) h = rw (expr_own rs of (of_table h.0) h.1, block_own seen (i ∷ rs) (i ∷ inside) block h.3) refl
     command_own seen rs inside (print e shape) h = ap (λ z. print z shape) (expr_own rs e _ h.0)
     command_own seen rs inside (apply d at) h = ap (λ z. apply z at) (expr_own rs d of_delta h.0)
-    command_own seen rs inside commit h = refl
+    command_own seen rs inside (commit label) h = refl
     command_own seen rs inside rollback h = refl
     command_own seen rs inside (assert c at) h = ap (λ z. assert z at) (expr_own rs c bool_form h)
     command_own seen rs inside return h = refl

@@ -47,8 +47,9 @@ fn has(catalogue: &Catalogue, decl: &RelDecl) -> bool
     }
 }
 
-/// The place of the first declared relation that the catalogue has not with an equal schema.
-fn first_missing(catalogue: &Catalogue, own: &[RelDecl]) -> Option<usize>
+/// The place of the first declared relation that the catalogue has not with an equal schema, and `None`
+/// where it has all of them, so that a program of these relations binds to it. It takes no memory.
+pub fn first_missing(catalogue: &Catalogue, own: &[RelDecl]) -> Option<usize>
     ensures { MatchOption result (AllHas catalogue.now own.now) (IsFirstMissing catalogue.now own.now) }
 {
     for (i, decl) in own.iter().enumerate() {

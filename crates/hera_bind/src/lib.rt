@@ -12,7 +12,7 @@ pub mod laws;
 mod numbers;
 mod statements;
 
-pub use binding::{BindFault, bind};
+pub use binding::{BindFault, bind, first_missing};
 
 #[cfg(test)]
 mod tests;

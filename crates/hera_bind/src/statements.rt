@@ -40,7 +40,7 @@ fn bind_stmt(own: &[RelDecl], catalogue: &Catalogue, stmt: &mut Stmt)
         }
         Stmt::Print(e, _shape) => bind_expr(own, catalogue, e),
         Stmt::Apply(delta, _at) => bind_expr(own, catalogue, delta),
-        Stmt::Commit => {}
+        Stmt::Commit(_label) => {}
         Stmt::Rollback => {}
         Stmt::Assert(cond, _at) => bind_expr(own, catalogue, cond),
         Stmt::Return(value) => bind_value(own, catalogue, value),

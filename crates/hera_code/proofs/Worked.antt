@@ -1,5 +1,5 @@
 -- Worked programs: their code does what they mean.
-use Rattle.std.proofs.Common.{◌≡◌, ℕ, true, false, List, [], ◌∷◌, refl, pos, codes}
+use Rattle.std.proofs.Common.{◌≡◌, ℕ, true, false, List, [], ◌∷◌, Some, None, refl, pos, codes}
 use Rattle.hera_sets.specs.Rows.{is_below, is_same}
 use Rattle.hera_meaning.specs.declared.hosts.HostSpec.TheVariants.{Clamp}
 use Rattle.hera_meaning.specs.declared.scalars.Kind.TheVariants.{Int as int_kind}
@@ -14,7 +14,7 @@ use Rattle.hera_meaning.specs.declared.trees.Op.TheVariants.{Add, Sub, Mul, Div,
 use Rattle.hera_meaning.specs.Hosts.{Hosts}
 use Rattle.hera_meaning.specs.Deltas.{State}
 use Rattle.hera_meaning.specs.Trees.{Expr, constant, local, relation, prim, chain, and_all, or_any, when, select, map_each, call, host, Exprs, no_more, then_expr, no_link, link, no_hypo, hypo, Command, set_slot, if_arms, while, foreach, print, apply, commit, rollback, assert, return, return_value, call_proc, Block, no_stmt, then_stmt, no_arm, arm, Program_tree}
-use Rattle.hera_meaning.specs.Printed.{spent_line}
+use Rattle.hera_meaning.specs.Printed.{text_of, spent_line}
 use Rattle.hera_meaning.specs.Worlds.{out}
 use Rattle.hera_meaning.specs.Run.{run_of, finished, out_of_turns}
 use Rattle.hera_code.specs.declared.instrs.Instr.{Instr}
@@ -153,9 +153,9 @@ walk_keeps_its_rows : Follows (with_main 1 (apply (chain (plus 0 (int 1)) (link 
 unfolding is_below is_same
 walk_keeps_its_rows = refl
 
--- apply {+R(1)}; commit; apply {+R(2)}; rollback; apply {+S(3)}; commit; assert count(R) < 1;
-two_commits : Follows (with_main 0 (apply (plus 0 (int 1)) 0 ∷ commit ∷ apply (plus 0 (int 2)) 0 ∷ rollback ∷ apply (plus 1 (int 3)) 0 ∷ commit ∷ assert (less (count (relation 0)) (int 1)) 5 ∷ [])) none [] 0 100
-unfolding is_below is_same
+-- apply {+R(1)}; commit; apply {+R(2)}; rollback; apply {+S(3)}; commit "end"; assert count(R) < 1;
+two_commits : Follows (with_main 0 (apply (plus 0 (int 1)) 0 ∷ commit None ∷ apply (plus 0 (int 2)) 0 ∷ rollback ∷ apply (plus 1 (int 3)) 0 ∷ commit (Some (codes "end")) ∷ assert (less (count (relation 0)) (int 1)) 5 ∷ [])) none [] 0 100
+unfolding is_below is_same text_of
 two_commits = refl
 
 -- apply {+R(1)}; apply fail;

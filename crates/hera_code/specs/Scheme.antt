@@ -1,7 +1,8 @@
 -- The code of each phrase, and of a program.
-use Rattle.std.specs.Prelude.{ℕ, zero, suc, ◌+◌, Bool, true, false, List, [], ◌∷◌, ◌++◌}
-use Rattle.hera_meaning.specs.declared.scalars.Scalar.TheVariants.{Bool as bool_scalar}
+use Rattle.std.specs.Prelude.{ℕ, zero, suc, ◌+◌, Bool, true, false, List, [], ◌∷◌, ◌++◌, Option, Some, None}
+use Rattle.hera_meaning.specs.declared.scalars.Scalar.TheVariants.{Bool as bool_scalar, Text as text_scalar}
 use Rattle.hera_meaning.specs.declared.trees.Const.TheVariants.{Scalar}
+use Rattle.hera_meaning.specs.declared.trees.Shape.TheVariants.{Text as text_shape}
 use Rattle.hera_meaning.specs.Trees.{Expr, constant, local, relation, prim, chain, and_all, or_any, when, select, map_each, call, host, Exprs, no_more, then_expr, Links, no_link, link, Hypos, no_hypo, hypo, Command, set_slot, if_arms, while, foreach, print, apply, commit, rollback, assert, return, return_value, call_proc, Block, no_stmt, then_stmt, Arms, no_arm, arm, Body_tree, Program_tree}
 use Rattle.hera_meaning.specs.Addresses.{expr_end, every_last, some_end, hypos_end, hypos_count, command_end, block_end, arms_end, body_end}
 use Rattle.hera_code.specs.declared.instrs.Instr.{Instr}
@@ -66,18 +67,23 @@ abbrev mutual
 
 -- ---- statements
 
--- the body in which a statement stands
-pub data Place : Type 0 where
-  in_main : Place
-  in_func : Place
-  in_proc : Place
+-- what the body is in which a statement stands
+pub data Role : Type 0 where
+  in_main : Role
+  in_func : Role
+  in_proc : Role
 
-abbrev pub return_code : Place → Instr
+abbrev pub return_code : Role → Instr
 return_code in_main = Halt
 return_code in_func = RetVal
 return_code in_proc = Ret
 
-module _ (p : Place) where
+-- a label is pushed and printed as a text
+abbrev pub label_code : Option (List ℕ) → List Instr
+label_code None = []
+label_code (Some label) = Push (Scalar (text_scalar label)) ∷ Print text_shape ∷ []
+
+module _ (p : Role) where
   abbrev mutual
     pub command_code : Command → ℕ → List Instr
     command_code (set_slot i e) a = expr_code e a ++ Store i ∷ []
@@ -91,7 +97,7 @@ module _ (p : Place) where
         expr_code of a ++ Walk ∷ Next i x ∷ (block_code block (l + 1) ++ Back l ∷ Drop ∷ [])
     command_code (print e shape) a = expr_code e a ++ Print shape ∷ []
     command_code (apply d at) a = expr_code d a ++ Apply at ∷ []
-    command_code commit a = Commit ∷ []
+    command_code (commit label) a = Commit ∷ label_code label
     command_code rollback a = Rollback ∷ []
     command_code (assert c at) a = expr_code c a ++ Assert at ∷ []
     command_code return a = return_code p ∷ []
@@ -112,17 +118,17 @@ module _ (p : Place) where
 -- ---- programs
 
 -- what stands behind a body's block
-abbrev pub last_code : Place → List Instr
+abbrev pub last_code : Role → List Instr
 last_code in_main = Halt ∷ []
 last_code in_func = []
 last_code in_proc = Ret ∷ []
 
--- the place of a body behind main
-abbrev pub place_of : Bool → Place
-place_of true = in_func
-place_of false = in_proc
+-- the role of a body behind main
+abbrev pub role_of : Bool → Role
+role_of true = in_func
+role_of false = in_proc
 
-abbrev pub body_code : Place → Block → ℕ → List Instr
+abbrev pub body_code : Role → Block → ℕ → List Instr
 body_code p block a = block_code p block a ++ last_code p
 
 abbrev pub info_of : Body_tree → ℕ → BodyInfo
@@ -131,7 +137,7 @@ info_of b a = record { at = a; params = b.params; slots = b.slots; func = b.func
 -- the bodies behind main, one behind another
 abbrev pub bodies_code : List Body_tree → ℕ → List Instr
 bodies_code [] a = []
-bodies_code (b ∷ bodies) a = body_code (place_of b.func) b.block a ++ bodies_code bodies (body_end b.func b.block a)
+bodies_code (b ∷ bodies) a = body_code (role_of b.func) b.block a ++ bodies_code bodies (body_end b.func b.block a)
 
 abbrev pub infos_of : List Body_tree → ℕ → List BodyInfo
 infos_of [] a = []

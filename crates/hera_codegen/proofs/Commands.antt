@@ -8,14 +8,14 @@ use Rattle.hera_meaning.specs.Plain.{expr_of, command_of, block_in, arms_in}
 use Rattle.hera_meaning.specs.Addresses.{expr_end, command_end, block_end, arms_end}
 use Rattle.hera_code.specs.declared.instrs.Instr.{Instr}
 use Rattle.hera_code.specs.declared.instrs.Instr.TheVariants.{Walk, Next, Back, Drop, Jump, Unless}
-use Rattle.hera_code.specs.Scheme.{expr_code, Place, command_code, block_code, arms_code}
+use Rattle.hera_code.specs.Scheme.{expr_code, Role, command_code, block_code, arms_code}
 use Rattle.hera_codegen.specs.Holes.{filled, arms_holes}
-use Rattle.hera_codegen.specs.Places_of.{arm_front}
+use Rattle.hera_codegen.specs.Roles.{arm_front}
 use Rattle.hera_codegen.proofs.Places.{expr_length, command_length, block_length, arms_length}
 use Rattle.hera_codegen.proofs.Filled.{written, arms_filled}
 use Rattle.hera_codegen.proofs.Emitted.{drop_item, placed}
 
-pub block_go : (p : Place) (items : List Stmt) (i : ℕ) (x : Stmt) (c c' R : List Instr) → i < length items → x ≡ get_or items i x → c' ≡ c ++ command_code p (command_of x) (length c) →
+pub block_go : (p : Role) (items : List Stmt) (i : ℕ) (x : Stmt) (c c' R : List Instr) → i < length items → x ≡ get_or items i x → c' ≡ c ++ command_code p (command_of x) (length c) →
     c ++ block_code p (block_in (drop i items)) (length c) ≡ R → c' ++ block_code p (block_in (drop (i + 1) items)) (length c') ≡ R
 block_go p items i x c c' R lt is h inv =
     let a = length c in
@@ -29,7 +29,7 @@ block_go p items i x c c' R lt is h inv =
     ∙ sym (ap (λ xs. c ++ block_code p (block_in xs) a) (drop_item items i x lt is))
     ∙ inv
 
-pub while_closed : (p : Place) (cond : Expr) (block : Block) (start hole : ℕ) (c0 c1 c2 c3 c4 c5 : List Instr) → start ≡ length c0 → c1 ≡ c0 ++ expr_code cond (length c0) → c2 ≡ c1 ++ Unless 0 ∷ [] → hole ≡ length c1 →
+pub while_closed : (p : Role) (cond : Expr) (block : Block) (start hole : ℕ) (c0 c1 c2 c3 c4 c5 : List Instr) → start ≡ length c0 → c1 ≡ c0 ++ expr_code cond (length c0) → c2 ≡ c1 ++ Unless 0 ∷ [] → hole ≡ length c1 →
     c3 ≡ c2 ++ block_code p block (length c2) → c4 ≡ c3 ++ Back start ∷ [] → c5 ≡ slice_set c4 hole (Unless (length c4 + 0)) → c5 ≡ c0 ++ command_code p (while cond block) (length c0)
 while_closed p cond block start hole c0 c1 c2 c3 c4 c5 hs h1 h2 hh h3 h4 h5 =
     let a = length c0 in
@@ -54,7 +54,7 @@ while_closed p cond block start hole c0 c1 c2 c3 c4 c5 hs h1 h2 hh h3 h4 h5 =
     ∙ written c0 E F [] (Unless 0) (Unless x) (expr_end cond a) place
     ∙ end
 
-pub arm_closed : (p : Place) (cond : Expr) (block : Block) (hole : ℕ) (c0 c1 c2 c3 c4 : List Instr) → c1 ≡ c0 ++ expr_code cond (length c0) → c2 ≡ c1 ++ Unless 0 ∷ [] → hole ≡ length c1 →
+pub arm_closed : (p : Role) (cond : Expr) (block : Block) (hole : ℕ) (c0 c1 c2 c3 c4 : List Instr) → c1 ≡ c0 ++ expr_code cond (length c0) → c2 ≡ c1 ++ Unless 0 ∷ [] → hole ≡ length c1 →
     c3 ≡ c2 ++ block_code p block (length c2) → c4 ≡ slice_set c3 hole (Unless (length c3 + 1)) → c4 ≡ c0 ++ arm_front p cond block (length c0)
 arm_closed p cond block hole c0 c1 c2 c3 c4 h1 h2 hh h3 h4 =
     let a = length c0 in
@@ -77,7 +77,7 @@ arm_closed p cond block hole c0 c1 c2 c3 c4 h1 h2 hh h3 h4 =
     ∙ written c0 E B [] (Unless 0) (Unless x) (expr_end cond a) place
     ∙ end
 
-pub foreach_closed : (p : Place) (i : ℕ) (of : Expr) (block : Block) (start : ℕ) (c0 c1 c2 c3 c4 c5 : List Instr) → c1 ≡ c0 ++ expr_code of (length c0) → c2 ≡ c1 ++ Walk ∷ Next i 0 ∷ [] → start ≡ length c1 + 1 →
+pub foreach_closed : (p : Role) (i : ℕ) (of : Expr) (block : Block) (start : ℕ) (c0 c1 c2 c3 c4 c5 : List Instr) → c1 ≡ c0 ++ expr_code of (length c0) → c2 ≡ c1 ++ Walk ∷ Next i 0 ∷ [] → start ≡ length c1 + 1 →
     c3 ≡ c2 ++ block_code p block (length c2) → c4 ≡ slice_set (c3 ++ Back start ∷ []) start (Next i (length c3 + 1)) → c5 ≡ c4 ++ Drop ∷ [] → c5 ≡ c0 ++ command_code p (foreach i of block) (length c0)
 foreach_closed p i of block start c0 c1 c2 c3 c4 c5 h1 h2 hs h3 h4 h5 =
     let a = length c0 in
@@ -106,14 +106,14 @@ foreach_closed p i of block start c0 c1 c2 c3 c4 c5 h1 h2 hs h3 h4 h5 =
 
 -- ---- `if`
 
-arm_placed : (p : Place) (cond : Expr) (block : Block) (c c1 : List Instr) → c1 ≡ c ++ arm_front p cond block (length c) → length c1 ≡ block_end block (expr_end cond (length c) + 1)
+arm_placed : (p : Role) (cond : Expr) (block : Block) (c c1 : List Instr) → c1 ≡ c ++ arm_front p cond block (length c) → length c1 ≡ block_end block (expr_end cond (length c) + 1)
 arm_placed p cond block c c1 h =
     let a = length c in
     let b = expr_end cond a + 1 in
     let back = Unless (block_end block b + 1) ∷ block_code p block b in
     omega (arith, ap length h, length-append c (arm_front p cond block a), length-append (expr_code cond a) back, expr_length cond a, block_length p block b)
 
-pub arms_go : (p : Place) (items : List Arm) (i : ℕ) (x : Arm) (c c1 c2 R : List Instr) → i < length items → x ≡ get_or items i x → c1 ≡ c ++ arm_front p (expr_of x.cond) (block_in x.block.items) (length c) → c2 ≡ c1 ++ Jump 0 ∷ [] →
+pub arms_go : (p : Role) (items : List Arm) (i : ℕ) (x : Arm) (c c1 c2 R : List Instr) → i < length items → x ≡ get_or items i x → c1 ≡ c ++ arm_front p (expr_of x.cond) (block_in x.block.items) (length c) → c2 ≡ c1 ++ Jump 0 ∷ [] →
     c ++ arms_code p (arms_in (drop i items)) (length c) 0 ≡ R → c2 ++ arms_code p (arms_in (drop (i + 1) items)) (length c2) 0 ≡ R
 arms_go p items i x c c1 c2 R lt is h1 h2 inv =
     let a = length c in
@@ -129,7 +129,7 @@ arms_go p items i x c c1 c2 R lt is h1 h2 inv =
     ∙ sym (ap (λ xs. c ++ arms_code p (arms_in xs) a 0) (drop_item items i x lt is))
     ∙ inv
 
-pub arms_go_holes : (p : Place) (items : List Arm) (i : ℕ) (x : Arm) (c c1 c2 : List Instr) (h h' R : List ℕ) → i < length items → x ≡ get_or items i x → c1 ≡ c ++ arm_front p (expr_of x.cond) (block_in x.block.items) (length c) → c2 ≡ c1 ++ Jump 0 ∷ [] →
+pub arms_go_holes : (p : Role) (items : List Arm) (i : ℕ) (x : Arm) (c c1 c2 : List Instr) (h h' R : List ℕ) → i < length items → x ≡ get_or items i x → c1 ≡ c ++ arm_front p (expr_of x.cond) (block_in x.block.items) (length c) → c2 ≡ c1 ++ Jump 0 ∷ [] →
     h' ≡ h ++ length c1 ∷ [] → h ++ arms_holes (arms_in (drop i items)) (length c) ≡ R → h' ++ arms_holes (arms_in (drop (i + 1) items)) (length c2) ≡ R
 arms_go_holes p items i x c c1 c2 h h' R lt is h1 h2 e inv =
     let a = length c in
@@ -144,7 +144,7 @@ arms_go_holes p items i x c c1 c2 h h' R lt is h1 h2 e inv =
     ∙ sym (ap (λ xs. h ++ arms_holes (arms_in xs) a) (drop_item items i x lt is))
     ∙ inv
 
-pub if_closed : (p : Place) (arms : Arms) (other : Block) (holes : List ℕ) (c0 c1 c2 c3 : List Instr) → c1 ≡ c0 ++ arms_code p arms (length c0) 0 → holes ≡ arms_holes arms (length c0) → c2 ≡ c1 ++ block_code p other (length c1) →
+pub if_closed : (p : Role) (arms : Arms) (other : Block) (holes : List ℕ) (c0 c1 c2 c3 : List Instr) → c1 ≡ c0 ++ arms_code p arms (length c0) 0 → holes ≡ arms_holes arms (length c0) → c2 ≡ c1 ++ block_code p other (length c1) →
     c3 ≡ filled (Jump (length c2)) holes c2 → c3 ≡ c0 ++ command_code p (if_arms arms other) (length c0)
 if_closed p arms other holes c0 c1 c2 c3 h1 hh h2 h3 =
     let a = length c0 in

@@ -18,7 +18,7 @@ use Rattle.hera_meaning.specs.Sound.{has_slot, first_slots, walks_of_block, Body
 use Rattle.hera_code.specs.declared.instrs.Code.{Code}
 use Rattle.hera_code.specs.declared.instrs.Instr.{Instr}
 use Rattle.hera_code.specs.declared.instrs.Instr.TheVariants.{Call, Ret, RetVal, Halt}
-use Rattle.hera_code.specs.Scheme.{in_main, in_func, in_proc, place_of, block_code, body_code, info_of, bodies_code, infos_of, code_from, code_of}
+use Rattle.hera_code.specs.Scheme.{in_main, in_func, in_proc, role_of, block_code, body_code, info_of, bodies_code, infos_of, code_from, code_of}
 use Rattle.hera_code.specs.Machine.{Frame, ended, Step, quiet, needs_that, on_some, spends, frame_of, calls_body, goes_back, act}
 use Rattle.hera_code.specs.Reached.{Reached, over}
 use Rattle.hera_codegen.proofs.HasForm.{HasForm, AllHave, IsStateIn}
@@ -50,20 +50,20 @@ has_self is = has_behind [] is
 pub record HasBody (code : Code) (k : ℕ) (b : Body_tree) : Type 0 where
   pub at : ℕ
   pub info_is : slice_get code.bodies k ≡ Some (info_of b at)
-  pub has : HasAt code.instrs at (body_code (place_of b.func) b.block at)
+  pub has : HasAt code.instrs at (body_code (role_of b.func) b.block at)
 
-body_length : (func : Bool) (b : Block) (a : ℕ) → a + length (body_code (place_of func) b a) ≡ body_end func b a
+body_length : (func : Bool) (b : Block) (a : ℕ) → a + length (body_code (role_of func) b a) ≡ body_end func b a
 body_length true b a = omega (arith, block_length in_func b a, length-append (block_code in_func b a) [])
 body_length false b a = omega (arith, block_length in_proc b a, length-append (block_code in_proc b a) (Ret ∷ []))
 
 find_body : (code : List Instr) (bs : List Body_tree) (k : ℕ) (b : Body_tree) (a : ℕ) → slice_get bs k ≡ Some b → HasAt code a (bodies_code bs a) →
-    (at : ℕ) × (slice_get (infos_of bs a) k ≡ Some (info_of b at)) × HasAt code at (body_code (place_of b.func) b.block at)
+    (at : ℕ) × (slice_get (infos_of bs a) k ≡ Some (info_of b at)) × HasAt code at (body_code (role_of b.func) b.block at)
 find_body code [] k b a e has = cc
 find_body code (c ∷ bs) zero b a e has =
     let some_is : c ≡ b = cc in
-    (a, ap (λ b. Some (info_of b a)) some_is, subst (λ b. HasAt code a (body_code (place_of b.func) b.block a)) some_is (has_front code a (body_code (place_of c.func) c.block a) (bodies_code bs (body_end c.func c.block a)) has))
+    (a, ap (λ b. Some (info_of b a)) some_is, subst (λ b. HasAt code a (body_code (role_of b.func) b.block a)) some_is (has_front code a (body_code (role_of c.func) c.block a) (bodies_code bs (body_end c.func c.block a)) has))
 find_body code (c ∷ bs) (suc k) b a e has =
-    find_body code bs k b (body_end c.func c.block a) e (all_behind code a (body_code (place_of c.func) c.block a) (bodies_code bs (body_end c.func c.block a)) (body_end c.func c.block a) (body_length c.func c.block a) has)
+    find_body code bs k b (body_end c.func c.block a) e (all_behind code a (body_code (role_of c.func) c.block a) (bodies_code bs (body_end c.func c.block a)) (body_end c.func c.block a) (body_length c.func c.block a) has)
 
 pub bodies_there : (bodies : List Body_tree) (k : ℕ) (b : Body_tree) → 1 ≤ k → slice_get bodies k ≡ Some b → HasBody (code_from bodies) k b
 bodies_there [] k b le e = cc
@@ -234,7 +234,7 @@ module _ (p : Program_tree) (hosts : Hosts) (forms : List Body_forms) (shaped : 
   func_turn depth funcs procs k fs f vs a st ls w s n x low q have here state stands h =
       let b = q.body in
       let c = called k true fs (Some f) vs q have in
-      let has_func = subst (λ func. HasAt (code_of p).instrs c.hb.at (body_code (place_of func) b.block c.hb.at)) q.func_is c.hb.has in
+      let has_func = subst (λ func. HasAt (code_of p).instrs c.hb.at (body_code (role_of func) b.block c.hb.at)) q.func_is c.hb.has in
       let after : Value → ℕ → Type 0 = λ v n. At (a + 1) (v ∷ st) ls w n x in
       let e = exec_block p.relations hosts (calls_at p hosts depth) b.block (locals_from b.slots vs) (world_at s) n in
       let h' = subst (λ b. Then t O (result_of (exec_block p.relations hosts (calls_at p hosts depth) b.block (locals_from b.slots vs) (world_at s) n)) (λ v n. HasForm p.relations f v → after v n) w.events) (body_is_at p.bodies k b q.body_is) h in
@@ -278,7 +278,7 @@ module _ (p : Program_tree) (hosts : Hosts) (forms : List Body_forms) (shaped : 
   proc_turn depth funcs procs k fs vs a st l ls w n x low q have here bare proper h =
       let b = q.body in
       let c = called k false fs None vs q have in
-      let has_proc = subst (λ func. HasAt (code_of p).instrs c.hb.at (body_code (place_of func) b.block c.hb.at)) q.func_is c.hb.has in
+      let has_proc = subst (λ func. HasAt (code_of p).instrs c.hb.at (body_code (role_of func) b.block c.hb.at)) q.func_is c.hb.has in
       let here_ret = here_behind (code_of p).instrs c.hb.at (block_code in_proc b.block c.hb.at) Ret [] (block_end b.block c.hb.at) (block_length in_proc b.block c.hb.at) has_proc in
       let e = exec_block p.relations hosts (calls_at p hosts depth) b.block (locals_from b.slots vs) w n in
       let h' = subst (λ b. ThenDo (code_of p) (scope q.body q.own) O facts None (resumed l (exec_block p.relations hosts (calls_at p hosts depth) b.block (locals_from b.slots vs) w n)) (λ ls'' w m. Proper p.relations w → At (a + 1) st ls w m x) (λ v w m. Unit {0})) (body_is_at p.bodies k b q.body_is) h in

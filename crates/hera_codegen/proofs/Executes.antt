@@ -7,9 +7,13 @@ use Rattle.hera_meaning.specs.declared.scalars.Kind.{Kind}
 use Rattle.hera_meaning.specs.declared.schemas.RelDecl.{RelDecl}
 use Rattle.hera_meaning.specs.declared.trees.Shape.{Shape}
 use Rattle.hera_meaning.specs.declared.trees.TrapName.TheVariants.{ApplyFail, Assert as assert_trap}
+use Rattle.hera_meaning.specs.declared.scalars.Scalar.TheVariants.{Text as text_scalar}
+use Rattle.hera_meaning.specs.declared.trees.Const.TheVariants.{Scalar}
+use Rattle.hera_meaning.specs.declared.trees.Shape.TheVariants.{Text as text_shape}
+use Rattle.hera_meaning.specs.Texts.{is_text}
 use Rattle.hera_meaning.specs.Deltas.{Delta, fail, atoms, apply_of}
-use Rattle.hera_meaning.specs.Values.{Value, tuple, table, delta, bool_value, is_true, rows_in, delta_in}
-use Rattle.hera_meaning.specs.Printed.{text_of, commit_text}
+use Rattle.hera_meaning.specs.Values.{Value, scalar, tuple, table, delta, bool_value, is_true, rows_in, delta_in}
+use Rattle.hera_meaning.specs.Printed.{text_of, commit_text, label_text}
 use Rattle.hera_meaning.specs.Trees.{Expr, Command, set_slot, if_arms, while, foreach, print, apply, commit, rollback, assert, return, return_value, call_proc, Block, no_stmt, then_stmt, Arms, no_arm, arm}
 use Rattle.hera_meaning.specs.Worlds.{out, store, World, with_event, after_delta, committed, rolled_back, set_local, Ended, got, trapped, spent, by, Ending, goes_on, returned, traps, runs_out, then_do, with_value, turn_in, applied, resumed, Calls}
 use Rattle.hera_meaning.specs.Expressions.{eval, eval_all}
@@ -20,8 +24,8 @@ use Rattle.hera_meaning.specs.Forms.{Form, of_tuple, of_table, of_delta, bool_fo
 use Rattle.hera_meaning.specs.Sound.{has_slot, walks_in, walks_in_all, walks_of, walks_of_block, walks_of_arms, sets_of, sets_of_block, sets_of_arms, readable_after, Scope, IsOf, IsSound, BlockIsSound, ArmsAreSound, returns, command_returns, arms_return}
 use Rattle.hera_code.specs.declared.instrs.Code.{Code}
 use Rattle.hera_code.specs.declared.instrs.Instr.{Instr}
-use Rattle.hera_code.specs.declared.instrs.Instr.TheVariants.{Store, Jump, Unless, Back, Walk as walk_instr, Next, Drop, Call, Print, Apply, Commit, Rollback, Assert}
-use Rattle.hera_code.specs.Scheme.{expr_code, exprs_code, Place, return_code, command_code, block_code, arms_code}
+use Rattle.hera_code.specs.declared.instrs.Instr.TheVariants.{Push, Store, Jump, Unless, Back, Walk as walk_instr, Next, Drop, Call, Print, Apply, Commit, Rollback, Assert}
+use Rattle.hera_code.specs.Scheme.{expr_code, exprs_code, Role, return_code, command_code, block_code, arms_code}
 use Rattle.hera_code.specs.Machine.{Frame, Stop, ended, quiet, says, ends, needs, needs_that}
 use Rattle.hera_code.specs.Reached.{Reached, stores}
 use Rattle.hera_codegen.proofs.HasForm.{HasForm, AllHave, AreRowsOf, IsDeltaIn}
@@ -85,7 +89,7 @@ clear_after sc seen rs ins (while c block) ws is h = clear_back sc.walks rs ins 
 clear_after sc seen rs ins (foreach i of block) ws is h = clear_back sc.walks rs ins (i ∷ (walks_in of ++ walks_of_block block)) ws h
 clear_after sc seen rs ins (print e shape) ws is h = clear_back sc.walks rs ins (walks_in e) ws h
 clear_after sc seen rs ins (apply d at) ws is h = clear_back sc.walks rs ins (walks_in d) ws h
-clear_after sc seen rs ins commit ws is h = h
+clear_after sc seen rs ins (commit label) ws is h = h
 clear_after sc seen rs ins rollback ws is h = h
 clear_after sc seen rs ins (assert c at) ws is h = clear_back sc.walks rs ins (walks_in c) ws h
 clear_after sc seen rs ins return ws is h = h
@@ -108,7 +112,7 @@ agree_after rels slots seen rs (while c block) ls ls' h = h
 agree_after rels slots seen rs (foreach i of block) ls ls' h = h
 agree_after rels slots seen rs (print e shape) ls ls' h = h
 agree_after rels slots seen rs (apply d at) ls ls' h = h
-agree_after rels slots seen rs commit ls ls' h = h
+agree_after rels slots seen rs (commit label) ls ls' h = h
 agree_after rels slots seen rs rollback ls ls' h = h
 agree_after rels slots seen rs (assert c at) ls ls' h = h
 agree_after rels slots seen rs return ls ls' h = h
@@ -230,6 +234,15 @@ module _ (code : Code) (sc : Scope) (O : Reached → Type 0) (facts : Facts sc.r
       (subst (λ k. Ends t O (apply_of w.stored w.pending) (machine_at (a + 1) st ls' (committed w) n x) (w.events ++ store (apply_of w.stored w.pending) w.pending ∷ out (commit_text k) ∷ [])) count
       (subst (λ s. Ends t O s (machine_at (a + 1) st ls' (committed w) n x) (w.events ++ store s w.pending ∷ out (commit_text (w.commits + 1)) ∷ [])) (sym good.1.state_is) end))
 
+  -- a label is printed as a text that is pushed
+  label_run : (base : Option World) → base ≡ None → (label : List ℕ) → is_text label ≡ true → (a : ℕ) (st ls ls' : List Value) (w : World) (n : ℕ) (x : Around) (rs : List ℕ) →
+      slice_get code.instrs a ≡ Some (Push (Scalar (text_scalar label))) → slice_get code.instrs (a + 1) ≡ Some (Print text_shape) → IsGood sc.rels base x w → Agreed rs ls ls' →
+      Behind base rs (a + 1 + 1) st x ls (with_event (out (label_text label)) w) n → At a st ls' (real base w) n x
+  unfolding text_of
+  label_run base e label valid a st ls ls' w n x rs push prints good ag h =
+      quiet_step t O (Push (Scalar (text_scalar label))) (real base w).stored (machine_at a st ls' (real base w) n x) (machine_at (a + 1) (scalar (text_scalar label) ∷ st) ls' (real base w) n x) (real base w).events push refl
+      (print_run base e text_shape (scalar (text_scalar label)) (a + 1) st ls ls' w n x rs prints (refl, valid) good ag h)
+
   rollback_run : (base : Option World) → base ≡ None → (a : ℕ) (st ls ls' : List Value) (w : World) (n : ℕ) (x : Around) (rs : List ℕ) →
       slice_get code.instrs a ≡ Some Rollback → IsGood sc.rels base x w → Agreed rs ls ls' →
       Behind base rs (a + 1) st x ls (rolled_back w) n → At a st ls' (real base w) n x
@@ -270,7 +283,7 @@ module _ (code : Code) (sc : Scope) (O : Reached → Type 0) (facts : Facts sc.r
   inside_of a b e (inr h) = absurd (false≢true (sym e ∙ h))
 
   -- what precedes a block ends in the code, or is the last statement
-  end_before : (p : Place) (c : Command) (rest : Block) (a : ℕ) → HasAt code.instrs (command_end c a) (block_code p rest (command_end c a)) → EndsIn (block_end rest (command_end c a)) (returns (then_stmt c rest)) → EndsIn (command_end c a) (command_returns c)
+  end_before : (p : Role) (c : Command) (rest : Block) (a : ℕ) → HasAt code.instrs (command_end c a) (block_code p rest (command_end c a)) → EndsIn (block_end rest (command_end c a)) (returns (then_stmt c rest)) → EndsIn (command_end c a) (command_returns c)
   end_before p c no_stmt a has (inl h) = inl h
   end_before p c no_stmt a has (inr h) = inr h
   end_before p c (then_stmt d rest) a has (inl h) = inl (omega (arith, h, block_length p (then_stmt d rest) (command_end c a)))
@@ -287,7 +300,7 @@ module _ (code : Code) (sc : Scope) (O : Reached → Type 0) (facts : Facts sc.r
   right_end a b c (inr h) = inr (and_parts b c h).1
 
   -- an else block begins in the code
-  else_in : (p : Place) (other : Block) (b : Bool) (a : ℕ) → HasAt code.instrs a (block_code p other a) → EndsIn (block_end other a) (b && returns other) → a < length code.instrs
+  else_in : (p : Role) (other : Block) (b : Bool) (a : ℕ) → HasAt code.instrs a (block_code p other a) → EndsIn (block_end other a) (b && returns other) → a < length code.instrs
   else_in p other b a has (inl h) = omega (arith, h, block_length p other a)
   else_in p other b a has (inr h) =
       let lt : 0 < length (block_code p other a) = omega (arith, block_some other a (and_parts b (returns other) h).1, block_length p other a) in
@@ -302,7 +315,7 @@ module _ (code : Code) (sc : Scope) (O : Reached → Type 0) (facts : Facts sc.r
   to_stop base rs b stop st x home e returning here (inr is_returning) never h =
       do_never base e (Behind base rs stop st x) (Behind base rs b st x) home (never is_returning) h
 
-  module _ (base : Option World) (plain : sc.func ≡ false → base ≡ None) (p : Place) (st : List Value) (callers : List Frame) (home : Option Value → World → ℕ → Type 0)
+  module _ (base : Option World) (plain : sc.func ≡ false → base ≡ None) (p : Role) (st : List Value) (callers : List Frame) (home : Option Value → World → ℕ → Type 0)
       (ret_none : (a : ℕ) (ls' : List Value) (w : World) (n : ℕ) (x : Around) → x.callers ≡ callers → sc.func ≡ false → slice_get code.instrs a ≡ Some (return_code p) → IsGood sc.rels base x w → home None w n → EndsAt t O a st ls' (real base w) n x)
       (ret_some : (v : Value) (f : Form) (a : ℕ) (ls' : List Value) (w : World) (n : ℕ) (x : Around) → x.callers ≡ callers → sc.func ≡ true → sc.own.result ≡ Some f → slice_get code.instrs a ≡ Some (return_code p) → HasForm sc.rels f v → IsGood sc.rels base x w →
       home (Some v) w n → EndsAt t O a (v ∷ st) ls' (real base w) n x)
@@ -421,7 +434,10 @@ module _ (code : Code) (sc : Scope) (O : Reached → Type 0) (facts : Facts sc.r
           (λ v m le has_v l3 ag3 k.
           let q = delta_is sc.rels v has_v in
           subst (λ v. At (expr_end d a) (v ∷ st) l3 (real base w) m x) (sym q.0) (apply_run base (plain is.1) place (delta_in v) (expr_end d a) st ls l3 w m x rs home here_apply q.1 good ag3 k)) h
-      exec_runs commit seen rs ins a ls ls' w n x cs low is clear has end good ag h = commit_run base (plain is) a st ls ls' w n x rs has.0 good ag h
+      exec_runs (commit None) seen rs ins a ls ls' w n x cs low is clear has end good ag h = commit_run base (plain is.1) a st ls ls' w n x rs has.0 good ag h
+      exec_runs (commit (Some label)) seen rs ins a ls ls' w n x cs low is clear has end good ag h =
+          commit_run base (plain is.1) a st ls ls' w n x rs has.0 good ag
+          (λ good4 l4 ag4. label_run base (plain is.1) label is.0 (a + 1) st ls l4 (committed w) n x rs has.1.0 has.1.1.0 good4 ag4 h)
       exec_runs rollback seen rs ins a ls ls' w n x cs low is clear has end good ag h = rollback_run base (plain is) a st ls ls' w n x rs has.0 good ag h
       exec_runs (assert c place) seen rs ins a ls ls' w n x cs low is clear has end good ag h =
           let here_assert = here_behind code.instrs a (expr_code c a) (Assert place) [] (expr_end c a) (expr_length c a) has in

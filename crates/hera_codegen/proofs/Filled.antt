@@ -6,7 +6,7 @@ use Rattle.hera_meaning.specs.Trees.{Exprs, no_more, then_expr, Arms, no_arm, ar
 use Rattle.hera_meaning.specs.Addresses.{expr_end, block_end}
 use Rattle.hera_code.specs.declared.instrs.Instr.{Instr}
 use Rattle.hera_code.specs.declared.instrs.Instr.TheVariants.{Jump, Unless}
-use Rattle.hera_code.specs.Scheme.{push_bool, expr_code, some_code, Place, block_code, arms_code}
+use Rattle.hera_code.specs.Scheme.{push_bool, expr_code, some_code, Role, block_code, arms_code}
 use Rattle.hera_codegen.specs.Holes.{filled, every_front, every_holes, some_holes, arms_holes}
 use Rattle.hera_codegen.proofs.Places.{expr_length, block_length}
 
@@ -53,7 +53,7 @@ some_filled x a (then_expr e (then_expr d es)) pre suf h =
     ∙ regrouped pre X (S x) suf (Jump x)
     ∙ ap (λ l. pre ++ (l ++ suf)) (append_assoc (expr_code e a) front (Jump x ∷ S x))
 
-pub arms_filled : (p : Place) (x a : ℕ) (arms : Arms) (pre suf : List Instr) → length pre ≡ a →
+pub arms_filled : (p : Role) (x a : ℕ) (arms : Arms) (pre suf : List Instr) → length pre ≡ a →
     filled (Jump x) (arms_holes arms a) (pre ++ (arms_code p arms a 0 ++ suf)) ≡ pre ++ (arms_code p arms a x ++ suf)
 arms_filled p x a no_arm pre suf h = refl
 arms_filled p x a (arm c block rest) pre suf h =

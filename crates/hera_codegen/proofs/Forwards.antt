@@ -1,11 +1,11 @@
 -- The code of a program jumps forward alone.
-use Rattle.std.proofs.Common.{◌≡◌, ℕ, zero, suc, ◌+◌, ◌≤◌, Bool, true, false, List, [], ◌∷◌, ◌++◌, length, Some, refl, subst, arith, length-append}
+use Rattle.std.proofs.Common.{◌≡◌, ℕ, zero, suc, ◌+◌, ◌≤◌, Bool, true, false, List, [], ◌∷◌, ◌++◌, length, Some, None, refl, subst, arith, length-append}
 use Rattle.std.specs.Prelude.{slice_get}
 use Rattle.hera_meaning.specs.Trees.{Expr, constant, local, relation, prim, chain, and_all, or_any, when, select, map_each, call, host, Exprs, no_more, then_expr, Links, no_link, link, Hypos, no_hypo, hypo, Command, set_slot, if_arms, while, foreach, print, apply, commit, rollback, assert, return, return_value, call_proc, Block, no_stmt, then_stmt, Arms, no_arm, arm, Body_tree, Program_tree}
 use Rattle.hera_meaning.specs.Addresses.{expr_end, exprs_end, every_last, some_end, hypos_end, hypos_count, command_end, block_end, arms_end, body_end}
 use Rattle.hera_code.specs.declared.instrs.Instr.{Instr}
 use Rattle.hera_code.specs.declared.instrs.Instr.TheVariants.{Store, Prim, Host, Jump, Unless, Back, Enter, Walk as walk_instr, Next, Keep, Gather, Yield, Drop, Call, Ret, Print, Apply, Assert, Halt}
-use Rattle.hera_code.specs.Scheme.{push_bool, leaves, expr_code, exprs_code, every_code, some_code, links_code, hypos_code, Place, in_main, in_func, in_proc, return_code, command_code, block_code, arms_code, last_code, place_of, body_code, bodies_code, code_from, code_of}
+use Rattle.hera_code.specs.Scheme.{push_bool, leaves, expr_code, exprs_code, every_code, some_code, links_code, hypos_code, Role, in_main, in_func, in_proc, return_code, command_code, block_code, arms_code, last_code, role_of, body_code, bodies_code, code_from, code_of}
 use Rattle.hera_code.specs.Forward.{GoesForward, Forward}
 use Rattle.hera_codegen.proofs.Places.{expr_length, exprs_length, every_length, some_length, hypos_length, command_length, block_length, arms_length}
 
@@ -94,12 +94,12 @@ mutual
       forwards_more a a' (hypos_code rest a) (expr_code d a' ++ Enter place ∷ []) (hypos_length rest a) (hypos_forward rest a)
       (forwards_more a' (expr_end d a') (expr_code d a') (Enter place ∷ []) (expr_length d a') (expr_forward d a') (tt, tt))
 
-ret_forward : (p : Place) (a : ℕ) → GoesForward a (return_code p)
+ret_forward : (p : Role) (a : ℕ) → GoesForward a (return_code p)
 ret_forward in_main a = tt
 ret_forward in_func a = tt
 ret_forward in_proc a = tt
 
-module _ (p : Place) where
+module _ (p : Role) where
   mutual
     command_forward : (c : Command) (a : ℕ) → Forwards a (command_code p c a)
     command_forward (set_slot i e) a = forwards_more a (expr_end e a) (expr_code e a) (Store i ∷ []) (expr_length e a) (expr_forward e a) (tt, tt)
@@ -119,7 +119,8 @@ module _ (p : Place) where
         (tt, (omega (arith, block_length p block (l + 1)), forwards_more (l + 1) (block_end block (l + 1)) (block_code p block (l + 1)) (Back l ∷ Drop ∷ []) (block_length p block (l + 1)) (block_forward block (l + 1)) (tt, (tt, tt))))
     command_forward (print e shape) a = forwards_more a (expr_end e a) (expr_code e a) (Print shape ∷ []) (expr_length e a) (expr_forward e a) (tt, tt)
     command_forward (apply d place) a = forwards_more a (expr_end d a) (expr_code d a) (Apply place ∷ []) (expr_length d a) (expr_forward d a) (tt, tt)
-    command_forward commit a = (tt, tt)
+    command_forward (commit None) a = (tt, tt)
+    command_forward (commit (Some label)) a = (tt, (tt, (tt, tt)))
     command_forward rollback a = (tt, tt)
     command_forward (assert c place) a = forwards_more a (expr_end c a) (expr_code c a) (Assert place ∷ []) (expr_length c a) (expr_forward c a) (tt, tt)
     command_forward return a = (ret_forward p a, tt)
@@ -141,22 +142,22 @@ module _ (p : Place) where
               (omega (arith, le, arms_length p rest n x), arms_forward rest n x le),
         )
 
-last_forward : (p : Place) (a : ℕ) → Forwards a (last_code p)
+last_forward : (p : Role) (a : ℕ) → Forwards a (last_code p)
 last_forward in_main a = (tt, tt)
 last_forward in_func a = tt
 last_forward in_proc a = (tt, tt)
 
-body_forward : (p : Place) (b : Block) (a : ℕ) → Forwards a (body_code p b a)
+body_forward : (p : Role) (b : Block) (a : ℕ) → Forwards a (body_code p b a)
 body_forward p b a = forwards_more a (block_end b a) (block_code p b a) (last_code p) (block_length p b a) (block_forward p b a) (last_forward p (block_end b a))
 
-body_long : (func : Bool) (b : Block) (a : ℕ) → a + length (body_code (place_of func) b a) ≡ body_end func b a
+body_long : (func : Bool) (b : Block) (a : ℕ) → a + length (body_code (role_of func) b a) ≡ body_end func b a
 body_long true b a = omega (arith, block_length in_func b a, length-append (block_code in_func b a) [])
 body_long false b a = omega (arith, block_length in_proc b a, length-append (block_code in_proc b a) (Ret ∷ []))
 
 bodies_forward : (bs : List Body_tree) (a : ℕ) → Forwards a (bodies_code bs a)
 bodies_forward [] a = tt
 bodies_forward (b ∷ bs) a =
-    forwards_more a (body_end b.func b.block a) (body_code (place_of b.func) b.block a) (bodies_code bs (body_end b.func b.block a)) (body_long b.func b.block a) (body_forward (place_of b.func) b.block a) (bodies_forward bs (body_end b.func b.block a))
+    forwards_more a (body_end b.func b.block a) (body_code (role_of b.func) b.block a) (bodies_code bs (body_end b.func b.block a)) (body_long b.func b.block a) (body_forward (role_of b.func) b.block a) (bodies_forward bs (body_end b.func b.block a))
 
 code_forwards : (bs : List Body_tree) → Forwards 0 (code_from bs).instrs
 code_forwards [] = tt

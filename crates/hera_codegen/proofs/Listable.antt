@@ -29,7 +29,7 @@ mutual
   command_grows (foreach i e b) a h = absurd cc
   command_grows (print e s) a h = absurd cc
   command_grows (apply e at) a h = absurd cc
-  command_grows commit a h = absurd cc
+  command_grows (commit label) a h = absurd cc
   command_grows rollback a h = absurd cc
   command_grows (assert e at) a h = absurd cc
   command_grows return a h = absurd cc

@@ -1,12 +1,12 @@
 -- Where the code of each phrase ends, and what stands behind it.
-use Rattle.std.proofs.Common.{◌≡◌, ℕ, zero, suc, ◌+◌, ◌<◌, true, false, List, [], ◌∷◌, ◌++◌, length, Some, refl, subst, arith, length-append}
+use Rattle.std.proofs.Common.{◌≡◌, ℕ, zero, suc, ◌+◌, ◌<◌, true, false, List, [], ◌∷◌, ◌++◌, length, Some, None, refl, subst, arith, length-append}
 use Rattle.std.specs.Prelude.{slice_get}
 use Rattle.std.proofs.lemmas.Option.{slice_get_within}
 use Rattle.hera_meaning.specs.Trees.{Expr, constant, local, relation, prim, chain, and_all, or_any, when, select, map_each, call, host, Exprs, no_more, then_expr, Links, no_link, link, Hypos, no_hypo, hypo, Command, set_slot, if_arms, while, foreach, print, apply, commit, rollback, assert, return, return_value, call_proc, Block, no_stmt, then_stmt, Arms, no_arm, arm}
 use Rattle.hera_meaning.specs.Addresses.{expr_end, exprs_end, links_end, every_last, some_end, hypos_end, hypos_count, command_end, block_end, arms_end}
 use Rattle.hera_code.specs.declared.instrs.Instr.{Instr}
 use Rattle.hera_code.specs.declared.instrs.Instr.TheVariants.{Store, Prim, Host, Jump, Unless, Back, Enter, Walk as walk_instr, Next, Keep, Gather, Yield, Drop, Call, Print, Apply, Assert}
-use Rattle.hera_code.specs.Scheme.{push_bool, leaves, expr_code, exprs_code, every_code, some_code, links_code, hypos_code, Place, return_code, command_code, block_code, arms_code}
+use Rattle.hera_code.specs.Scheme.{push_bool, leaves, expr_code, exprs_code, every_code, some_code, links_code, hypos_code, Role, return_code, command_code, block_code, arms_code}
 
 -- the instructions stand in the code at this address
 abbrev pub HasAt : List Instr → ℕ → List Instr → Type 0
@@ -107,7 +107,7 @@ mutual
       omega (arith, hypos_length rest a, expr_length d (hypos_end rest a), length-append (hypos_code rest a) (expr_code d (hypos_end rest a) ++ Enter place ∷ []), length-append (expr_code d (hypos_end rest a)) (Enter place ∷ []))
 
 mutual
-  pub command_length : (p : Place) (c : Command) (a : ℕ) → a + length (command_code p c a) ≡ command_end c a
+  pub command_length : (p : Role) (c : Command) (a : ℕ) → a + length (command_code p c a) ≡ command_end c a
   command_length p (set_slot i e) a = omega (arith, expr_length e a, length-append (expr_code e a) (Store i ∷ []))
   command_length p (if_arms arms other) a =
       let end = block_end other (arms_end arms a) in
@@ -120,18 +120,19 @@ mutual
       omega (arith, expr_length of a, block_length p block b, length-append (expr_code of a) (walk_instr ∷ Next i (block_end block b + 1) ∷ (block_code p block b ++ Back (expr_end of a + 1) ∷ Drop ∷ [])), length-append (block_code p block b) (Back (expr_end of a + 1) ∷ Drop ∷ []))
   command_length p (print e shape) a = omega (arith, expr_length e a, length-append (expr_code e a) (Print shape ∷ []))
   command_length p (apply d at) a = omega (arith, expr_length d a, length-append (expr_code d a) (Apply at ∷ []))
-  command_length p commit a = refl
+  command_length p (commit None) a = refl
+  command_length p (commit (Some label)) a = omega arith
   command_length p rollback a = refl
   command_length p (assert c at) a = omega (arith, expr_length c a, length-append (expr_code c a) (Assert at ∷ []))
   command_length p return a = refl
   command_length p (return_value e) a = omega (arith, expr_length e a, length-append (expr_code e a) (return_code p ∷ []))
   command_length p (call_proc k args) a = omega (arith, exprs_length args a, length-append (exprs_code args a) (Call k ∷ []))
 
-  pub block_length : (p : Place) (b : Block) (a : ℕ) → a + length (block_code p b a) ≡ block_end b a
+  pub block_length : (p : Role) (b : Block) (a : ℕ) → a + length (block_code p b a) ≡ block_end b a
   block_length p no_stmt a = omega arith
   block_length p (then_stmt c rest) a = omega (arith, command_length p c a, block_length p rest (command_end c a), length-append (command_code p c a) (block_code p rest (command_end c a)))
 
-  pub arms_length : (p : Place) (arms : Arms) (a end : ℕ) → a + length (arms_code p arms a end) ≡ arms_end arms a
+  pub arms_length : (p : Role) (arms : Arms) (a end : ℕ) → a + length (arms_code p arms a end) ≡ arms_end arms a
   arms_length p no_arm a end = omega arith
   arms_length p (arm c block rest) a end =
       let b = expr_end c a + 1 in

@@ -56,7 +56,7 @@ module _ (rels : List RelDecl) (hosts : Hosts) (calls : Calls) where
     command_not_on (foreach i of block) ls w n h = cc
     command_not_on (print e shape) ls w n h = cc
     command_not_on (apply d at) ls w n h = cc
-    command_not_on commit ls w n h = cc
+    command_not_on (commit label) ls w n h = cc
     command_not_on rollback ls w n h = cc
     command_not_on (assert c at) ls w n h = cc
     command_not_on return ls w n h = cc
@@ -85,7 +85,7 @@ mutual
   command_some (foreach i of block) a h = cc
   command_some (print e shape) a h = cc
   command_some (apply d at) a h = cc
-  command_some commit a h = cc
+  command_some (commit label) a h = cc
   command_some rollback a h = cc
   command_some (assert c at) a h = cc
   command_some return a h = cc

@@ -68,12 +68,12 @@ length-set_local [] i v = refl
 length-set_local (l ∷ ls) zero v = refl
 length-set_local (l ∷ ls) (suc i) v = ap suc (length-set_local ls i v)
 
-set_here : (ls : List Value) (i : ℕ) (v : Value) → i < length ls → slice_get (set_local ls i v) i ≡ Some v
+pub set_here : (ls : List Value) (i : ℕ) (v : Value) → i < length ls → slice_get (set_local ls i v) i ≡ Some v
 set_here [] i v lt = absurd (omega (arith, lt))
 set_here (l ∷ ls) zero v lt = refl
 set_here (l ∷ ls) (suc i) v lt = set_here ls i v (omega (arith, lt))
 
-set_other : (ls : List Value) (i j : ℕ) (v : Value) → nat_eq j i ≡ false → slice_get (set_local ls i v) j ≡ slice_get ls j
+pub set_other : (ls : List Value) (i j : ℕ) (v : Value) → nat_eq j i ≡ false → slice_get (set_local ls i v) j ≡ slice_get ls j
 set_other [] i j v ne = refl
 set_other (l ∷ ls) zero zero v ne = absurd (false≢true (sym ne ∙ eq-eqb 0 0 refl))
 set_other (l ∷ ls) zero (suc j) v ne = refl

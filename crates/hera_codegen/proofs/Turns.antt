@@ -183,7 +183,7 @@ module _ (rels : List RelDecl) (hosts : Hosts) (calls : Calls) (keep : KeepWithi
     exec_within (foreach i of block) ls w n = value_within of ls w n _ (λ v m le. within_each n _ (λ x ls w m. block_within block (set_local ls i (tuple x)) w m) (rows_in v) ls w m le)
     exec_within (print e shape) ls w n = value_within e ls w n _ (λ v m le. le)
     exec_within (apply d place) ls w n = value_within d ls w n _ (λ v m le. within_applied n place (delta_in v) ls w m le)
-    exec_within commit ls w n = omega arith
+    exec_within (commit label) ls w n = omega arith
     exec_within rollback ls w n = omega arith
     exec_within (assert c place) ls w n = value_within c ls w n _ (λ v m le. within_by_in n (is_true v) _ _ m le tt)
     exec_within return ls w n = omega arith

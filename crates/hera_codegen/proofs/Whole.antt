@@ -68,13 +68,13 @@ rows_of_schema : (schema : List Attr) (rows : List Row) → AreRowsOf (kinds_of 
 rows_of_schema schema [] h = tt
 rows_of_schema schema (r ∷ rows) h = (row_of_schema schema r h.0, rows_of_schema schema rows h.1)
 
-state_in_kinds : (rels : List RelDecl) (s : State) → IsState rels s → IsStateIn rels s
+pub state_in_kinds : (rels : List RelDecl) (s : State) → IsState rels s → IsStateIn rels s
 state_in_kinds [] [] h = tt
 state_in_kinds [] (rows ∷ s) h = absurd h
 state_in_kinds (d ∷ rels) [] h = absurd h
 state_in_kinds (d ∷ rels) (rows ∷ s) h = (record { ascending = h.0.0; rows_are = rows_in_kinds d.schema rows (recursion_from_All (IsRow d.schema) rows h.0.1) }, state_in_kinds rels s h.1)
 
-state_of_schemas : (rels : List RelDecl) (s : State) → IsStateIn rels s → IsState rels s
+pub state_of_schemas : (rels : List RelDecl) (s : State) → IsStateIn rels s → IsState rels s
 state_of_schemas [] [] h = tt
 state_of_schemas [] (rows ∷ s) h = absurd h
 state_of_schemas (d ∷ rels) [] h = absurd h

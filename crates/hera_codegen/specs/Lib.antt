@@ -1,3 +1,3 @@
 pub mod Correct
 pub mod Holes
-pub mod Places_of
+pub mod Roles

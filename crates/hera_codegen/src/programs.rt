@@ -8,10 +8,10 @@ ghost use Rattle.hera_meaning.specs.Sound.{Sound};
 ghost use Rattle.hera_code.specs.Forward.{Forward};
 ghost use Rattle.hera_code.specs.Listing.{IsListable};
 ghost use Rattle.hera_code.specs.Scheme.{code_of};
-ghost use Rattle.hera_codegen.specs.Places_of.{place_is, body_place};
+ghost use Rattle.hera_codegen.specs.Roles.{role_is, body_role};
 
 use crate::patches::here;
-use crate::statements::{Place, emit_body};
+use crate::statements::{Role, emit_body};
 use hera_code::{Bodies, BodyInfo, Code, Instrs};
 use hera_meaning::Program;
 use std::alloc::{AllocError, Global};
@@ -40,7 +40,7 @@ fn emit_program(alloc: Global, program: &Program) -> Result<Code, AllocError>
             slots: body.slots,
             func: body.func,
         })?;
-        emit_body(&mut instrs, place_at(k, body.func), &body.block)?;
+        emit_body(&mut instrs, role_at(k, body.func), &body.block)?;
     }
     Ok(Code {
         instrs: Instrs::new(instrs),
@@ -48,15 +48,15 @@ fn emit_program(alloc: Global, program: &Program) -> Result<Code, AllocError>
     })
 }
 
-/// The place of body k.
-fn place_at(k: usize, func: bool) -> Place
-    ensures { place_is result ≡ body_place k func }
+/// The role of body k.
+fn role_at(k: usize, func: bool) -> Role
+    ensures { role_is result ≡ body_role k func }
 {
     if k == 0 {
-        Place::Main
+        Role::Main
     } else if func {
-        Place::Func
+        Role::Func
     } else {
-        Place::Proc
+        Role::Proc
     }
 }

@@ -7,7 +7,7 @@ pub mod Branching
 pub mod Settled
 pub mod Upheld
 pub mod FieldsGiven
-pub mod Doubting
+pub mod Known
 pub mod Alike
 pub mod Tops
 pub mod Gathering

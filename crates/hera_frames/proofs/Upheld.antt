@@ -133,7 +133,7 @@ module _ (c : Branches) (own floor : ℕ) (items : List Item) (walks : List Pace
   upheld_walks more h u = record { tip = u.tip; owned = u.owned; operands = u.operands; paces = h; below = u.below; callers = u.callers }
 
   pub upheld_enter : (d : Delta) → IsUpheld c own floor items walks names fs →
-      IsUpheld (record { layers = record { parent = Some c.tip; delta = d } ∷ c.layers; tip = length c.layers }) (own + 1) floor items walks names fs
+      IsUpheld (record c { layers = record { parent = Some c.tip; delta = d } ∷ c.layers; tip = length c.layers }) (own + 1) floor items walks names fs
   upheld_enter d u =
       let l : Layer = record { parent = Some c.tip; delta = d } in
       let h : own ≤ length (under c.layers c.tip) = u.owned in
@@ -155,7 +155,7 @@ module _ (c : Branches) (own floor : ℕ) (items : List Item) (walks : List Pace
   drop_one (d ∷ ds) h = omega (arith, h)
 
   pub upheld_leave : (tip : ℕ) → tip < length c.layers → under c.layers tip ≡ drop 1 (under c.layers c.tip) → IsUpheld c own floor items walks names fs →
-      IsUpheld (record { layers = c.layers; tip = tip }) (own - 1) floor items walks names fs
+      IsUpheld (record c { layers = c.layers; tip = tip }) (own - 1) floor items walks names fs
   upheld_leave tip within e u = record {
     tip = within;
     owned = subst (λ (ds : List Delta). own - 1 ≤ length ds) (sym e) (drop_one (under c.layers c.tip) u.owned);
@@ -185,7 +185,7 @@ module _ (c : Branches) (own floor : ℕ) (items : List Item) (walks : List Pace
 
   -- a return: what the frame names is below the floor, and so is there
   pub upheld_return : (f : Frame) → IsUpheld c own floor items walks names (f ∷ fs) →
-      IsUpheld (record { layers = c.layers; tip = f.tip }) f.own f.floor f.operands.items f.walks f.names_below fs
+      IsUpheld (record c { layers = c.layers; tip = f.tip }) f.own f.floor f.operands.items f.walks f.names_below fs
   upheld_return f u =
       let lower : floor ≤ length c.layers = u.below in
       let tip : f.tip < floor = u.callers.1.tip in
@@ -223,7 +223,7 @@ module _ (c : Branches) (own floor : ℕ) (items : List Item) (walks : List Pace
 
   -- another pending delta
   pub upheld_pending : (ms : List Layer) → length ms ≡ length c.layers → ((k : ℕ) → under ms k ≡ under c.layers k) → IsUpheld c own floor items walks names fs →
-      IsUpheld (record { layers = ms; tip = c.tip }) own floor items walks names fs
+      IsUpheld (record c { layers = ms; tip = c.tip }) own floor items walks names fs
   upheld_pending ms long same u =
       let tip : c.tip < length c.layers = u.tip in
       let operands : reach items ≤ length c.layers = u.operands in

@@ -1,12 +1,16 @@
 -- Layers as a tree over the pending delta. In each list of layers the newest stands first, and a layer's
 -- number is how many stand behind it.
-use Rattle.std.specs.Prelude.{◌≡◌, ◌≢◌, ◌-◌, ℕ, cond, List, [], ◌∷◌, Option, None, Some, drop, length, nat_eq}
+use Rattle.std.specs.Prelude.{◌≡◌, ◌≢◌, ◌-◌, ℕ, true, cond, List, [], ◌∷◌, Option, None, Some, drop, length, nat_eq}
+use Rattle.hera_meaning.specs.declared.schemas.RelDecl.{RelDecl}
 use Rattle.hera_meaning.specs.Deltas.{Delta, State, atoms, apply_of}
+use Rattle.hera_meaning.specs.Fits.{is_delta_of}
 use Rattle.hera_code.specs.Machine.{after_layers}
 use Rattle.when_overlay.specs.declared.layers.Layer.{Layer}
 
--- the layers, and the number of the one under which the running frame reads
+-- the relations that the layers may name, the layers, and the number of the one under which the running frame
+-- reads
 pub record Branches : Type 0 where
+  pub catalogue : List RelDecl
   pub layers : List Layer
   pub tip : ℕ
 
@@ -15,6 +19,11 @@ abbrev pub IsTree : List Layer → Type 0
 IsTree [] = ⊥
 IsTree (l ∷ []) = l.parent ≡ None
 IsTree (l ∷ k ∷ ls) = (l.parent ≢ None) × IsTree (k ∷ ls)
+
+-- each atom of each layer names a relation of the catalogue and holds a row of it
+abbrev pub AreKnown : List RelDecl → List Layer → Type 0
+AreKnown rels [] = Unit {0}
+AreKnown rels (l ∷ ls) = (is_delta_of rels l.delta ≡ true) × AreKnown rels ls
 
 -- the oldest delta, which is the pending one
 abbrev pub pending_of : List Layer → Delta

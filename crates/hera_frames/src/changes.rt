@@ -1,46 +1,52 @@
 //! The deltas under which a machine reads.
-ghost use Rattle.std.specs.Prelude.{◌≡◌, ◌<◌, ◌+◌, ◌^◌, ℕ, [], ◌∷◌, None, Some, false, suc, max, drop, length, slice_get, OnOk, OnErr, IfOk};
-ghost use Rattle.hera_meaning.specs.Deltas.{State, atoms, is_fail};
+ghost use Rattle.std.specs.Prelude.{true, ◌≡◌, ◌<◌, ◌+◌, ◌^◌, ℕ, [], ◌∷◌, None, Some, false, suc, max, drop, length, slice_get, OnOk, OnErr, IfOk, IfSome};
+ghost use Rattle.std.specs.List.{list_all};
+ghost use Rattle.std.specs.Option.{option_copied};
+ghost use Rattle.hera_meaning.specs.Deltas.{State, atoms, is_fail, rows_at};
+ghost use Rattle.hera_meaning.specs.Rows.{is_row};
+ghost use Rattle.hera_meaning.specs.Fits.{is_delta_of};
 ghost use Rattle.when_overlay.specs.Changed.{after_all};
 ghost use Rattle.when_overlay.specs.Layered.{AreLayers};
 ghost use Rattle.hera_frames.specs.Branched.{pending_of, under, seen_at, lowest};
 
-use crate::Stack;
+use crate::kinds::have_same_kinds;
 use crate::values::let_go;
+use crate::{Sight, Stack};
 use delta_atoms::Delta;
-use hera_meaning::RelId;
-use rel_pages::Base;
+use hera_meaning::{RelDecl, RelId, Schema};
 use std::alloc::{AllocError, Global};
 use std::marker::Model;
-use when_overlay::{Hyp, Layers, View};
+use when_overlay::{Hyp, Layers, Stored, View};
 
 /// The deltas under which a machine reads: the pending delta, and upon it those of `when`. None is `fail`.
 ///
 /// They are layers of a tree, whose root is the pending delta with the number 0. The machine reads under one
 /// of them, the tip. A layer that it has left stays as long as it is named.
 #[derive(Drop)]
-pub struct Changes {
+pub struct Changes<'c> {
+    /// The relations that the layers may name: each atom of a layer holds a row of one of them.
+    catalogue: &'c [RelDecl],
     layers: Layers,
     /// The number of each layer's parent, which for the pending delta is its own.
     parents: Stack<usize>,
     tip: usize,
 }
 
-impl Model for Changes {
+impl<'c> Model for Changes<'c> {
     ghost use Rattle.std.specs.Prelude.{◌≡◌, ◌<◌, length};
-    ghost use Rattle.hera_frames.specs.Branched.{Branches, IsTree, parents_of};
+    ghost use Rattle.hera_frames.specs.Branched.{Branches, IsTree, AreKnown, parents_of};
 
     ghost Value = { Branches };
 
-    ghost view = { λ c. record { layers = c.layers.layers; tip = c.tip } };
+    ghost view = { λ c. record { catalogue = c.catalogue.now; layers = c.layers.layers; tip = c.tip } };
 
-    ghost invariant = { λ c. IsTree c.layers.layers × (c.parents ≡ parents_of c.layers.layers) × (c.tip < length c.layers.layers) };
+    ghost invariant = { λ c. IsTree c.layers.layers × (c.parents ≡ parents_of c.layers.layers) × (c.tip < length c.layers.layers) × AreKnown c.catalogue.now c.layers.layers };
 }
 
-impl Changes {
+impl<'c> Changes<'c> {
     /// The pending delta without atoms, and no layers upon it.
-    pub fn new(alloc: Global) -> Result<Changes, AllocError>
-        ensures { IfOk result (λ c. c ≡ record { layers = record { parent = None; delta = atoms [] } ∷ []; tip = 0 }) }
+    pub fn new(alloc: Global, catalogue: &'c [RelDecl]) -> Result<Changes<'c>, AllocError>
+        ensures { IfOk result (λ c. c ≡ record { catalogue = catalogue.entry.now; layers = record { parent = None; delta = atoms [] } ∷ []; tip = 0 }) }
     {
         let mut layers = Layers::new(alloc);
         layers.reserve(1)?;
@@ -48,10 +54,18 @@ impl Changes {
         let mut parents = Stack::new(alloc);
         parents.push(0)?;
         Ok(Changes {
+            catalogue,
             layers,
             parents,
             tip: 0,
         })
+    }
+
+    /// The relations that the layers may name.
+    pub fn catalogue(&self) -> &'c [RelDecl]
+        ensures { result.now ≡ self.now.catalogue }
+    {
+        self.catalogue
     }
 
     /// How many layers there are, with the pending delta.
@@ -59,6 +73,7 @@ impl Changes {
         ensures count { result ≡ length self.now.layers }
         ensures tip { self.now.tip < result }
         ensures known { is_fail (pending_of self.now.layers) ≡ false }
+        ensures of { is_delta_of self.now.catalogue (pending_of self.now.layers) ≡ true }
     {
         self.layers.len()
     }
@@ -76,8 +91,9 @@ impl Changes {
 
     /// Puts a layer upon the one under which the machine reads, which is the new one from then on.
     pub fn enter(&mut self, delta: Delta) -> Result<(), AllocError>
-        requires { is_fail delta ≡ false }
-        ensures ok { OnOk result (self.new ≡ record { layers = record { parent = Some self.old.tip; delta = delta } ∷ self.old.layers; tip = length self.old.layers }) }
+        requires known { is_fail delta ≡ false }
+        requires of { is_delta_of self.old.catalogue delta ≡ true }
+        ensures ok { OnOk result (self.new ≡ record self.old { layers = record { parent = Some self.old.tip; delta = delta } ∷ self.old.layers; tip = length self.old.layers }) }
         ensures upon { OnOk result (under self.new.layers self.new.tip ≡ delta ∷ under self.old.layers self.old.tip) }
         ensures err { OnErr result (self.new ≡ self.old) }
     {
@@ -91,6 +107,7 @@ impl Changes {
     /// dropped, and it takes no memory.
     pub fn leave(&mut self)
         ensures layers { self.new.layers ≡ self.old.layers }
+        ensures catalogue { self.new.catalogue ≡ self.old.catalogue }
         ensures below { under self.new.layers self.new.tip ≡ drop 1 (under self.old.layers self.old.tip) }
         ensures within { self.new.tip < length self.new.layers }
     {
@@ -143,7 +160,10 @@ impl Changes {
 
     /// Puts another delta in the pending one's place, and gives that one. It takes no memory.
     pub fn replace_pending(&mut self, delta: Delta) -> Delta
-        requires { is_fail delta ≡ false }
+        requires known { is_fail delta ≡ false }
+        requires of { is_delta_of self.old.catalogue delta ≡ true }
+        ensures of { is_delta_of self.old.catalogue result ≡ true }
+        ensures catalogue { self.new.catalogue ≡ self.old.catalogue }
         ensures old { result ≡ pending_of self.old.layers }
         ensures known { is_fail result ≡ false }
         ensures pending { pending_of self.new.layers ≡ delta }
@@ -158,23 +178,43 @@ impl Changes {
 
     /// The rows of a relation after the commits, the pending delta and the layers up to this one. Where
     /// there is no layer of this number, they are those after the pending delta. It takes no memory.
-    pub fn rel<'a>(
-        &'a self,
-        base: &'a Base,
-        commits: &'a [Delta],
-        rel: RelId,
-        tip: usize,
-    ) -> Hyp<'a>
-        requires { rel.0 < length base.now.catalogue }
-        ensures { slice_get (seen_at (after_all base.now.state commits.now) self.now.layers tip) rel.0 ≡ Some result }
+    pub fn rel<'a>(&'a self, stored: &'a Stored<'a>, rel: RelId, tip: usize) -> Hyp<'a>
+        requires { rel.0 < length stored.now.catalogue }
+        ensures { slice_get (seen_at stored.now.state self.now.layers tip) rel.0 ≡ Some result }
     {
         let view = View {
-            base,
-            commits,
+            base: stored.base(),
+            commits: stored.commits(),
             layers: &self.layers,
             tip: Some(self.there(tip)),
         };
         view.rel(rel)
+    }
+
+    /// The same rows as `rel` gives, with the schema of which they are known to be. It takes no memory.
+    pub fn sight<'a>(&'a self, stored: &'a Stored<'a>, rel: RelId, tip: usize) -> Sight<'a>
+        requires { rel.0 < length stored.now.catalogue }
+        ensures { slice_get (seen_at stored.now.state self.now.layers tip) rel.0 ≡ Some result }
+    {
+        let tip = self.there(tip);
+        let schema = self.known_schema(stored, rel);
+        Sight::new(self.rel(stored, rel, tip), schema)
+    }
+
+    /// The schema of the base's relation, where the one that the layers may name has the same kinds: then each
+    /// row of the base is of it, and each that the commits or the layers put in.
+    fn known_schema<'a>(&'a self, stored: &'a Stored<'a>, rel: RelId) -> Option<&'a Schema>
+        requires { rel.0 < length stored.now.catalogue }
+        ensures { IfSome result (λ schema. (tip : ℕ) → tip < length self.now.layers → list_all (is_row schema.now) (rows_at (seen_at stored.now.state self.now.layers tip) rel.0) ≡ true) }
+    {
+        // for the proof alone: no layer is `fail`
+        let _count = self.layers.len();
+        let _commits = stored.commits();
+        let schema = &stored.base().catalogue().decl(rel).schema;
+        match decl_at(self.catalogue, rel) {
+            Some(own) if have_same_kinds(schema, &own.schema) => Some(schema),
+            _ => None,
+        }
     }
 
     /// The number, if there is a layer of it, and else that of the pending delta.
@@ -185,4 +225,11 @@ impl Changes {
     {
         if tip < self.layers.len() { tip } else { 0 }
     }
+}
+
+/// The declaration of a relation, if the catalogue has it.
+fn decl_at(catalogue: &[RelDecl], rel: RelId) -> Option<&RelDecl>
+    ensures { option_copied result ≡ slice_get catalogue.now rel.0 }
+{
+    catalogue.get(usize::from(rel.0))
 }

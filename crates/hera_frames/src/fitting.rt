@@ -1,23 +1,20 @@
 //! Whether relations that are operands fit an operation.
-ghost use Rattle.std.specs.Prelude.{◌≡◌, ◌&&◌, [], true, IsTrue};
+ghost use Rattle.std.specs.Prelude.{◌≡◌, ◌&&◌};
 ghost use Rattle.std.specs.List.{list_all};
 ghost use Rattle.std.specs.Option.{option_copied};
 ghost use Rattle.hera_meaning.specs.Rows.{is_row};
-ghost use Rattle.hera_meaning.specs.Scalars.{is_same_kind};
 ghost use Rattle.hera_meaning.specs.Fits.{fits_of};
 ghost use Rattle.hera_prims.specs.Tables.{is_relational, tables};
 ghost use Rattle.hera_frames.specs.Seeing.{rows_seen};
-ghost use Rattle.hera_frames.specs.Kinds.{left_of, right_of, have_same_kinds, PassAlike};
+ghost use Rattle.hera_frames.specs.Kinds.{left_of, right_of, PassAlike};
 
 use crate::Seen;
-use hera_meaning::{Attr, Op, Schema};
+use hera_meaning::{Op, Schema};
 use hera_prims::fits_rel;
-use rel_pages::PageRel;
-use when_overlay::Hyp;
 
-/// Whether `prim_rel` has an answer over these relations, as `fits_rel` tells. Each row of a base is of its
-/// relation's schema. So of a relation that is named only the rows are looked at that deltas put in, where
-/// that schema has the kinds that the operation asks for. It takes no memory.
+/// Whether `prim_rel` has an answer over these relations, as `fits_rel` tells. Each row of a relation that is named
+/// is of its schema. So no row of one is looked at where that schema has the kinds that the operation asks for. It
+/// takes no memory.
 pub fn fits_seen(op: &Op, a: &Seen<'_>, b: &Seen<'_>) -> bool
     ensures { result ≡ (is_relational op.now && fits_of op.now (tables op.now (rows_seen a.now) (rows_seen b.now))) }
 {
@@ -66,80 +63,10 @@ fn doubtful_of<'a>(schema: &Schema, rows: &Seen<'a>) -> Seen<'a>
     match rows {
         Seen::Nothing => Seen::Nothing,
         Seen::Held(set) => Seen::Held(set),
-        Seen::Named(view) => Seen::Named(doubtful_in(schema, view)),
-    }
-}
-
-/// The rows of a relation that is named which have to be looked at to know whether all are of this schema:
-/// where those of its pages are, only what the commits and the layers put in.
-fn doubtful_in<'a>(schema: &Schema, view: &Hyp<'a>) -> Hyp<'a>
-    ensures { list_all (is_row schema.now) result ≡ list_all (is_row schema.now) view.now }
-{
-    if !are_of(schema, &view.pages) {
-        return again(view);
-    }
-    Hyp {
-        pages: without_rows(&view.pages),
-        commits: view.commits,
-        layers: view.layers,
-        tip: view.tip,
-        rel: view.rel,
-    }
-}
-
-/// Whether the relation's own schema has the kinds of this one, so that each of its rows is of it.
-fn are_of(schema: &Schema, rows: &PageRel<'_>) -> bool
-    ensures { IsTrue result → list_all (is_row schema.now) rows.now ≡ true }
-{
-    have_same_kinds(schema, rows.schema)
-}
-
-/// A relation of the same schema that has no rows.
-fn without_rows<'a>(rows: &PageRel<'a>) -> PageRel<'a>
-    ensures { result ≡ [] }
-{
-    PageRel {
-        schema: rows.schema,
-        pages: &rows.pages[..0],
-        page: rows.page,
-    }
-}
-
-/// Whether both have as many attributes, of the same kinds in order.
-fn have_same_kinds(a: &Schema, b: &Schema) -> bool
-    ensures { result ≡ have_same_kinds a.now b.now }
-{
-    if a.len() != b.len() {
-        return false;
-    }
-    for i in 0..a.len() {
-        if !is_same_kind(a.attr(i), b.attr(i)) {
-            return false;
-        }
-    }
-    true
-}
-
-/// Whether both have one kind.
-fn is_same_kind(a: &Attr, b: &Attr) -> bool
-    ensures { result ≡ is_same_kind a.now.kind b.now.kind }
-{
-    a.kind == b.kind
-}
-
-/// The same rows.
-fn again<'a>(view: &Hyp<'a>) -> Hyp<'a>
-    ensures { result ≡ view.now }
-{
-    Hyp {
-        pages: PageRel {
-            schema: view.pages.schema,
-            pages: view.pages.pages,
-            page: view.pages.page,
+        Seen::Named(view) => if view.is_of(schema) {
+            Seen::Nothing
+        } else {
+            Seen::Named(view.again())
         },
-        commits: view.commits,
-        layers: view.layers,
-        tip: view.tip,
-        rel: view.rel,
     }
 }

@@ -2,7 +2,8 @@
 //! can go into.
 ghost use Rattle.std.specs.Prelude.{◌≡◌, ◌≤◌, [], ◌∷◌, true, false, Some, IfOk, IfSome, MatchOption, drop, length, slice_get};
 ghost use Rattle.std.specs.Option.{is_some};
-ghost use Rattle.hera_meaning.specs.Values.{scalar, tuple};
+ghost use Rattle.hera_meaning.specs.Values.{scalar, tuple, table};
+ghost use Rattle.delta_atoms.specs.Plain.{value_of};
 ghost use Rattle.hera_meaning.specs.Worlds.{set_local};
 ghost use Rattle.hera_row.specs.Fields.{told};
 ghost use Rattle.hera_flat.specs.Flats.{flat_value, IsGiven};
@@ -10,9 +11,11 @@ ghost use Rattle.hera_frames.specs.Items.{plain_of, item_of, held, held_in, newe
 
 use crate::values::{Datum, let_go, refill};
 use crate::{Locals, Operand, Operands};
+use delta_atoms::Value;
 use hera_flat::Flat;
 use hera_meaning::{Op, ScalarRef, Schema};
 use hera_row::{check_row, field};
+use hera_rows::{RowSet, Sorted};
 use std::alloc::{AllocError, Global};
 use std::mem::replace;
 
@@ -72,6 +75,17 @@ impl Datum {
         match v {
             Flat::Int(n) => Datum::Int(n),
             Flat::Bool(b) => Datum::Bool(b),
+        }
+    }
+
+    /// The rows, where the value is a relation.
+    #[inline]
+    fn held_rows(&self) -> Option<&RowSet>
+        ensures { IfSome result (λ rows. plain_of self.now ≡ table rows.now) }
+    {
+        match self {
+            Datum::Large(v) => large_rows(v),
+            _ => None,
         }
     }
 
@@ -195,6 +209,18 @@ impl Locals {
         }
     }
 
+    /// The rows of the relation in a slot, where there is one. None is copied.
+    #[inline]
+    #[tactic(auto, using(crate::proofs::Slots::copies))]
+    pub fn rows_at(&self, i: usize) -> Option<&RowSet>
+        ensures { IfSome result (λ rows. slice_get self.now i ≡ Some (table rows.now)) }
+    {
+        match self.items.get(i) {
+            None => None,
+            Some(v) => v.held_rows(),
+        }
+    }
+
     /// Puts an int or a bool into a slot, if the slot is there.
     #[inline]
     #[tactic(auto, using(crate::proofs::Slots::slots))]
@@ -258,6 +284,18 @@ impl Operands {
         match self.newest(0) {
             None => None,
             Some(operand) => operand.flat_field(schema, i),
+        }
+    }
+
+    /// Whether the newest operand is one of these rows, where it is a tuple.
+    #[inline]
+    pub fn newest_is_in(&self, rows: &RowSet) -> Option<bool>
+        ensures items { IfSome result (λ b. self.now.items ≡ held (newest_in self.now.items) ∷ drop 1 self.now.items) }
+        ensures given { IfSome result (λ b. IsGiven Op.In (newest_in self.now.items ∷ table rows.now ∷ []) (Flat.Bool b)) }
+    {
+        match self.newest(0) {
+            Some(Operand::Held(Datum::Tuple(row))) => Some(rows.has(row)),
+            _ => None,
         }
     }
 
@@ -357,6 +395,17 @@ impl Operands {
     {
         self.drop_newest();
         self.replace_newest(v);
+    }
+}
+
+/// The rows, where the value is a relation.
+#[inline]
+fn large_rows(v: &Value) -> Option<&RowSet>
+    ensures { IfSome result (λ rows. value_of v.now ≡ table rows.now) }
+{
+    match v {
+        Value::Rel(rows) => Some(rows),
+        _ => None,
     }
 }
 

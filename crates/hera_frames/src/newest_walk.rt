@@ -8,8 +8,8 @@ ghost use Rattle.hera_frames.specs.Walking.{on_newest, coming_in, current_in, pa
 
 use crate::{Changes, Locals, Stack, Walk};
 use delta_atoms::Delta;
-use rel_pages::Base;
 use std::alloc::{AllocError, Global};
+use when_overlay::Stored;
 
 impl Stack<Walk> {
     /// The row that the newest walk's last step found, where one was found.
@@ -59,17 +59,16 @@ impl Stack<Walk> {
         &mut self,
         alloc: Global,
         changes: &Changes,
-        base: &Base,
-        commits: &[Delta],
+        stored: &Stored<'_>,
     ) -> Result<(), AllocError>
-        ensures step { let s = after_all base.now.state commits.now in OnOk result (map (walk_at s changes.now.layers) self.new ≡ on_newest gone_on (map (walk_at s changes.now.layers) self.old)) }
+        ensures step { let s = stored.now.state in OnOk result (map (walk_at s changes.now.layers) self.new ≡ on_newest gone_on (map (walk_at s changes.now.layers) self.old)) }
         ensures within { walks_reach self.new ≤ walks_reach self.old }
     {
         let count = self.items.len();
         if count == 0 {
             return Ok(());
         }
-        self.items[count - 1].next(alloc, changes, base, commits)
+        self.items[count - 1].next(alloc, changes, stored)
     }
 
     /// Moves the newest walk on to the next row of the relation that it names, and puts that row into a slot that
@@ -81,10 +80,9 @@ impl Stack<Walk> {
         locals: &mut Locals,
         i: usize,
         changes: &Changes,
-        base: &Base,
-        commits: &[Delta],
+        stored: &Stored<'_>,
     ) -> bool
-        ensures step { let s = after_all base.now.state commits.now in result ≡ true → map (walk_at s changes.now.layers) self.new ≡ on_newest gone_on (map (walk_at s changes.now.layers) self.old) }
+        ensures step { let s = stored.now.state in result ≡ true → map (walk_at s changes.now.layers) self.new ≡ on_newest gone_on (map (walk_at s changes.now.layers) self.old) }
         ensures within { walks_reach self.new ≤ walks_reach self.old }
         ensures there { result ≡ true → is_some (slice_get locals.old i) ≡ true }
         ensures put { result ≡ true → IsSomeAnd (current_in self.new) (λ x. locals.new ≡ set_local locals.old i (tuple x)) }
@@ -95,7 +93,7 @@ impl Stack<Walk> {
         if count == 0 || i >= locals.items.len() {
             return false;
         }
-        self.items[count - 1].hop(&mut locals.items[i], changes, base, commits)
+        self.items[count - 1].hop(&mut locals.items[i], changes, stored)
     }
 
     /// Gathers the current row of the newest walk on it, if there is one. Without memory all is as before.

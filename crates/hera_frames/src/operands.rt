@@ -18,10 +18,10 @@ use delta_atoms::{Delta, Value};
 use hera_meaning::RelId;
 use hera_prims::Args;
 use hera_rows::RowBuf;
-use rel_pages::Base;
 use std::alloc::{AllocError, Global};
 use std::marker::Model;
 use std::mem::replace;
+use when_overlay::Stored;
 
 /// An operand: a value; or a relation as it is under a layer, of which no rows are copied.
 #[derive(Drop)]
@@ -64,13 +64,8 @@ impl Operand {
     }
 
     /// The rows, where the operand is a relation, seen where they stand. It takes no memory.
-    pub fn seen<'a>(
-        &'a self,
-        changes: &'a Changes,
-        base: &'a Base,
-        commits: &'a [Delta],
-    ) -> Option<Seen<'a>>
-        ensures { let s = after_all base.now.state commits.now in option_map rows_seen result ≡ as_table (value_at s changes.now.layers (item_of self.now)) }
+    pub fn seen<'a>(&'a self, changes: &'a Changes, stored: &'a Stored<'a>) -> Option<Seen<'a>>
+        ensures { let s = stored.now.state in option_map rows_seen result ≡ as_table (value_at s changes.now.layers (item_of self.now)) }
     {
         match self {
             Operand::Held(v) => match v.rows() {
@@ -78,10 +73,10 @@ impl Operand {
                 Some(rows) => Some(Seen::Held(rows)),
             },
             Operand::Named { rel, tip } => {
-                if usize::from(rel.0) >= base.catalogue().len() {
+                if usize::from(rel.0) >= stored.len() {
                     Some(Seen::Nothing)
                 } else {
-                    Some(Seen::Named(changes.rel(base, commits, *rel, *tip)))
+                    Some(Seen::Named(changes.sight(stored, *rel, *tip)))
                 }
             }
         }
@@ -92,14 +87,13 @@ impl Operand {
         self,
         alloc: Global,
         changes: &Changes,
-        base: &Base,
-        commits: &[Delta],
+        stored: &Stored<'_>,
     ) -> Result<Datum, AllocError>
-        ensures { let s = after_all base.now.state commits.now in IfOk result (λ v. plain_of v ≡ value_at s changes.now.layers (item_of self)) }
+        ensures { let s = stored.now.state in IfOk result (λ v. plain_of v ≡ value_at s changes.now.layers (item_of self)) }
     {
         match self {
             Operand::Held(v) => Ok(v),
-            Operand::Named { rel, tip } => named_rows(alloc, changes, base, commits, rel, tip),
+            Operand::Named { rel, tip } => named_rows(alloc, changes, stored, rel, tip),
         }
     }
 }
@@ -108,14 +102,13 @@ impl Operand {
 fn named_rows(
     alloc: Global,
     changes: &Changes,
-    base: &Base,
-    commits: &[Delta],
+    stored: &Stored<'_>,
     rel: RelId,
     tip: usize,
 ) -> Result<Datum, AllocError>
-    ensures { let s = after_all base.now.state commits.now in IfOk result (λ v. plain_of v ≡ value_at s changes.now.layers (relation rel.0 tip)) }
+    ensures { let s = stored.now.state in IfOk result (λ v. plain_of v ≡ value_at s changes.now.layers (relation rel.0 tip)) }
 {
-    let rows = rows_past(alloc, changes, base, commits, rel, tip, None)?;
+    let rows = rows_past(alloc, changes, stored, rel, tip, None)?;
     Datum::new(alloc, Value::Rel(rows))
 }
 
@@ -197,17 +190,16 @@ impl Operands {
         &mut self,
         alloc: Global,
         changes: &Changes,
-        base: &Base,
-        commits: &[Delta],
+        stored: &Stored<'_>,
     ) -> Result<Option<Datum>, AllocError>
-        ensures value { let s = after_all base.now.state commits.now in IfOk result (λ r. MatchOption r (self.old.items ≡ []) (λ v. operands_at s changes.now.layers self.old.items ≡ plain_of v ∷ operands_at s changes.now.layers self.new.items)) }
+        ensures value { let s = stored.now.state in IfOk result (λ r. MatchOption r (self.old.items ≡ []) (λ v. operands_at s changes.now.layers self.old.items ≡ plain_of v ∷ operands_at s changes.now.layers self.new.items)) }
         ensures rest { self.new.items ≡ drop 1 self.old.items }
         ensures within { reach self.new.items ≤ reach self.old.items }
         ensures spare { self.old.spare ≤ self.new.spare }
     {
         match self.pop() {
             None => Ok(None),
-            Some(operand) => Ok(Some(operand.collect(alloc, changes, base, commits)?)),
+            Some(operand) => Ok(Some(operand.collect(alloc, changes, stored)?)),
         }
     }
 
@@ -231,17 +223,16 @@ impl Operands {
         &mut self,
         alloc: Global,
         changes: &Changes,
-        base: &Base,
-        commits: &[Delta],
+        stored: &Stored<'_>,
         n: usize,
     ) -> Result<Option<Args>, AllocError>
-        ensures taken { let s = after_all base.now.state commits.now in IfOk result (λ args. taken n [] (operands_at s changes.now.layers self.old.items) ≡ option_map (λ args. record { args = args; rest = operands_at s changes.now.layers self.new.items }) args) }
+        ensures taken { let s = stored.now.state in IfOk result (λ args. taken n [] (operands_at s changes.now.layers self.old.items) ≡ option_map (λ args. record { args = args; rest = operands_at s changes.now.layers self.new.items }) args) }
         ensures within { reach self.new.items ≤ reach self.old.items }
         ensures spare { self.old.spare ≤ self.new.spare }
     {
         let mut args = Args::new(alloc);
         for _ in 0..n {
-            match self.pop_value(alloc, changes, base, commits)? {
+            match self.pop_value(alloc, changes, stored)? {
                 None => return Ok(None),
                 Some(v) => args.push_front(v.into_value())?,
             }
@@ -280,17 +271,16 @@ impl Operands {
         n: usize,
         alloc: Global,
         changes: &Changes,
-        base: &Base,
-        commits: &[Delta],
+        stored: &Stored<'_>,
     ) -> Result<(), AllocError>
         requires { n ≤ length self.old.items }
         ensures held { OnOk result (AreHeld (take n self.new.items)) }
         ensures rest { drop n self.new.items ≡ drop n self.old.items }
-        ensures same { let s = after_all base.now.state commits.now in map (collected s changes.now.layers) self.new.items ≡ map (collected s changes.now.layers) self.old.items }
+        ensures same { let s = stored.now.state in map (collected s changes.now.layers) self.new.items ≡ map (collected s changes.now.layers) self.old.items }
         ensures reach { reach self.new.items ≤ reach self.old.items }
     {
         let from = self.items.len() - n;
-        hold_from(alloc, &mut self.items, from, changes, base, commits)
+        hold_from(alloc, &mut self.items, from, changes, stored)
     }
 
     /// The operands with the rows collected of those that name a relation.
@@ -298,13 +288,12 @@ impl Operands {
         self,
         alloc: Global,
         changes: &Changes,
-        base: &Base,
-        commits: &[Delta],
+        stored: &Stored<'_>,
     ) -> Result<Operands, AllocError>
-        ensures { let s = after_all base.now.state commits.now in IfOk result (λ settled. settled ≡ record { items = map (collected s changes.now.layers) self.items; spare = self.spare }) }
+        ensures { let s = stored.now.state in IfOk result (λ settled. settled ≡ record { items = map (collected s changes.now.layers) self.items; spare = self.spare }) }
     {
         let Operands { mut items, idle } = self;
-        collect_all(alloc, &mut items, changes, base, commits)?;
+        collect_all(alloc, &mut items, changes, stored)?;
         Ok(Operands { items, idle })
     }
 }
@@ -335,15 +324,14 @@ impl Operand {
         &self,
         alloc: Global,
         changes: &Changes,
-        base: &Base,
-        commits: &[Delta],
+        stored: &Stored<'_>,
     ) -> Result<Option<Datum>, AllocError>
-        ensures { let s = after_all base.now.state commits.now in IfOk result (λ r. MatchOption r (collected s changes.now.layers (item_of self.now) ≡ item_of self.now) (λ v. collected s changes.now.layers (item_of self.now) ≡ held (plain_of v))) }
+        ensures { let s = stored.now.state in IfOk result (λ r. MatchOption r (collected s changes.now.layers (item_of self.now) ≡ item_of self.now) (λ v. collected s changes.now.layers (item_of self.now) ≡ held (plain_of v))) }
     {
         match self {
             Operand::Held(_) => Ok(None),
             Operand::Named { rel, tip } => {
-                Ok(Some(named_rows(alloc, changes, base, commits, *rel, *tip)?))
+                Ok(Some(named_rows(alloc, changes, stored, *rel, *tip)?))
             }
         }
     }
@@ -354,15 +342,14 @@ fn collect_all(
     alloc: Global,
     items: &mut Vec<Operand>,
     changes: &Changes,
-    base: &Base,
-    commits: &[Delta],
+    stored: &Stored<'_>,
 ) -> Result<(), AllocError>
-    ensures items { let s = after_all base.now.state commits.now in OnOk result (newest item_of items.new.items ≡ map (collected s changes.now.layers) (newest item_of items.old.items)) }
+    ensures items { let s = stored.now.state in OnOk result (newest item_of items.new.items ≡ map (collected s changes.now.layers) (newest item_of items.old.items)) }
     ensures len { vec_len items.new ≡ vec_len items.old }
     ensures capacity { vec_capacity items.new ≡ vec_capacity items.old }
 {
     for i in 0..items.len() {
-        if let Some(v) = items[i].rows(alloc, changes, base, commits)? {
+        if let Some(v) = items[i].rows(alloc, changes, stored)? {
             let_go(replace(&mut items[i], Operand::Held(v)));
         }
     }
@@ -375,19 +362,18 @@ fn hold_from(
     items: &mut Vec<Operand>,
     from: usize,
     changes: &Changes,
-    base: &Base,
-    commits: &[Delta],
+    stored: &Stored<'_>,
 ) -> Result<(), AllocError>
     requires { from ≤ vec_len items.old }
     ensures held { OnOk result (AreHeld (take (vec_len items.old - from) (newest item_of items.new.items))) }
     ensures older { take from items.new.items ≡ take from items.old.items }
-    ensures same { let s = after_all base.now.state commits.now in map (collected s changes.now.layers) (newest item_of items.new.items) ≡ map (collected s changes.now.layers) (newest item_of items.old.items) }
+    ensures same { let s = stored.now.state in map (collected s changes.now.layers) (newest item_of items.new.items) ≡ map (collected s changes.now.layers) (newest item_of items.old.items) }
     ensures reach { reach (newest item_of items.new.items) ≤ reach (newest item_of items.old.items) }
     ensures len { vec_len items.new ≡ vec_len items.old }
     ensures capacity { vec_capacity items.new ≡ vec_capacity items.old }
 {
     for i in from..items.len() {
-        if let Some(v) = items[i].rows(alloc, changes, base, commits)? {
+        if let Some(v) = items[i].rows(alloc, changes, stored)? {
             let_go(replace(&mut items[i], Operand::Held(v)));
         }
     }

@@ -2,8 +2,8 @@
 ghost use Rattle.std.specs.Prelude.{◌≡◌, ◌≤◌, ◌<◌, ◌^◌, length, MatchOption};
 ghost use Rattle.hera_frames.specs.Seeing.{rows_seen};
 
-use hera_rows::{RowSet, Sorted};
-use when_overlay::Hyp;
+use crate::Sight;
+use hera_rows::{Mark, RowSet, Sorted};
 
 /// The rows of a relation that is an operand, of which none is copied.
 #[derive(Drop)]
@@ -13,7 +13,7 @@ pub enum Seen<'a> {
     /// The rows of a set.
     Held(&'a RowSet),
     /// The rows of a relation that is named.
-    Named(Hyp<'a>),
+    Named(Sight<'a>),
 }
 
 impl Seen<'_> {
@@ -46,6 +46,22 @@ impl Sorted for Seen<'_> {
             Seen::Nothing => None,
             Seen::Held(rows) => rows.above(bound),
             Seen::Named(rows) => rows.above(bound),
+        }
+    }
+
+    fn above_from<'s>(&'s self, bound: Option<&[u8]>, mark: &mut Mark) -> Option<&'s [u8]> {
+        match self {
+            Seen::Nothing => None,
+            Seen::Held(rows) => rows.above_from(bound, mark),
+            Seen::Named(rows) => rows.above_from(bound, mark),
+        }
+    }
+
+    fn not_below<'s>(&'s self, bound: &'s [u8], mark: &mut Mark) -> Option<&'s [u8]> {
+        match self {
+            Seen::Nothing => None,
+            Seen::Held(rows) => rows.not_below(bound, mark),
+            Seen::Named(rows) => rows.not_below(bound, mark),
         }
     }
 

@@ -9,8 +9,8 @@ ghost use Rattle.hera_frames.specs.Waiting.{poured, frame_settled};
 
 use crate::{Callers, Changes, Frame, Operands, Stack, Walk};
 use delta_atoms::Delta;
-use rel_pages::Base;
 use std::alloc::{AllocError, Global};
+use when_overlay::Stored;
 
 /// Puts all items of a stack upon another one, so that the newest comes first.
 fn pour<T: Drop>(from: &mut Stack<T>, to: &mut Stack<T>) -> Result<(), AllocError>
@@ -29,14 +29,13 @@ fn settle_into(
     walks: &mut Stack<Walk>,
     done: &mut Stack<Walk>,
     changes: &Changes,
-    base: &Base,
-    commits: &[Delta],
+    stored: &Stored<'_>,
 ) -> Result<(), AllocError>
-    ensures done { OnOk result (done.new ≡ poured (map (settled (after_all base.now.state commits.now) changes.now.layers) walks.old) done.old) }
+    ensures done { OnOk result (done.new ≡ poured (map (settled stored.now.state changes.now.layers) walks.old) done.old) }
     ensures none { OnOk result (walks.new ≡ []) }
 {
     while let Some(walk) = walks.pop() {
-        done.push(walk.settle(alloc, changes, base, commits)?)?;
+        done.push(walk.settle(alloc, changes, stored)?)?;
     }
     Ok(())
 }
@@ -46,13 +45,12 @@ pub fn settle_walks(
     alloc: Global,
     mut walks: Stack<Walk>,
     changes: &Changes,
-    base: &Base,
-    commits: &[Delta],
+    stored: &Stored<'_>,
 ) -> Result<Stack<Walk>, AllocError>
-    ensures { IfOk result (λ ws. ws ≡ map (settled (after_all base.now.state commits.now) changes.now.layers) walks) }
+    ensures { IfOk result (λ ws. ws ≡ map (settled stored.now.state changes.now.layers) walks) }
 {
     let mut done = Stack::new(alloc);
-    settle_into(alloc, &mut walks, &mut done, changes, base, commits)?;
+    settle_into(alloc, &mut walks, &mut done, changes, stored)?;
     pour(&mut done, &mut walks)?;
     Ok(walks)
 }
@@ -62,10 +60,9 @@ fn settle_frame(
     alloc: Global,
     frame: Frame,
     changes: &Changes,
-    base: &Base,
-    commits: &[Delta],
+    stored: &Stored<'_>,
 ) -> Result<Frame, AllocError>
-    ensures { IfOk result (λ f. f ≡ frame_settled (after_all base.now.state commits.now) changes.now.layers frame) }
+    ensures { IfOk result (λ f. f ≡ frame_settled stored.now.state changes.now.layers frame) }
 {
     let Frame {
         at,
@@ -79,9 +76,9 @@ fn settle_frame(
     } = frame;
     Ok(Frame {
         at,
-        operands: operands.settle(alloc, changes, base, commits)?,
+        operands: operands.settle(alloc, changes, stored)?,
         locals,
-        walks: settle_walks(alloc, walks, changes, base, commits)?,
+        walks: settle_walks(alloc, walks, changes, stored)?,
         tip,
         own,
         floor,
@@ -95,14 +92,13 @@ fn settle_frames_into(
     frames: &mut Stack<Frame>,
     done: &mut Stack<Frame>,
     changes: &Changes,
-    base: &Base,
-    commits: &[Delta],
+    stored: &Stored<'_>,
 ) -> Result<(), AllocError>
-    ensures done { OnOk result (done.new ≡ poured (map (frame_settled (after_all base.now.state commits.now) changes.now.layers) frames.old) done.old) }
+    ensures done { OnOk result (done.new ≡ poured (map (frame_settled stored.now.state changes.now.layers) frames.old) done.old) }
     ensures none { OnOk result (frames.new ≡ []) }
 {
     while let Some(frame) = frames.pop() {
-        done.push(settle_frame(alloc, frame, changes, base, commits)?)?;
+        done.push(settle_frame(alloc, frame, changes, stored)?)?;
     }
     Ok(())
 }
@@ -112,14 +108,13 @@ pub fn settle_frames(
     alloc: Global,
     callers: Callers,
     changes: &Changes,
-    base: &Base,
-    commits: &[Delta],
+    stored: &Stored<'_>,
 ) -> Result<Callers, AllocError>
-    ensures { IfOk result (λ fs. fs ≡ map (frame_settled (after_all base.now.state commits.now) changes.now.layers) callers) }
+    ensures { IfOk result (λ fs. fs ≡ map (frame_settled stored.now.state changes.now.layers) callers) }
 {
     let mut frames = callers.into_frames();
     let mut done = Stack::new(alloc);
-    settle_frames_into(alloc, &mut frames, &mut done, changes, base, commits)?;
+    settle_frames_into(alloc, &mut frames, &mut done, changes, stored)?;
     pour(&mut done, &mut frames)?;
     Ok(Callers::of(frames))
 }

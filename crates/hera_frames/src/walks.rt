@@ -18,11 +18,10 @@ use delta_atoms::Delta;
 use hera_meaning::RelId;
 use hera_rows::{RowBuf, RowSet};
 use hera_sets::is_below;
-use rel_pages::Base;
 use std::alloc::{AllocError, Global};
 use std::marker::Model;
 use std::mem::replace;
-use when_overlay::Mark;
+use when_overlay::{Mark, Stored};
 
 /// What a walk goes over: rows of its own, from a place on; or a relation as it is under a layer, of which
 /// what lies past the current row is still to come.
@@ -84,17 +83,16 @@ fn row_past(
     mark: &mut Mark,
     alloc: Global,
     changes: &Changes,
-    base: &Base,
-    commits: &[Delta],
+    stored: &Stored<'_>,
     rel: RelId,
     tip: usize,
 ) -> Result<bool, AllocError>
-    ensures { let rows = rows_at (seen_at (after_all base.now.state commits.now) changes.now.layers tip) rel.0 in IfOk result (λ found. MatchBool found (IsSomeAnd last.new (λ x. filter (is_past last.old) rows ≡ x ∷ filter (is_past (Some x)) rows)) (filter (is_past last.old) rows ≡ [])) }
+    ensures { let rows = rows_at (seen_at stored.now.state changes.now.layers tip) rel.0 in IfOk result (λ found. MatchBool found (IsSomeAnd last.new (λ x. filter (is_past last.old) rows ≡ x ∷ filter (is_past (Some x)) rows)) (filter (is_past last.old) rows ≡ [])) }
 {
-    if usize::from(rel.0) >= base.catalogue().len() {
+    if usize::from(rel.0) >= stored.len() {
         return Ok(false);
     }
-    let rows = changes.rel(base, commits, rel, tip);
+    let rows = changes.rel(stored, rel, tip);
     let next = rows.above_near(bytes_of(last), *mark);
     match next.row {
         None => Ok(false),
@@ -134,20 +132,19 @@ fn row_past_fits(
     mark: &mut Mark,
     value: &mut Datum,
     changes: &Changes,
-    base: &Base,
-    commits: &[Delta],
+    stored: &Stored<'_>,
     rel: RelId,
     tip: usize,
 ) -> bool
-    ensures found { let rows = rows_at (seen_at (after_all base.now.state commits.now) changes.now.layers tip) rel.0 in result ≡ true → IsSomeAnd last.new (λ x. filter (is_past last.old) rows ≡ x ∷ filter (is_past (Some x)) rows) }
+    ensures found { let rows = rows_at (seen_at stored.now.state changes.now.layers tip) rel.0 in result ≡ true → IsSomeAnd last.new (λ x. filter (is_past last.old) rows ≡ x ∷ filter (is_past (Some x)) rows) }
     ensures value { result ≡ true → IsSomeAnd last.new (λ x. plain_of value.new ≡ tuple x) }
     ensures kept { result ≡ false → last.new ≡ last.old }
     ensures kept_value { result ≡ false → plain_of value.new ≡ plain_of value.old }
 {
-    if usize::from(rel.0) >= base.catalogue().len() {
+    if usize::from(rel.0) >= stored.len() {
         return false;
     }
-    let rows = changes.rel(base, commits, rel, tip);
+    let rows = changes.rel(stored, rel, tip);
     let next = rows.above_near(bytes_of(last), *mark);
     let Some(row) = next.row else {
         return false;
@@ -163,18 +160,17 @@ fn row_past_fits(
 pub fn rows_past(
     alloc: Global,
     changes: &Changes,
-    base: &Base,
-    commits: &[Delta],
+    stored: &Stored<'_>,
     rel: RelId,
     tip: usize,
     bound: Option<&[u8]>,
 ) -> Result<RowSet, AllocError>
-    ensures { IfOk result (λ rows. rows ≡ filter (is_past (option_copied bound.entry)) (rows_at (seen_at (after_all base.now.state commits.now) changes.now.layers tip) rel.0)) }
+    ensures { IfOk result (λ rows. rows ≡ filter (is_past (option_copied bound.entry)) (rows_at (seen_at stored.now.state changes.now.layers tip) rel.0)) }
 {
-    if usize::from(rel.0) >= base.catalogue().len() {
+    if usize::from(rel.0) >= stored.len() {
         return Ok(RowSet::new(alloc));
     }
-    let rows = changes.rel(base, commits, rel, tip);
+    let rows = changes.rel(stored, rel, tip);
     collect_past(alloc, &rows, bound)
 }
 
@@ -340,13 +336,12 @@ impl Walk {
         &mut self,
         alloc: Global,
         changes: &Changes,
-        base: &Base,
-        commits: &[Delta],
+        stored: &Stored<'_>,
         rel: RelId,
         tip: usize,
     ) -> Result<(), AllocError>
         requires { self.old.rest ≡ named rel.0 tip }
-        ensures step { let s = after_all base.now.state commits.now in OnOk result (walk_at s changes.now.layers self.new ≡ gone_on (walk_at s changes.now.layers self.old)) }
+        ensures step { let s = stored.now.state in OnOk result (walk_at s changes.now.layers self.new ≡ gone_on (walk_at s changes.now.layers self.old)) }
         ensures names { rest_reach self.new.rest ≤ rest_reach self.old.rest }
     {
         if row_past(
@@ -354,8 +349,7 @@ impl Walk {
             &mut self.mark,
             alloc,
             changes,
-            base,
-            commits,
+            stored,
             rel,
             tip,
         )? {
@@ -383,14 +377,13 @@ impl Walk {
         &mut self,
         alloc: Global,
         changes: &Changes,
-        base: &Base,
-        commits: &[Delta],
+        stored: &Stored<'_>,
     ) -> Result<(), AllocError>
-        ensures step { let s = after_all base.now.state commits.now in OnOk result (walk_at s changes.now.layers self.new ≡ gone_on (walk_at s changes.now.layers self.old)) }
+        ensures step { let s = stored.now.state in OnOk result (walk_at s changes.now.layers self.new ≡ gone_on (walk_at s changes.now.layers self.old)) }
         ensures names { rest_reach self.new.rest ≤ rest_reach self.old.rest }
     {
         match self.source.name() {
-            Some((rel, tip)) => self.seek(alloc, changes, base, commits, rel, tip),
+            Some((rel, tip)) => self.seek(alloc, changes, stored, rel, tip),
             None => {
                 self.go_on(alloc);
                 Ok(())
@@ -401,14 +394,8 @@ impl Walk {
     /// Goes on to the next row of the relation that the walk names, which is put in the place of a tuple too. It
     /// takes no memory. False, with all as before, where the walk has rows of its own, where no row is left, or
     /// where a place has not the room.
-    pub(crate) fn hop(
-        &mut self,
-        value: &mut Datum,
-        changes: &Changes,
-        base: &Base,
-        commits: &[Delta],
-    ) -> bool
-        ensures step { let s = after_all base.now.state commits.now in result ≡ true → walk_at s changes.now.layers self.new ≡ gone_on (walk_at s changes.now.layers self.old) }
+    pub(crate) fn hop(&mut self, value: &mut Datum, changes: &Changes, stored: &Stored<'_>) -> bool
+        ensures step { let s = stored.now.state in result ≡ true → walk_at s changes.now.layers self.new ≡ gone_on (walk_at s changes.now.layers self.old) }
         ensures names { rest_reach self.new.rest ≤ rest_reach self.old.rest }
         ensures put { result ≡ true → IsSomeAnd self.new.current (λ x. plain_of value.new ≡ tuple x) }
         ensures kept { result ≡ false → self.new ≡ self.old }
@@ -422,8 +409,7 @@ impl Walk {
             &mut self.mark,
             value,
             changes,
-            base,
-            commits,
+            stored,
             rel,
             tip,
         )
@@ -435,16 +421,15 @@ impl Walk {
         mut self,
         alloc: Global,
         changes: &Changes,
-        base: &Base,
-        commits: &[Delta],
+        stored: &Stored<'_>,
     ) -> Result<Walk, AllocError>
-        ensures { IfOk result (λ w. w ≡ settled (after_all base.now.state commits.now) changes.now.layers self) }
+        ensures { IfOk result (λ w. w ≡ settled stored.now.state changes.now.layers self) }
     {
         match self.source.name() {
             None => Ok(self),
             Some((rel, tip)) => {
                 let last = bytes_of(&self.last);
-                let rows = rows_past(alloc, changes, base, commits, rel, tip, last)?;
+                let rows = rows_past(alloc, changes, stored, rel, tip, last)?;
                 let_go(replace(&mut self.source, Source::Rows { rows, next: 0 }));
                 Ok(self)
             }

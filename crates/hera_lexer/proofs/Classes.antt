@@ -1,14 +1,17 @@
 -- Which shapes may begin with a character.
-use Rattle.std.proofs.Common.{◌≡◌, ℕ, zero, suc, ◌<◌, ◌≤◌, List, [], ◌∷◌, ◌++◌, length, Bool, true, cond, not, Some, sym, refl, ap, ◌∙◌, subst, inl, inr, ⊎_elim, arith}
-use Rattle.std.specs.Prelude.{◌||◌, ◌==◌, ◌⊎◌, is_some, nat_lt, nat_le, slice_get}
+use Rattle.std.proofs.Common.{◌≡◌, ℕ, ◌<◌, ◌≤◌, List, [], ◌∷◌, ◌++◌, length, Bool, true, cond, not, sym, refl, ap, ◌∙◌, subst, inl, inr, ⊎_elim, arith}
+use Rattle.std.specs.Prelude.{◌||◌, ◌==◌, ◌⊎◌, is_some, nat_lt, nat_le}
 use Rattle.std.proofs.lemmas.Bool.{cases_lt, ne_eqb, cond-true, cond-false, or_cases, eqb-true, agree_below_at, lt-ltb, le-ltb, leb-true, and_parts, and_from}
 use Rattle.std.specs.List.{list_all}
 use Rattle.std.specs.Char.{is_ascii_digit, is_ascii_alphabetic}
 use Rattle.unicode_ident.specs.Ident.{is_xid_start, is_xid_continue}
 use Rattle.unicode_ident.proofs.IdentLemmas.{is_xid_start-ascii, is_xid_continue-ascii, is_xid_start-is_xid_continue}
+use Rattle.hera_syntax.specs.declared.words.Mark.{Mark}
+use Rattle.hera_syntax.specs.declared.words.Mark.TheVariants as puncts
+use Rattle.hera_syntax.specs.Words.{mark_text}
 use Rattle.hera_syntax.specs.declared.token.PieceShape.{PieceShape}
 use Rattle.hera_meaning.specs.Identifiers.{begins_word}
-use Rattle.hera_syntax.specs.Lexemes.{IsPiece, blank, line_comment, comment, open_comment, word, digits, quoted, punct, HasNoEnd, Spells, puncts, is_blank}
+use Rattle.hera_syntax.specs.Lexemes.{IsPiece, blank, line_comment, comment, open_comment, word, digits, quoted, punct, HasNoEnd, Spells, is_blank}
 use Rattle.hera_lexer.specs.Scan.{one_mark, two_mark}
 
 pub data Class : Type 0 where
@@ -123,99 +126,40 @@ record LooksAs (q : List ℕ) : Type 0 where
 looks_as : (d : ℕ) (ds : List ℕ) → Looks (class_of d) (d ∷ ds) → LooksAs (d ∷ ds)
 looks_as d ds l = record { here = λ back cs c e. let same : d ≡ c = cc in subst (λ z. Looks (class_of z) (d ∷ ds)) same l }
 
-abbrev EachLooks : List (List ℕ) → Type 0
-EachLooks [] = Unit {0}
-EachLooks (q ∷ qs) = LooksAs q × EachLooks qs
-
-each_at : (qs : List (List ℕ)) (i : ℕ) (q : List ℕ) → EachLooks qs → slice_get qs i ≡ Some q → LooksAs q
-each_at [] i q each h = cc
-each_at (p ∷ ps) zero q each h = let same : p ≡ q = cc in subst LooksAs same each.0
-each_at (p ∷ ps) (suc i) q each h = each_at ps i q each.1 h
-
 one : (a : ℕ) → Looks (class_of a) (a ∷ []) → LooksAs (a ∷ [])
 one a l = looks_as a [] l
 
 two : (a b : ℕ) → Looks (class_of a) (a ∷ b ∷ []) → LooksAs (a ∷ b ∷ [])
 two a b l = looks_as a (b ∷ []) l
 
-puncts_look : EachLooks puncts
+mark_looks : (m : Mark) → LooksAs (mark_text m)
 unfolding class_of
-puncts_look = (
-  one 40 (inl (40, refl, refl)),
-  (
-    one 41 (inl (41, refl, refl)),
-    (
-      one 91 (inl (91, refl, refl)),
-      (
-        one 93 (inl (93, refl, refl)),
-        (
-          one 123 (inl (123, refl, refl)),
-          (
-            one 125 (inl (125, refl, refl)),
-            (
-              one 44 (inl (44, refl, refl)),
-              (
-                one 59 (inl (59, refl, refl)),
-                (
-                  one 58 (inl (58, refl, refl)),
-                  (
-                    one 46 (inl (46, refl, refl)),
-                    (
-                      one 61 (inl (61, refl, refl)),
-                      (
-                        two 61 61 (inr (61, 61, refl, refl)),
-                        (
-                          two 33 61 (inr (33, 61, refl, refl)),
-                          (
-                            one 60 (inl (60, refl, refl)),
-                            (
-                              two 60 61 (inr (60, 61, refl, refl)),
-                              (
-                                one 62 (inl (62, refl, refl)),
-                                (
-                                  two 62 61 (inr (62, 61, refl, refl)),
-                                  (
-                                    one 43 (inl (43, refl, refl)),
-                                    (
-                                      one 45 (inl (45, refl, refl)),
-                                      (
-                                        one 42 (inl (42, refl, refl)),
-                                        (
-                                          one 47 (inl refl),
-                                          (
-                                            one 37 (inl (37, refl, refl)),
-                                            (
-                                              one 33 (inl (33, refl, refl)),
-                                              (
-                                                one 38 (inl (38, refl, refl)),
-                                                (
-                                                  two 38 38 (inr (38, 38, refl, refl)),
-                                                  (two 124 124 (inr (124, 124, refl, refl)), tt),
-                                                ),
-                                              ),
-                                            ),
-                                          ),
-                                        ),
-                                      ),
-                                    ),
-                                  ),
-                                ),
-                              ),
-                            ),
-                          ),
-                        ),
-                      ),
-                    ),
-                  ),
-                ),
-              ),
-            ),
-          ),
-        ),
-      ),
-    ),
-  ),
-)
+mark_looks puncts.OpenParen = one 40 (inl (40, refl, refl))
+mark_looks puncts.CloseParen = one 41 (inl (41, refl, refl))
+mark_looks puncts.OpenSquare = one 91 (inl (91, refl, refl))
+mark_looks puncts.CloseSquare = one 93 (inl (93, refl, refl))
+mark_looks puncts.OpenBrace = one 123 (inl (123, refl, refl))
+mark_looks puncts.CloseBrace = one 125 (inl (125, refl, refl))
+mark_looks puncts.Comma = one 44 (inl (44, refl, refl))
+mark_looks puncts.Semicolon = one 59 (inl (59, refl, refl))
+mark_looks puncts.Colon = one 58 (inl (58, refl, refl))
+mark_looks puncts.Dot = one 46 (inl (46, refl, refl))
+mark_looks puncts.Equals = one 61 (inl (61, refl, refl))
+mark_looks puncts.EqualEqual = two 61 61 (inr (61, 61, refl, refl))
+mark_looks puncts.NotEqual = two 33 61 (inr (33, 61, refl, refl))
+mark_looks puncts.Less = one 60 (inl (60, refl, refl))
+mark_looks puncts.LessEqual = two 60 61 (inr (60, 61, refl, refl))
+mark_looks puncts.Greater = one 62 (inl (62, refl, refl))
+mark_looks puncts.GreaterEqual = two 62 61 (inr (62, 61, refl, refl))
+mark_looks puncts.Plus = one 43 (inl (43, refl, refl))
+mark_looks puncts.Minus = one 45 (inl (45, refl, refl))
+mark_looks puncts.Star = one 42 (inl (42, refl, refl))
+mark_looks puncts.Slash = one 47 (inl refl)
+mark_looks puncts.Percent = one 37 (inl (37, refl, refl))
+mark_looks puncts.Bang = one 33 (inl (33, refl, refl))
+mark_looks puncts.And = one 38 (inl (38, refl, refl))
+mark_looks puncts.AndAnd = two 38 38 (inr (38, 38, refl, refl))
+mark_looks puncts.OrOr = two 124 124 (inr (124, 124, refl, refl))
 
 -- a piece that begins with c looks as its class says
 pub looks : (k : PieceShape) (q back cs : List ℕ) (c : ℕ) → IsPiece k q → q ++ back ≡ c ∷ cs → Looks (class_of c) q
@@ -230,4 +174,4 @@ looks _ _ back cs c (word {c = d} {cs = ds} w) e =
 looks _ _ back cs c (digits {c = d} {cs = ds} h r) e =
     (looks_as d ds (subst (λ k. Looks k (d ∷ ds)) (sym (class_numeral d h)) (and_from (is_ascii_digit d) _ h r))).here back cs c e
 looks _ _ back cs c (quoted {body} {value} h) e = (looks_as 34 (body ++ 34 ∷ []) (body, value, refl, h)).here back cs c e
-looks _ _ back cs c (punct {i} {cs = q} h) e = (each_at puncts i q puncts_look h).here back cs c e
+looks _ _ back cs c (punct {m} {cs = q} h) e = subst (λ z. Looks (class_of c) z) h ((mark_looks m).here back cs c (ap (λ z. z ++ back) h ∙ e))

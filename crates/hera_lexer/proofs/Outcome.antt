@@ -1,35 +1,23 @@
 -- A text has one cut, and is stuck at one place or at none.
-use Rattle.std.proofs.Common.{◌≡◌, ℕ, zero, suc, ◌+◌, List, [], ◌∷◌, ◌++◌, Some, sym, refl, ap, ◌∙◌, subst, arith}
-use Rattle.std.specs.Prelude.{slice_get}
+use Rattle.std.proofs.Common.{◌≡◌, ℕ, ◌+◌, List, [], ◌∷◌, ◌++◌, sym, refl, ap, ◌∙◌, subst, arith}
 use Rattle.std.proofs.lemmas.Option.{same_Some}
 use Rattle.std.proofs.Math.Utf8.{encodes}
+use Rattle.hera_syntax.specs.declared.words.Keyword.{Keyword}
+use Rattle.hera_syntax.specs.declared.words.Mark.{Mark}
+use Rattle.hera_syntax.specs.Words.{keyword_text}
 use Rattle.hera_syntax.specs.declared.token.PieceShape.{PieceShape}
 use Rattle.hera_syntax.specs.declared.token.PieceShape.TheVariants as shapes
 use Rattle.hera_syntax.specs.declared.token.TokenKind.{TokenKind}
 use Rattle.hera_syntax.specs.declared.token.TokenKind.TheVariants as kinds
 use Rattle.hera_syntax.specs.declared.token.Token.{Token}
-use Rattle.hera_syntax.specs.Lexemes.{IsLongest, IsToken, IsBetween, ident, key, int, text, punct, keywords, Spells}
+use Rattle.hera_syntax.specs.Lexemes.{IsLongest, IsToken, IsBetween, ident, key, int, text, punct, Spells}
 use Rattle.hera_syntax.specs.Lex.{size, Cuts, Fails, done, skip, keep, here}
 use Rattle.hera_lexer.specs.Read.{keyword_of}
-use Rattle.hera_lexer.proofs.Values.{one_value}
+use Rattle.hera_lexer.proofs.Values.{keyword_known, one_value}
 use Rattle.hera_lexer.proofs.Walk.{one_longest, piece_some}
 
--- each keyword stands at one place
-abbrev EachPlace : ℕ → List (List ℕ) → Type 0
-EachPlace n [] = Unit {0}
-EachPlace n (k ∷ ks) = (keyword_of k ≡ Some n) × EachPlace (suc n) ks
-
-place_at : (ks : List (List ℕ)) (n i : ℕ) (w : List ℕ) → EachPlace n ks → slice_get ks i ≡ Some w → keyword_of w ≡ Some (n + i)
-place_at [] n i w each e = cc
-place_at (k ∷ ks) n zero w each e = ap keyword_of (sym (same_Some k w e)) ∙ each.0 ∙ ap Some (omega arith)
-place_at (k ∷ ks) n (suc i) w each e = place_at ks (suc n) i w each.1 e ∙ ap Some (omega arith)
-
-keywords_place : EachPlace 0 keywords
-keywords_place = (refl, (refl, (refl, (refl, (refl, (refl, (refl, (refl, (refl, (refl, (refl, (refl, (refl, (refl, (refl, (refl, (refl, (refl, (refl, (refl, (refl, (refl, (refl, (refl, (refl, (refl, (refl, (refl, (refl, (refl, (refl, (refl, (refl, (refl, (refl, (refl, (refl, (refl, (refl, (refl, (refl, (refl, (refl, (refl, (refl, tt)))))))))))))))))))))))))))))))))))))))))))))
-
-one_key : (i j : ℕ) (w : List ℕ) → slice_get keywords i ≡ Some w → slice_get keywords j ≡ Some w → i ≡ j
-one_key i j w h g =
-    let same = same_Some _ _ (sym (place_at keywords 0 i w keywords_place h) ∙ place_at keywords 0 j w keywords_place g) in omega arith
+one_key : (j k : Keyword) (w : List ℕ) → keyword_text j ≡ w → keyword_text k ≡ w → j ≡ k
+one_key j k w h g = same_Some _ _ (sym (keyword_known j) ∙ ap keyword_of (h ∙ sym g) ∙ keyword_known k)
 
 -- the kind of a token, by what else it may be
 record Kind (k : PieceShape) (cs : List ℕ) (kind : TokenKind) : Type 0 where
@@ -37,14 +25,14 @@ record Kind (k : PieceShape) (cs : List ℕ) (kind : TokenKind) : Type 0 where
 
 same_word : (cs : List ℕ) (kind other : TokenKind) → IsToken shapes.Word cs kind → IsToken shapes.Word cs other → kind ≡ other
 same_word cs _ _ (ident h l) (ident g m) = refl
-same_word cs _ _ (ident h l) (key {i} g) = absurd (h i g)
-same_word cs _ _ (key {i} h) (ident g m) = absurd (g i h)
-same_word cs _ _ (key {i} h) (key {i = j} g) = ap kinds.Key (one_key i j cs h g)
+same_word cs _ _ (ident h l) (key {k} g) = absurd (h k g)
+same_word cs _ _ (key {k} h) (ident g m) = absurd (g k h)
+same_word cs _ _ (key {k = j} h) (key {k} g) = ap kinds.Key (one_key j k cs h g)
 
 same_int : (cs : List ℕ) (kind other : TokenKind) → IsToken shapes.Digits cs kind → IsToken shapes.Digits cs other → kind ≡ other
 same_int cs _ _ (int h) (int g) = refl
 
-same_punct : (i : ℕ) (cs : List ℕ) (kind other : TokenKind) → IsToken (shapes.Punct i) cs kind → IsToken (shapes.Punct i) cs other → kind ≡ other
+same_punct : (i : Mark) (cs : List ℕ) (kind other : TokenKind) → IsToken (shapes.Punct i) cs kind → IsToken (shapes.Punct i) cs other → kind ≡ other
 same_punct i cs _ _ punct punct = refl
 
 same_text_at : (body value cs : List ℕ) (other : TokenKind) → Spells body value → 34 ∷ (body ++ 34 ∷ []) ≡ cs → IsToken shapes.Quoted cs other → kinds.Text (encodes value) ≡ other
@@ -52,10 +40,10 @@ same_text_at body value _ _ s e (text {body = b} {value = v} t l) = let tails : 
 
 pub one_kind : (k : PieceShape) (cs : List ℕ) (kind other : TokenKind) → IsToken k cs kind → IsToken k cs other → kind ≡ other
 one_kind _ cs _ other (ident h l) t = same_word cs _ other (ident h l) t
-one_kind _ cs _ other (key {i} h) t = same_word cs _ other (key h) t
+one_kind _ cs _ other (key h) t = same_word cs _ other (key h) t
 one_kind _ cs _ other (int h) t = same_int cs _ other (int h) t
 one_kind _ _ _ other (text {body} {value} s l) t = same_text_at body value _ other s refl t
-one_kind _ cs _ other (punct {i}) t = same_punct i cs _ other punct t
+one_kind _ cs _ other (punct {m}) t = same_punct m cs _ other punct t
 
 -- a token's shape does not stand between tokens
 token_no_between : (k : PieceShape) (cs : List ℕ) (kind : TokenKind) → IsToken k cs kind → IsBetween k → ⊥

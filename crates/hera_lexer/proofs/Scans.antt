@@ -9,6 +9,7 @@ use Rattle.std.specs.Char.{is_ascii_digit}
 use Rattle.std.proofs.Math.Utf8.{encode, encodes, scalars}
 use Rattle.unicode_ident.specs.Ident.{is_xid_start}
 use Rattle.unicode_ident.proofs.IdentLemmas.{is_xid_start-ascii}
+use Rattle.hera_syntax.specs.declared.words.Mark.{Mark}
 use Rattle.hera_syntax.specs.declared.token.PieceShape.{PieceShape}
 use Rattle.hera_syntax.specs.declared.token.PieceShape.TheVariants as shapes
 use Rattle.hera_meaning.specs.Identifiers.{begins_word}
@@ -39,7 +40,7 @@ second_of (d ∷ ds) n e some low = ⊎_elim
       nonempty (b ∷ bs) h = omega arith
 
 -- a punctuation
-found_two : (c : ℕ) (cs : List ℕ) (i : ℕ) → two_mark c (get_or (encodes cs) 0 0) ≡ Some i → Found (c ∷ cs) (shapes.Punct i) 2
+found_two : (c : ℕ) (cs : List ℕ) (i : Mark) → two_mark c (get_or (encodes cs) 0 0) ≡ Some i → Found (c ∷ cs) (shapes.Punct i) 2
 found_two c cs i e =
     let b : ℕ = get_or (encodes cs) 0 0 in
     let is = two_found c b i e in
@@ -55,9 +56,9 @@ found_two c cs i e =
 heads : (a c : ℕ) (xs ys : List ℕ) → a ∷ xs ≡ c ∷ ys → (a ≡ c) × (xs ≡ ys)
 heads a c xs ys e = (cc, cc)
 
-some_two : (a b : ℕ) → is_some (two_mark a b) ≡ true → (i : ℕ) × (two_mark a b ≡ Some i)
+some_two : (a b : ℕ) → is_some (two_mark a b) ≡ true → (i : Mark) × (two_mark a b ≡ Some i)
 some_two a b h = by (two_mark a b) h where
-  by : (o : Option ℕ) → is_some o ≡ true → (i : ℕ) × (o ≡ Some i)
+  by : (o : Option Mark) → is_some o ≡ true → (i : Mark) × (o ≡ Some i)
   by None h = cc
   by (Some i) h = (i, refl)
 
@@ -91,7 +92,7 @@ mark_alone : (c : ℕ) (cs q back : List ℕ) → two_mark c (get_or (encodes cs
 mark_alone c cs q back none whole (inl (a, is, h)) = omega (arith, ap length is)
 mark_alone c cs q back none whole (inr (a, b, is, h)) = absurd (no_two c a b cs q back none whole is h)
 
-found_one : (c : ℕ) (cs : List ℕ) (i : ℕ) → ((c == 47) && (get_or (encodes cs) 0 0 == 47)) ≡ false → ((c == 47) && (get_or (encodes cs) 0 0 == 42)) ≡ false
+found_one : (c : ℕ) (cs : List ℕ) (i : Mark) → ((c == 47) && (get_or (encodes cs) 0 0 == 47)) ≡ false → ((c == 47) && (get_or (encodes cs) 0 0 == 42)) ≡ false
     → two_mark c (get_or (encodes cs) 0 0) ≡ None → one_mark c ≡ Some i → Found (c ∷ cs) (shapes.Punct i) 1
 found_one c cs i line comment none e =
     let is = one_found c i e in
@@ -135,8 +136,8 @@ no_piece c cs blank digit quote none mark word k q back is whole =
     (class_none c blank digit quote mark word)
 
 -- the choices of the scan
-by_mark : (P : Option (PieceShape × ℕ) → Type 0) (t o : Option ℕ) (w : Option (PieceShape × ℕ)) → ((i : ℕ) → t ≡ Some i → P (Some (shapes.Punct i, 2)))
-    → (t ≡ None → (i : ℕ) → o ≡ Some i → P (Some (shapes.Punct i, 1))) → (t ≡ None → o ≡ None → P w) → P (mark_of t o w)
+by_mark : (P : Option (PieceShape × ℕ) → Type 0) (t o : Option Mark) (w : Option (PieceShape × ℕ)) → ((i : Mark) → t ≡ Some i → P (Some (shapes.Punct i, 2)))
+    → (t ≡ None → (i : Mark) → o ≡ Some i → P (Some (shapes.Punct i, 1))) → (t ≡ None → o ≡ None → P w) → P (mark_of t o w)
 by_mark P (Some i) o w f g h = f i refl
 by_mark P None (Some i) w f g h = g refl i refl
 by_mark P None None w f g h = h refl refl
@@ -203,7 +204,7 @@ says_low c cs s low =
     (λ none mark. says_word c cs (c ∷ bs) s (sym (encodes_ascii c cs low)) (λ word. no_piece c cs blank digit quote none mark word)))))))
 
 -- a character past ASCII in front
-none_of : (o : Option ℕ) → ((i : ℕ) → o ≡ Some i → ⊥) → o ≡ None
+none_of : (o : Option Mark) → ((i : Mark) → o ≡ Some i → ⊥) → o ≡ None
 none_of None h = refl
 none_of (Some i) h = absurd (h i refl)
 

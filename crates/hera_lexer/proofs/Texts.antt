@@ -13,6 +13,8 @@ use Rattle.std.proofs.lemmas.List.Elements.{All-cons, All-nil}
 use Rattle.std.proofs.lemmas.Bool.{eq-eqb}
 use Rattle.unicode_ident.specs.Ident.{is_xid_continue}
 use Rattle.unicode_ident.proofs.IdentLemmas.{is_xid_continue-ascii}
+use Rattle.hera_meaning.specs.Texts.{text_limit}
+use Rattle.hera_meaning.specs.Identifiers.{identifier_limit}
 use Rattle.hera_syntax.specs.declared.token.PieceShape.TheVariants as shapes
 use Rattle.hera_syntax.specs.Lexemes.{Spells, nothing, plain, escaped, IsPiece, word}
 use Rattle.hera_meaning.specs.Identifiers.{begins_word}
@@ -81,15 +83,15 @@ nonzero (b ∷ bs) h =
     All-cons (λ x. x ≢ 0) b bs (λ e. let same : true ≡ false = sym both.0 ∙ ap not (eq-eqb b 0 e) in cc) (nonzero bs both.1)
 
 -- an identifier is a text
-pub word_text : (w : List ℕ) → IsUtf8 w → IsPiece shapes.Word (chars w) → length w ≤ 255 → IsText w
+pub word_text : (w : List ℕ) → IsUtf8 w → IsPiece shapes.Word (chars w) → length w ≤ identifier_limit → IsText w
 word_text w u h short = record {
   utf8 = u;
   nonzero = nonzero w (subst (λ z. no_zero z ≡ true) (encodes-chars w u) (bytes_no_zero (chars w) (word_no_zero (chars w) h)));
-  short = short;
+  short = omega (arith, short);
 }
 
 -- what a literal spells is a text
-pub text_value : (body value : List ℕ) → Spells body value → scalars body ≡ true → length (encodes value) ≤ 255 → IsText (encodes value)
+pub text_value : (body value : List ℕ) → Spells body value → scalars body ≡ true → length (encodes value) ≤ text_limit → IsText (encodes value)
 text_value body value h s short = record {
   utf8 = value_utf8 body value h s;
   nonzero = nonzero (encodes value) (bytes_no_zero value (spells_no_zero body value h));
@@ -97,7 +99,7 @@ text_value body value h s short = record {
 }
 
 -- the value of a literal is a text
-pub quoted_value : (bs v : List ℕ) → IsUtf8 bs → (h : IsPiece shapes.Quoted (chars bs)) → v ≡ value_of false (encodes (is_quoted (chars bs) h).body) → length v ≤ 255 → IsText v
+pub quoted_value : (bs v : List ℕ) → IsUtf8 bs → (h : IsPiece shapes.Quoted (chars bs)) → v ≡ value_of false (encodes (is_quoted (chars bs) h).body) → length v ≤ text_limit → IsText v
 quoted_value bs v u h e short =
     let is = is_quoted (chars bs) h in
     let same : v ≡ encodes is.value = e ∙ value_spells is.body is.value is.spells in

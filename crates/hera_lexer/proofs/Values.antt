@@ -1,19 +1,24 @@
 -- What a piece's bytes say of its characters.
-use Rattle.std.proofs.Common.{◌≡◌, ℕ, zero, suc, ◌+◌, ◌<◌, ◌≤◌, List, [], ◌∷◌, ◌++◌, length, take, drop, Bool, true, false, not, Some, None, sym, refl, ap, ◌∙◌, subst, inl, inr, ⊎_elim, arith, IsUtf8}
-use Rattle.std.specs.Prelude.{ℤ, pos, ◌-◌, ◌^◌, ◌==◌, ◌⊎◌, nat_lt, slice_get}
-use Rattle.std.specs.List.{list_all, position, prefix_len}
+use Rattle.std.proofs.Common.{◌≡◌, ℕ, suc, ◌<◌, ◌≤◌, List, [], ◌∷◌, ◌++◌, length, take, drop, Bool, true, false, Some, None, sym, refl, ap, ◌∙◌, subst, inl, inr, ⊎_elim, arith, IsUtf8}
+use Rattle.std.specs.Prelude.{ℤ, pos, ◌-◌, ◌^◌, ◌==◌, ◌⊎◌, nat_lt, cond, find}
+use Rattle.std.specs.List.{list_all}
 use Rattle.std.specs.Str.{bytes_eq, chars, all_ascii_digits}
 use Rattle.std.specs.Char.{is_ascii_digit}
 use Rattle.std.proofs.Math.Utf8.{encode, encodes, scalars, scalar}
 use Rattle.std.proofs.lemmas.Str.{encode_ascii, chars-encodes, encodes-chars, encodes-append}
 use Rattle.std.proofs.lemmas.List.{length-append, take_at, append_cancel_right}
 use Rattle.std.proofs.lemmas.Option.{same_Some}
-use Rattle.std.proofs.lemmas.Bool.{cases_lt, cases_Bool, cond-true, cond-false, and_parts, and_from, eqb-true, eq-eqb, ltb-true, lt-ltb, le-ltb}
+use Rattle.std.proofs.lemmas.Bool.{cases_lt, cases_Bool, cond-true, cond-false, and_parts, and_from, eqb-true, ltb-true, lt-ltb}
 use Rattle.std.proofs.lemmas.Bool.Decides.{nat_tests}
+use Rattle.hera_syntax.specs.declared.words.Keyword.{Keyword}
+use Rattle.hera_syntax.specs.declared.words.Keyword.TheVariants as keys
+use Rattle.hera_syntax.specs.Words.{keyword_text, all_keywords}
+use Rattle.hera_meaning.specs.Texts.{text_limit}
+use Rattle.hera_meaning.specs.Identifiers.{identifier_limit}
 use Rattle.hera_syntax.specs.declared.token.PieceShape.TheVariants as shapes
 use Rattle.hera_syntax.specs.declared.token.TokenKind.TheVariants as kinds
 use Rattle.hera_syntax.specs.declared.token.TokenKind.{TokenKind}
-use Rattle.hera_syntax.specs.Lexemes.{IsPiece, IsToken, IsBetween, ident, key, int, text, digits, quoted, Spells, nothing, plain, escaped, escape_of, keywords, number_of}
+use Rattle.hera_syntax.specs.Lexemes.{IsPiece, IsToken, IsBetween, ident, key, int, text, digits, quoted, Spells, nothing, plain, escaped, escape_of, number_of}
 use Rattle.hera_syntax.specs.Lex.{size}
 use Rattle.hera_lexer.specs.Read.{value_of, escaped_byte, keyword_of}
 use Rattle.hera_lexer.proofs.Bytes.{AllHigh, encode_high, encodes_ascii, not_at}
@@ -41,90 +46,143 @@ scalars_low (c ∷ cs) h =
 pub chars_low : (cs : List ℕ) → all_low cs ≡ true → chars cs ≡ cs
 chars_low cs h = ap chars (sym (encodes_low cs h)) ∙ chars-encodes cs (scalars_low cs h)
 
--- each word of a list is ASCII
-abbrev each_low : List (List ℕ) → Bool
-each_low ks = list_all all_low ks
+-- each keyword is ASCII
+key_low : (k : Keyword) → all_low (keyword_text k) ≡ true
+key_low keys.Relation = refl
+key_low keys.Func = refl
+key_low keys.Proc = refl
+key_low keys.Main = refl
+key_low keys.Int = refl
+key_low keys.Bool = refl
+key_low keys.Text = refl
+key_low keys.Delta = refl
+key_low keys.Rel = refl
+key_low keys.Tuple = refl
+key_low keys.If = refl
+key_low keys.Else = refl
+key_low keys.While = refl
+key_low keys.Foreach = refl
+key_low keys.In = refl
+key_low keys.Print = refl
+key_low keys.Apply = refl
+key_low keys.Commit = refl
+key_low keys.Rollback = refl
+key_low keys.Assert = refl
+key_low keys.Return = refl
+key_low keys.True = refl
+key_low keys.False = refl
+key_low keys.Fail = refl
+key_low keys.When = refl
+key_low keys.Rows = refl
+key_low keys.Select = refl
+key_low keys.Map = refl
+key_low keys.Project = refl
+key_low keys.Rename = refl
+key_low keys.Union = refl
+key_low keys.Minus = refl
+key_low keys.Inter = refl
+key_low keys.Join = refl
+key_low keys.Group = refl
+key_low keys.By = refl
+key_low keys.Count = refl
+key_low keys.Empty = refl
+key_low keys.Sum = refl
+key_low keys.Min = refl
+key_low keys.Max = refl
+key_low keys.IsFail = refl
+key_low keys.Bulk = refl
+key_low keys.Ins = refl
+key_low keys.Del = refl
 
-low_at : (ks : List (List ℕ)) (i : ℕ) (w : List ℕ) → each_low ks ≡ true → slice_get ks i ≡ Some w → all_low w ≡ true
-low_at [] i w h e = cc
-low_at (k ∷ ks) zero w h e = ap all_low (sym (same_Some k w e)) ∙ (and_parts (all_low k) (each_low ks) h).0
-low_at (k ∷ ks) (suc i) w h e = low_at ks i w (and_parts (all_low k) (each_low ks) h).1 e
+keyword_low : (k : Keyword) (w : List ℕ) → keyword_text k ≡ w → all_low w ≡ true
+keyword_low k w e = ap all_low (sym e) ∙ key_low k
 
-keyword_low : (i : ℕ) (w : List ℕ) → slice_get keywords i ≡ Some w → all_low w ≡ true
-keyword_low i w e = low_at keywords i w refl e
+-- each keyword is the one of its text
+pub keyword_known : (k : Keyword) → keyword_of (keyword_text k) ≡ Some k
+keyword_known keys.Relation = refl
+keyword_known keys.Func = refl
+keyword_known keys.Proc = refl
+keyword_known keys.Main = refl
+keyword_known keys.Int = refl
+keyword_known keys.Bool = refl
+keyword_known keys.Text = refl
+keyword_known keys.Delta = refl
+keyword_known keys.Rel = refl
+keyword_known keys.Tuple = refl
+keyword_known keys.If = refl
+keyword_known keys.Else = refl
+keyword_known keys.While = refl
+keyword_known keys.Foreach = refl
+keyword_known keys.In = refl
+keyword_known keys.Print = refl
+keyword_known keys.Apply = refl
+keyword_known keys.Commit = refl
+keyword_known keys.Rollback = refl
+keyword_known keys.Assert = refl
+keyword_known keys.Return = refl
+keyword_known keys.True = refl
+keyword_known keys.False = refl
+keyword_known keys.Fail = refl
+keyword_known keys.When = refl
+keyword_known keys.Rows = refl
+keyword_known keys.Select = refl
+keyword_known keys.Map = refl
+keyword_known keys.Project = refl
+keyword_known keys.Rename = refl
+keyword_known keys.Union = refl
+keyword_known keys.Minus = refl
+keyword_known keys.Inter = refl
+keyword_known keys.Join = refl
+keyword_known keys.Group = refl
+keyword_known keys.By = refl
+keyword_known keys.Count = refl
+keyword_known keys.Empty = refl
+keyword_known keys.Sum = refl
+keyword_known keys.Min = refl
+keyword_known keys.Max = refl
+keyword_known keys.IsFail = refl
+keyword_known keys.Bulk = refl
+keyword_known keys.Ins = refl
+keyword_known keys.Del = refl
 
--- the first of some words
 same_bytes : (x w : List ℕ) → bytes_eq x w ≡ true → x ≡ w
 same_bytes [] [] h = refl
 same_bytes [] (b ∷ w) h = cc
 same_bytes (a ∷ x) [] h = cc
 same_bytes (a ∷ x) (b ∷ w) h = let both = and_parts (a == b) (bytes_eq x w) h in ap (λ z. z ∷ x) (eqb-true a b both.0) ∙ ap (λ z. b ∷ z) (same_bytes x w both.1)
 
-bytes_same : (w : List ℕ) → bytes_eq w w ≡ true
-bytes_same [] = refl
-bytes_same (b ∷ w) = and_from (b == b) (bytes_eq w w) (eq-eqb b b refl) (bytes_same w)
+-- the first of some keywords with this text has it
+found_first : (ks : List Keyword) (w : List ℕ) (j k : Keyword) (b : Bool) → bytes_eq (keyword_text j) w ≡ b → (find (λ k. bytes_eq (keyword_text k) w) ks ≡ Some k → keyword_text k ≡ w)
+    → cond b (Some j) (find (λ k. bytes_eq (keyword_text k) w) ks) ≡ Some k → keyword_text k ≡ w
+found_first ks w j k true h later e = ap keyword_text (sym (same_Some j k e)) ∙ same_bytes (keyword_text j) w h
+found_first ks w j k false h later e = later e
 
-abbrev differs : List ℕ → List ℕ → Bool
-differs w x = not (bytes_eq x w)
-
-place_found : (ks : List (List ℕ)) (w : List ℕ) → prefix_len (differs w) ks < length ks → slice_get ks (prefix_len (differs w) ks) ≡ Some w
-place_found [] w l = absurd (omega arith)
-place_found (k ∷ ks) w l = ⊎_elim
-    (λ same.
-    let here : prefix_len (differs w) (k ∷ ks) ≡ 0 = cond-false (differs w k) _ _ (ap not same) in
-    ap (slice_get (k ∷ ks)) here ∙ ap Some (same_bytes k w same))
-    (λ apart.
-    let next : prefix_len (differs w) (k ∷ ks) ≡ 1 + prefix_len (differs w) ks = cond-true (differs w k) _ _ (ap not apart) in
-    let after : prefix_len (differs w) (k ∷ ks) ≡ suc (prefix_len (differs w) ks) = omega arith in
-    ap (slice_get (k ∷ ks)) after ∙ place_found ks w (omega arith))
-    (cases_Bool (bytes_eq k w))
-
-place_none : (ks : List (List ℕ)) (w : List ℕ) → length ks ≤ prefix_len (differs w) ks → (i : ℕ) → slice_get ks i ≡ Some w → ⊥
-place_none [] w l i e = cc
-place_none (k ∷ ks) w l zero e =
-    let same : bytes_eq k w ≡ true = ap (bytes_eq k) (sym (same_Some k w e)) ∙ bytes_same k in
-    let here : prefix_len (differs w) (k ∷ ks) ≡ 0 = cond-false (differs w k) _ _ (ap not same) in absurd (omega arith)
-place_none (k ∷ ks) w l (suc i) e = ⊎_elim
-    (λ same. let here : prefix_len (differs w) (k ∷ ks) ≡ 0 = cond-false (differs w k) _ _ (ap not same) in absurd (omega arith))
-    (λ apart. let next : prefix_len (differs w) (k ∷ ks) ≡ 1 + prefix_len (differs w) ks = cond-true (differs w k) _ _ (ap not apart) in place_none ks w (omega arith) i e)
-    (cases_Bool (bytes_eq k w))
-
-position_found : (ks : List (List ℕ)) (w : List ℕ) (i : ℕ) → position (λ k. bytes_eq k w) ks ≡ Some i → slice_get ks i ≡ Some w
-position_found ks w i e = ⊎_elim
-    (λ l.
-    let is : Some (prefix_len (differs w) ks) ≡ Some i = sym (cond-true (nat_lt (prefix_len (differs w) ks) (length ks)) _ None (lt-ltb _ _ l)) ∙ e in
-    ap (slice_get ks) (sym (same_Some _ _ is)) ∙ place_found ks w l)
-    (λ g. let is : None ≡ Some i = sym (cond-false (nat_lt (prefix_len (differs w) ks) (length ks)) (Some (prefix_len (differs w) ks)) None (le-ltb _ _ g)) ∙ e in cc)
-    (cases_lt (prefix_len (differs w) ks) (length ks))
-
-position_none : (ks : List (List ℕ)) (w : List ℕ) → position (λ k. bytes_eq k w) ks ≡ None → (i : ℕ) → slice_get ks i ≡ Some w → ⊥
-position_none ks w e = ⊎_elim
-    (λ l. let is : Some (prefix_len (differs w) ks) ≡ None = sym (cond-true (nat_lt (prefix_len (differs w) ks) (length ks)) (Some (prefix_len (differs w) ks)) None (lt-ltb _ _ l)) ∙ e in λ i h. cc)
-    (λ g. place_none ks w g)
-    (cases_lt (prefix_len (differs w) ks) (length ks))
+found_text : (ks : List Keyword) (w : List ℕ) (k : Keyword) → find (λ k. bytes_eq (keyword_text k) w) ks ≡ Some k → keyword_text k ≡ w
+found_text [] w k e = cc
+found_text (j ∷ ks) w k e = found_first ks w j k (bytes_eq (keyword_text j) w) refl (found_text ks w k) e
 
 -- a word
-pub word_key : (w : List ℕ) (i : ℕ) → keyword_of w ≡ Some i → IsToken shapes.Word (chars w) (kinds.Key i)
-word_key w i e =
-    let at = position_found keywords w i e in
-    key (at ∙ ap Some (sym (chars_low w (keyword_low i w at))))
+pub word_key : (w : List ℕ) (k : Keyword) → keyword_of w ≡ Some k → IsToken shapes.Word (chars w) (kinds.Key k)
+word_key w k e =
+    let at = found_text all_keywords w k e in
+    key (at ∙ sym (chars_low w (keyword_low k w at)))
 
-no_key : (w : List ℕ) → IsUtf8 w → keyword_of w ≡ None → (i : ℕ) → slice_get keywords i ≡ Some (chars w) → ⊥
-no_key w u none i e =
-    let same : w ≡ chars w = sym (encodes-chars w u) ∙ encodes_low (chars w) (keyword_low i (chars w) e) in
-    position_none keywords w none i (e ∙ ap Some (sym same))
+no_key : (w : List ℕ) → IsUtf8 w → keyword_of w ≡ None → (k : Keyword) → keyword_text k ≡ chars w → ⊥
+no_key w u none k e =
+    let same : w ≡ keyword_text k = sym (encodes-chars w u) ∙ encodes_low (chars w) (keyword_low k (chars w) e) ∙ sym e in
+    let some : Some k ≡ None = sym (keyword_known k) ∙ ap keyword_of (sym same) ∙ none in cc
 
-pub word_ident : (w : List ℕ) → IsUtf8 w → keyword_of w ≡ None → length w ≤ 255 → IsToken shapes.Word (chars w) (kinds.Ident w)
+pub word_ident : (w : List ℕ) → IsUtf8 w → keyword_of w ≡ None → length w ≤ identifier_limit → IsToken shapes.Word (chars w) (kinds.Ident w)
 word_ident w u none short =
     let same = encodes-chars w u in
-    let fits : size (chars w) ≤ 255 = omega (arith, ap length same) in
+    let fits : size (chars w) ≤ identifier_limit = omega (arith, ap length same) in
     subst (λ v. IsToken shapes.Word (chars w) (kinds.Ident v)) same (ident (no_key w u none) fits)
 
-word_refused_at : (cs : List ℕ) (kind : TokenKind) → ((i : ℕ) → slice_get keywords i ≡ Some cs → ⊥) → 255 < size cs → IsToken shapes.Word cs kind → ⊥
+word_refused_at : (cs : List ℕ) (kind : TokenKind) → ((k : Keyword) → keyword_text k ≡ cs → ⊥) → identifier_limit < size cs → IsToken shapes.Word cs kind → ⊥
 word_refused_at cs _ none long (ident h l) = omega arith
-word_refused_at cs _ none long (key {i} h) = none i h
+word_refused_at cs _ none long (key {k} h) = none k h
 
-pub word_refused : (w : List ℕ) → IsUtf8 w → keyword_of w ≡ None → 255 < length w → (kind : TokenKind) → IsToken shapes.Word (chars w) kind → ⊥
+pub word_refused : (w : List ℕ) → IsUtf8 w → keyword_of w ≡ None → identifier_limit < length w → (kind : TokenKind) → IsToken shapes.Word (chars w) kind → ⊥
 word_refused w u none long kind h = word_refused_at (chars w) kind (no_key w u none) (let same = ap length (encodes-chars w u) in omega arith) h
 
 -- digits
@@ -227,7 +285,7 @@ inside bs u h =
     let count : length body ≡ length bs - 1 - 1 = omega arith in
     (omega arith, ap (λ xs. take (length bs - 1 - 1) (drop 1 xs)) whole ∙ take_at body (34 ∷ []) (length bs - 1 - 1) count)
 
-pub quoted_token : (bs v : List ℕ) → IsUtf8 bs → (h : IsPiece shapes.Quoted (chars bs)) → v ≡ value_of false (encodes (is_quoted (chars bs) h).body) → length v ≤ 255 → IsToken shapes.Quoted (chars bs) (kinds.Text v)
+pub quoted_token : (bs v : List ℕ) → IsUtf8 bs → (h : IsPiece shapes.Quoted (chars bs)) → v ≡ value_of false (encodes (is_quoted (chars bs) h).body) → length v ≤ text_limit → IsToken shapes.Quoted (chars bs) (kinds.Text v)
 quoted_token bs v u h e short =
     let is = is_quoted (chars bs) h in
     let same : encodes is.value ≡ v = sym (e ∙ value_spells is.body is.value is.spells) in
@@ -238,12 +296,12 @@ pub one_value : (body value : List ℕ) (other_body other : List ℕ) → Spells
 one_value body value other_body other s t e =
     sym (value_spells body value s) ∙ ap (λ z. value_of false (encodes z)) (append_cancel_right body other_body (34 ∷ []) e) ∙ value_spells other_body other t
 
-quoted_refused_at : (body value cs : List ℕ) (kind : TokenKind) → Spells body value → 255 < size value → 34 ∷ (body ++ 34 ∷ []) ≡ cs → IsToken shapes.Quoted cs kind → ⊥
+quoted_refused_at : (body value cs : List ℕ) (kind : TokenKind) → Spells body value → text_limit < size value → 34 ∷ (body ++ 34 ∷ []) ≡ cs → IsToken shapes.Quoted cs kind → ⊥
 quoted_refused_at body value _ _ s long e (text {body = b} {value = v} t l) =
     let tails : body ++ 34 ∷ [] ≡ b ++ 34 ∷ [] = cc in
     let same = ap length (one_value body value b v s t tails) in omega arith
 
-pub quoted_refused : (bs : List ℕ) → IsUtf8 bs → (h : IsPiece shapes.Quoted (chars bs)) → 255 < length (value_of false (encodes (is_quoted (chars bs) h).body)) → (kind : TokenKind) → IsToken shapes.Quoted (chars bs) kind → ⊥
+pub quoted_refused : (bs : List ℕ) → IsUtf8 bs → (h : IsPiece shapes.Quoted (chars bs)) → text_limit < length (value_of false (encodes (is_quoted (chars bs) h).body)) → (kind : TokenKind) → IsToken shapes.Quoted (chars bs) kind → ⊥
 quoted_refused bs u h long kind t =
     let is = is_quoted (chars bs) h in
     let same = ap length (value_spells is.body is.value is.spells) in

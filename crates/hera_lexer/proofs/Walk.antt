@@ -1,20 +1,20 @@
 -- How far a text has been cut.
-use Rattle.std.proofs.Common.{◌≡◌, ℕ, zero, suc, ◌+◌, ◌-◌, ◌<◌, ◌≤◌, List, [], ◌∷◌, ◌++◌, length, take, drop, Bool, Some, None, true, sym, refl, ap, ◌∙◌, subst, append_assoc, arith, IsUtf8}
-use Rattle.std.specs.Prelude.{slice_get, nat_lt}
+use Rattle.std.proofs.Common.{◌≡◌, ℕ, ◌+◌, ◌-◌, ◌<◌, ◌≤◌, List, [], ◌∷◌, ◌++◌, length, take, drop, Some, None, true, sym, refl, ap, ◌∙◌, subst, append_assoc, arith, IsUtf8}
 use Rattle.std.specs.Str.{chars, IsCharBoundary}
 use Rattle.std.proofs.lemmas.List.{append-nil, append_cancel_left, length-append, take_at, drop_at}
 use Rattle.std.proofs.lemmas.Str.{chars-nil, chars-encodes, encodes-chars, scalars-chars, encodes-append, length-le-encodes, IsCharBoundary-at_seam}
 use Rattle.std.proofs.Math.Utf8.{encodes, scalar, scalars}
+use Rattle.hera_syntax.specs.declared.words.Mark.{Mark}
+use Rattle.hera_syntax.specs.declared.words.Mark.TheVariants as puncts
+use Rattle.hera_syntax.specs.Words.{mark_text}
 use Rattle.hera_syntax.specs.declared.token.PieceShape.{PieceShape}
 use Rattle.hera_syntax.specs.declared.token.TokenKind.{TokenKind}
 use Rattle.hera_syntax.specs.declared.token.Token.{Token}
-use Rattle.hera_syntax.specs.Lexemes.{IsPiece, IsLongest, IsToken, IsBetween, blank, line_comment, comment, open_comment, word, digits, quoted, punct, puncts}
+use Rattle.hera_syntax.specs.Lexemes.{IsPiece, IsLongest, IsToken, IsBetween, blank, line_comment, comment, open_comment, word, digits, quoted, punct}
 use Rattle.hera_syntax.specs.Lex.{size, Cuts, Fails, IsStuck, Lex, LexFails, done, skip, keep, here}
 use Rattle.hera_lexer.specs.Scan.{scan_of}
 use Rattle.hera_lexer.proofs.Shapes.{one_shape}
-use Rattle.std.proofs.lemmas.Bool.{and_parts, and_from, ltb-true}
-use Rattle.std.proofs.lemmas.Option.{same_Some}
-use Rattle.std.specs.List.{list_all}
+use Rattle.std.proofs.lemmas.Bool.{and_parts, and_from}
 use Rattle.hera_lexer.proofs.Longest.{Found, NoPiece}
 use Rattle.hera_lexer.proofs.Scans.{Says, scan_says}
 
@@ -77,10 +77,33 @@ pub scalars_back : (xs ys : List ℕ) → scalars (xs ++ ys) ≡ true → scalar
 scalars_back [] ys h = h
 scalars_back (x ∷ xs) ys h = scalars_back xs ys (and_parts (scalar x) (scalars (xs ++ ys)) h).1
 
-all_at : (p : List ℕ → Bool) (ks : List (List ℕ)) (i : ℕ) (w : List ℕ) → list_all p ks ≡ true → slice_get ks i ≡ Some w → p w ≡ true
-all_at p [] i w h e = cc
-all_at p (k ∷ ks) zero w h e = ap p (sym (same_Some k w e)) ∙ (and_parts (p k) (list_all p ks) h).0
-all_at p (k ∷ ks) (suc i) w h e = all_at p ks i w (and_parts (p k) (list_all p ks) h).1 e
+mark_some : (m : Mark) → 0 < length (mark_text m)
+mark_some puncts.OpenParen = omega arith
+mark_some puncts.CloseParen = omega arith
+mark_some puncts.OpenSquare = omega arith
+mark_some puncts.CloseSquare = omega arith
+mark_some puncts.OpenBrace = omega arith
+mark_some puncts.CloseBrace = omega arith
+mark_some puncts.Comma = omega arith
+mark_some puncts.Semicolon = omega arith
+mark_some puncts.Colon = omega arith
+mark_some puncts.Dot = omega arith
+mark_some puncts.Equals = omega arith
+mark_some puncts.EqualEqual = omega arith
+mark_some puncts.NotEqual = omega arith
+mark_some puncts.Less = omega arith
+mark_some puncts.LessEqual = omega arith
+mark_some puncts.Greater = omega arith
+mark_some puncts.GreaterEqual = omega arith
+mark_some puncts.Plus = omega arith
+mark_some puncts.Minus = omega arith
+mark_some puncts.Star = omega arith
+mark_some puncts.Slash = omega arith
+mark_some puncts.Percent = omega arith
+mark_some puncts.Bang = omega arith
+mark_some puncts.And = omega arith
+mark_some puncts.AndAnd = omega arith
+mark_some puncts.OrOr = omega arith
 
 pub piece_some : (k : PieceShape) (p : List ℕ) → IsPiece k p → 0 < length p
 piece_some _ _ (blank h) = omega arith
@@ -90,7 +113,7 @@ piece_some _ _ (open_comment h) = omega arith
 piece_some _ _ (word w) = omega arith
 piece_some _ _ (digits h r) = omega arith
 piece_some _ _ (quoted h) = omega arith
-piece_some _ _ (punct {i} {cs} h) = ltb-true 0 (length cs) (all_at (λ q. nat_lt 0 (length q)) puncts i cs refl h)
+piece_some _ _ (punct {m} {cs} h) = subst (λ z. 0 < length z) h (mark_some m)
 
 says : (cs rest : List ℕ) → scalars cs ≡ true → encodes cs ≡ rest → 0 < length rest → Says cs (scan_of rest)
 says [] rest s e some = absurd (omega (arith, ap length e))

@@ -1,12 +1,12 @@
 -- What the readings of a piece's bytes give.
-use Rattle.std.specs.Prelude.{ℕ, List, [], ◌∷◌, Option, Bool, true, false, cond, ◌==◌}
-use Rattle.std.specs.List.{position}
+use Rattle.std.specs.Prelude.{ℕ, List, [], ◌∷◌, Option, Bool, true, false, cond, ◌==◌, find}
 use Rattle.std.specs.Str.{bytes_eq}
-use Rattle.hera_syntax.specs.Lexemes.{keywords}
+use Rattle.hera_syntax.specs.declared.words.Keyword.{Keyword}
+use Rattle.hera_syntax.specs.Words.{keyword_text, all_keywords}
 
--- the keyword's number
-abbrev pub keyword_of : List ℕ → Option ℕ
-keyword_of word = position (λ k. bytes_eq k word) keywords
+-- the keyword that is written so
+abbrev pub keyword_of : List ℕ → Option Keyword
+keyword_of word = find (λ k. bytes_eq (keyword_text k) word) all_keywords
 
 -- what a byte behind a `\` stands for
 abbrev pub escaped_byte : ℕ → ℕ

@@ -4,6 +4,8 @@ use Rattle.std.specs.List.{prefix_len, take_while}
 use Rattle.std.specs.Char.{is_ascii_digit}
 use Rattle.std.specs.Str.{encode_utf8_all, chars}
 use Rattle.unicode_ident.specs.Ident.{is_xid_continue}
+use Rattle.hera_syntax.specs.declared.words.Mark.{Mark}
+use Rattle.hera_syntax.specs.declared.words.Mark.TheVariants as puncts
 use Rattle.hera_syntax.specs.declared.token.PieceShape.{PieceShape}
 use Rattle.hera_syntax.specs.declared.token.PieceShape.TheVariants as shapes
 use Rattle.hera_meaning.specs.Identifiers.{begins_word}
@@ -37,25 +39,25 @@ abbrev pub word_of : Option ℕ → List ℕ → Option (PieceShape × ℕ)
 word_of None bs = None
 word_of (Some c) bs = cond (begins_word c) (Some (shapes.Word, word_len bs)) None
 
-abbrev pub two_mark : ℕ → ℕ → Option ℕ
+abbrev pub two_mark : ℕ → ℕ → Option Mark
 two_mark a b =
-    cond ((a == 61) && (b == 61)) (Some 11)
-    (cond ((a == 33) && (b == 61)) (Some 12)
-    (cond ((a == 60) && (b == 61)) (Some 14)
-    (cond ((a == 62) && (b == 61)) (Some 16)
-    (cond ((a == 38) && (b == 38)) (Some 24)
-    (cond ((a == 124) && (b == 124)) (Some 25) None)))))
+    cond ((a == 61) && (b == 61)) (Some puncts.EqualEqual)
+    (cond ((a == 33) && (b == 61)) (Some puncts.NotEqual)
+    (cond ((a == 60) && (b == 61)) (Some puncts.LessEqual)
+    (cond ((a == 62) && (b == 61)) (Some puncts.GreaterEqual)
+    (cond ((a == 38) && (b == 38)) (Some puncts.AndAnd)
+    (cond ((a == 124) && (b == 124)) (Some puncts.OrOr) None)))))
 
-abbrev pub one_mark : ℕ → Option ℕ
+abbrev pub one_mark : ℕ → Option Mark
 one_mark a =
-    cond (a == 40) (Some 0) (cond (a == 41) (Some 1) (cond (a == 91) (Some 2) (cond (a == 93) (Some 3) (cond (a == 123) (Some 4) (cond (a == 125) (Some 5)
-    (cond (a == 44) (Some 6) (cond (a == 59) (Some 7) (cond (a == 58) (Some 8) (cond (a == 46) (Some 9) (cond (a == 61) (Some 10) (cond (a == 60) (Some 13)
-    (cond (a == 62) (Some 15) (cond (a == 43) (Some 17) (cond (a == 45) (Some 18) (cond (a == 42) (Some 19) (cond (a == 47) (Some 20) (cond (a == 37) (Some 21)
-    (cond (a == 33) (Some 22) (cond (a == 38) (Some 23) None)))))))))))))))))))
+    cond (a == 40) (Some puncts.OpenParen) (cond (a == 41) (Some puncts.CloseParen) (cond (a == 91) (Some puncts.OpenSquare) (cond (a == 93) (Some puncts.CloseSquare) (cond (a == 123) (Some puncts.OpenBrace) (cond (a == 125) (Some puncts.CloseBrace)
+    (cond (a == 44) (Some puncts.Comma) (cond (a == 59) (Some puncts.Semicolon) (cond (a == 58) (Some puncts.Colon) (cond (a == 46) (Some puncts.Dot) (cond (a == 61) (Some puncts.Equals) (cond (a == 60) (Some puncts.Less)
+    (cond (a == 62) (Some puncts.Greater) (cond (a == 43) (Some puncts.Plus) (cond (a == 45) (Some puncts.Minus) (cond (a == 42) (Some puncts.Star) (cond (a == 47) (Some puncts.Slash) (cond (a == 37) (Some puncts.Percent)
+    (cond (a == 33) (Some puncts.Bang) (cond (a == 38) (Some puncts.And) None)))))))))))))))))))
 
-abbrev pub mark_of : Option ℕ → Option ℕ → Option (PieceShape × ℕ) → Option (PieceShape × ℕ)
-mark_of (Some i) one otherwise = Some (shapes.Punct i, 2)
-mark_of None (Some i) otherwise = Some (shapes.Punct i, 1)
+abbrev pub mark_of : Option Mark → Option Mark → Option (PieceShape × ℕ) → Option (PieceShape × ℕ)
+mark_of (Some m) one otherwise = Some (shapes.Punct m, 2)
+mark_of None (Some m) otherwise = Some (shapes.Punct m, 1)
 mark_of None None otherwise = otherwise
 
 abbrev pub comment_of : Option ℕ → ℕ → Option (PieceShape × ℕ)

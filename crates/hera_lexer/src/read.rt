@@ -6,7 +6,7 @@ ghost use Rattle.hera_lexer.specs.Read.{value_of};
 ghost use Rattle.hera_lexer.specs.Reads.{Reads};
 
 use crate::keyword::keyword;
-use hera_meaning::Text;
+use hera_meaning::{NAME_LIMIT, TEXT_LIMIT, Text};
 use hera_syntax::{PieceShape, TokenKind};
 use std::alloc::{AllocError, Global};
 
@@ -26,12 +26,6 @@ fn number(digits: &str) -> Option<i64>
 {
     digits.parse::<i64>().ok()
 }
-
-/// The most bytes of a text's value.
-pub const TEXT_LIMIT: usize = 255;
-
-/// The most bytes of an identifier.
-pub const NAME_LIMIT: usize = 255;
 
 /// The text of bytes that are one. So memory alone can be wanting.
 fn text_of(alloc: Global, bytes: &[u8]) -> Result<Text, AllocError>
@@ -75,8 +69,8 @@ fn read_word(alloc: Global, word: &str) -> Result<Reading, AllocError>
     requires { IsPiece PieceShape.Word (chars word.now) }
     ensures { IfOk result (λ r. Reads PieceShape.Word (chars word.now) r) }
 {
-    if let Some(i) = keyword(word) {
-        return Ok(Reading::Kept(TokenKind::Key(i)));
+    if let Some(keyword) = keyword(word) {
+        return Ok(Reading::Kept(TokenKind::Key(keyword)));
     }
     if word.len() > NAME_LIMIT {
         return Ok(Reading::Refused);
@@ -120,6 +114,6 @@ pub fn read(alloc: Global, shape: PieceShape, piece: &str) -> Result<Reading, Al
         PieceShape::Word => read_word(alloc, piece),
         PieceShape::Digits => Ok(read_digits(piece)),
         PieceShape::Quoted => read_quoted(alloc, piece),
-        PieceShape::Punct(i) => Ok(Reading::Kept(TokenKind::Punct(i))),
+        PieceShape::Punct(mark) => Ok(Reading::Kept(TokenKind::Punct(mark))),
     }
 }

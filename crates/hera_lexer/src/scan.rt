@@ -4,7 +4,7 @@ ghost use Rattle.std.specs.List.{prefix_len};
 ghost use Rattle.std.specs.Char.{is_ascii_digit};
 ghost use Rattle.hera_lexer.specs.Scan.{line_len, comment_len, quoted_len, word_len, two_mark, one_mark, word_of, scan_of};
 
-use hera_syntax::PieceShape;
+use hera_syntax::{Mark, PieceShape};
 
 /// How many bytes stand before the line feed.
 fn line_len(bytes: &[u8]) -> usize
@@ -87,46 +87,46 @@ fn word(text: &str) -> Option<(PieceShape, usize)>
     }
 }
 
-/// The number of a punctuation of two characters.
-fn two_mark(a: u8, b: u8) -> Option<u8>
+/// The punctuation of two characters.
+fn two_mark(a: u8, b: u8) -> Option<Mark>
     ensures { result ≡ two_mark a b }
 {
     match (a, b) {
-        (b'=', b'=') => Some(11),
-        (b'!', b'=') => Some(12),
-        (b'<', b'=') => Some(14),
-        (b'>', b'=') => Some(16),
-        (b'&', b'&') => Some(24),
-        (b'|', b'|') => Some(25),
+        (b'=', b'=') => Some(Mark::EqualEqual),
+        (b'!', b'=') => Some(Mark::NotEqual),
+        (b'<', b'=') => Some(Mark::LessEqual),
+        (b'>', b'=') => Some(Mark::GreaterEqual),
+        (b'&', b'&') => Some(Mark::AndAnd),
+        (b'|', b'|') => Some(Mark::OrOr),
         _ => None,
     }
 }
 
-/// The number of a punctuation of one character.
-fn one_mark(a: u8) -> Option<u8>
+/// The punctuation of one character.
+fn one_mark(a: u8) -> Option<Mark>
     ensures { result ≡ one_mark a }
 {
     match a {
-        b'(' => Some(0),
-        b')' => Some(1),
-        b'[' => Some(2),
-        b']' => Some(3),
-        b'{' => Some(4),
-        b'}' => Some(5),
-        b',' => Some(6),
-        b';' => Some(7),
-        b':' => Some(8),
-        b'.' => Some(9),
-        b'=' => Some(10),
-        b'<' => Some(13),
-        b'>' => Some(15),
-        b'+' => Some(17),
-        b'-' => Some(18),
-        b'*' => Some(19),
-        b'/' => Some(20),
-        b'%' => Some(21),
-        b'!' => Some(22),
-        b'&' => Some(23),
+        b'(' => Some(Mark::OpenParen),
+        b')' => Some(Mark::CloseParen),
+        b'[' => Some(Mark::OpenSquare),
+        b']' => Some(Mark::CloseSquare),
+        b'{' => Some(Mark::OpenBrace),
+        b'}' => Some(Mark::CloseBrace),
+        b',' => Some(Mark::Comma),
+        b';' => Some(Mark::Semicolon),
+        b':' => Some(Mark::Colon),
+        b'.' => Some(Mark::Dot),
+        b'=' => Some(Mark::Equals),
+        b'<' => Some(Mark::Less),
+        b'>' => Some(Mark::Greater),
+        b'+' => Some(Mark::Plus),
+        b'-' => Some(Mark::Minus),
+        b'*' => Some(Mark::Star),
+        b'/' => Some(Mark::Slash),
+        b'%' => Some(Mark::Percent),
+        b'!' => Some(Mark::Bang),
+        b'&' => Some(Mark::And),
         _ => None,
     }
 }
@@ -150,8 +150,8 @@ pub fn scan(text: &str) -> Option<(PieceShape, usize)>
             Some(len) => Some((PieceShape::Quoted, len + 2)),
             None => None,
         },
-        [a, b, ..] if let Some(i) = two_mark(*a, *b) => Some((PieceShape::Punct(i), 2)),
-        [a, ..] if let Some(i) = one_mark(*a) => Some((PieceShape::Punct(i), 1)),
+        [a, b, ..] if let Some(mark) = two_mark(*a, *b) => { Some((PieceShape::Punct(mark), 2)) },
+        [a, ..] if let Some(mark) = one_mark(*a) => Some((PieceShape::Punct(mark), 1)),
         _ => word(text),
     }
 }

@@ -8,7 +8,7 @@ ghost use Rattle.hera_lexer.specs.declared.script.LexFault.{LexFault};
 
 use crate::read::{Reading, read};
 use crate::scan::scan;
-use hera_syntax::{Token, TokenKind, Tokens};
+use hera_syntax::{DEPTH_LIMIT, Mark, Token, TokenKind, Tokens};
 use std::alloc::{AllocError, AllocFailed, Global};
 use thiserror::Error;
 
@@ -89,27 +89,29 @@ fn tokens_of(alloc: Global, text: &str) -> Result<Vec<Token>, LexFault>
     Ok(tokens)
 }
 
-/// Where the depth first passes 64.
+/// Where the depth first passes its limit.
 fn too_deep(tokens: &[Token]) -> Option<u32>
     ensures { result ≡ deep_at 0 tokens.now }
 {
     let mut depth = 0u32;
     for token in tokens {
         match token.kind {
-            TokenKind::Punct(0 | 2 | 4) => {
-                if depth == 64 {
+            TokenKind::Punct(Mark::OpenParen | Mark::OpenSquare | Mark::OpenBrace) => {
+                if depth == DEPTH_LIMIT {
                     return Some(token.at);
                 }
                 depth += 1;
             }
-            TokenKind::Punct(1 | 3 | 5) => depth = depth.saturating_sub(1),
+            TokenKind::Punct(Mark::CloseParen | Mark::CloseSquare | Mark::CloseBrace) => {
+                depth = depth.saturating_sub(1);
+            }
             _ => {}
         }
     }
     None
 }
 
-/// The tokens of a script of at most 1,048,576 bytes, or why there are none.
+/// The tokens of a script of at most `SCRIPT_LIMIT` bytes, or why there are none.
 ///
 /// A script is UTF-8. At each place the longest piece that matches is taken. Blanks and comments stand
 /// between tokens. `Ok` has exactly the tokens that the script is cut into, and its length.

@@ -1,5 +1,5 @@
 use crate::{LexFault, lex};
-use hera_syntax::{Token, TokenKind};
+use hera_syntax::{SCRIPT_LIMIT, Token, TokenKind};
 use std::alloc::{AllocError, Global};
 use std::process::Abort;
 use std::test::Fail;
@@ -10,14 +10,14 @@ fn spelled(alloc: Global, token: &Token) -> Result<String, AllocError> {
         TokenKind::Ident(name) => format!(in alloc; "i{}@{} ", name.bytes().len(), token.at),
         TokenKind::Int(value) => format!(in alloc; "n{}@{} ", value, token.at),
         TokenKind::Text(text) => format!(in alloc; "t{}@{} ", text.bytes().len(), token.at),
-        TokenKind::Key(number) => format!(in alloc; "k{}@{} ", number, token.at),
-        TokenKind::Punct(number) => format!(in alloc; "p{}@{} ", number, token.at),
+        TokenKind::Key(keyword) => format!(in alloc; "{:?}@{} ", keyword, token.at),
+        TokenKind::Punct(mark) => format!(in alloc; "{:?}@{} ", mark, token.at),
     }
 }
 
 /// Compares the tokens of a script, each as text.
 fn reads(rt: &impl Abort, alloc: Global, script: &[u8], text: &str) -> Result<(), AllocError> {
-    assert!(rt; script.len() <= 1_048_576);
+    assert!(rt; script.len() <= SCRIPT_LIMIT);
     let mut all = String::new(alloc);
     match lex(alloc, script) {
         Ok(tokens) => {
@@ -33,7 +33,7 @@ fn reads(rt: &impl Abort, alloc: Global, script: &[u8], text: &str) -> Result<()
 
 /// Compares the refusal of a script.
 fn refuses(rt: &impl Abort, alloc: Global, script: &[u8], fault: LexFault) {
-    assert!(rt; script.len() <= 1_048_576);
+    assert!(rt; script.len() <= SCRIPT_LIMIT);
     match lex(alloc, script) {
         Ok(_) => assert!(rt; false),
         Err(found) => assert!(rt; found == fault),
@@ -62,25 +62,28 @@ fn scripts_are_cut_into_tokens(rt: HostRuntime) -> Result<(), Fail> {
         (b" \t\n\r", ""),
         (b"1 // c", "n1@0 "),
         (b"/* a */2/**/", "n2@7 "),
-        (b"< <= == = =>", "p13@0 p14@2 p11@5 p10@8 p10@10 p15@11 "),
+        (
+            b"< <= == = =>",
+            "Less@0 LessEqual@2 EqualEqual@5 Equals@8 Equals@10 Greater@11 ",
+        ),
         (
             b"&&& || != >= ! > &",
-            "p24@0 p23@2 p25@4 p12@7 p16@10 p22@13 p15@15 p23@17 ",
+            "AndAnd@0 And@2 OrOr@4 NotEqual@7 GreaterEqual@10 Bang@13 Greater@15 And@17 ",
         ),
         (
             b"()[]{},;:.+-*/%",
-            "p0@0 p1@1 p2@2 p3@3 p4@4 p5@5 p6@6 p7@7 p8@8 p9@9 p17@10 p18@11 p19@12 p20@13 p21@14 ",
+            "OpenParen@0 CloseParen@1 OpenSquare@2 CloseSquare@3 OpenBrace@4 CloseBrace@5 Comma@6 Semicolon@7 Colon@8 Dot@9 Plus@10 Minus@11 Star@12 Slash@13 Percent@14 ",
         ),
         (b"9223372036854775807 007", "n9223372036854775807@0 n7@20 "),
         (b"\"a\\\"\\\\\\n\\t\"", "t5@0 "),
         (b"_x \xc3\xa9t\xc3\xa9 main1", "i2@0 i5@3 i5@9 "),
         (
             b"relation func proc main int bool text delta rel tuple if else while foreach in print apply commit rollback assert return true false",
-            "k0@0 k1@9 k2@14 k3@19 k4@24 k5@28 k6@33 k7@38 k8@44 k9@48 k10@54 k11@57 k12@62 k13@68 k14@76 k15@79 k16@85 k17@91 k18@98 k19@107 k20@114 k21@121 k22@126 ",
+            "Relation@0 Func@9 Proc@14 Main@19 Int@24 Bool@28 Text@33 Delta@38 Rel@44 Tuple@48 If@54 Else@57 While@62 Foreach@68 In@76 Print@79 Apply@85 Commit@91 Rollback@98 Assert@107 Return@114 True@121 False@126 ",
         ),
         (
             b"fail when rows select map project rename union minus inter join group by count empty sum min max isfail bulk ins del",
-            "k23@0 k24@5 k25@10 k26@15 k27@22 k28@26 k29@34 k30@41 k31@47 k32@53 k33@59 k34@64 k35@70 k36@73 k37@79 k38@85 k39@89 k40@93 k41@97 k42@104 k43@109 k44@113 ",
+            "Fail@0 When@5 Rows@10 Select@15 Map@22 Project@26 Rename@34 Union@41 Minus@47 Inter@53 Join@59 Group@64 By@70 Count@73 Empty@79 Sum@85 Min@89 Max@93 IsFail@97 Bulk@104 Ins@109 Del@113 ",
         ),
     ];
     for (script, text) in rows {
@@ -110,9 +113,9 @@ fn scripts_are_refused_at_their_place(rt: HostRuntime) -> Result<(), Fail> {
 #[test]
 fn limits_are_kept(rt: HostRuntime) -> Result<(), Fail> {
     let alloc = rt.alloc();
-    let text = row_of(alloc, b"\"", b'a', 255, b"\"")?;
-    reads(&rt, alloc, &text, "t255@0 ")?;
-    let text = row_of(alloc, b"\"", b'a', 256, b"\"")?;
+    let text = row_of(alloc, b"\"", b'a', 1023, b"\"")?;
+    reads(&rt, alloc, &text, "t1023@0 ")?;
+    let text = row_of(alloc, b"\"", b'a', 1024, b"\"")?;
     refuses(&rt, alloc, &text, LexFault::BadToken { at: 0 });
     let name = row_of(alloc, b"", b'a', 255, b"")?;
     reads(&rt, alloc, &name, "i255@0 ")?;
@@ -121,7 +124,7 @@ fn limits_are_kept(rt: HostRuntime) -> Result<(), Fail> {
     let brackets = row_of(alloc, b")", b'(', 65, b"")?;
     refuses(&rt, alloc, &brackets, LexFault::TooDeep { at: 65 });
     let brackets = row_of(alloc, b"]", b'[', 64, b")]{")?;
-    assert!(rt; brackets.len() <= 1_048_576);
+    assert!(rt; brackets.len() <= SCRIPT_LIMIT);
     assert!(rt; lex(alloc, &brackets).is_ok());
     Ok(())
 }

@@ -37,6 +37,8 @@ module _ (r : Result Event AllocError) (old gone mid new : Standing) (code : gon
       (subst (λ (m : Machine). IfOk r (IsNearer (length old.code.instrs) m new.state)) state
       (subst (λ (k : Code). IfOk r (IsNearer (length k.instrs) mid.state new.state)) (same_code ∙ code) h))
 
--- a step of the machine that this is
-pub stepped : (hosts : Hosts) (s : State) (m old : Standing) (t : Step) → m ≡ old → t ≡ code_step m.code m.relations hosts s (machine_over s m) → t ≡ code_step old.code old.relations hosts s (machine_over s old)
-stepped hosts s m old t same h = h ∙ ap (λ (x : Standing). code_step x.code x.relations hosts s (machine_over s x)) same
+-- a step of the machine that this is, over the state that it is
+pub stepped : (hosts : Hosts) (r s : State) (m old : Standing) (t : State → Step) → m ≡ old → r ≡ s → t r ≡ code_step m.code m.relations hosts r (machine_over r m) → t s ≡ code_step old.code old.relations hosts s (machine_over s old)
+stepped hosts r s m old t same over h =
+    subst (λ (z : State). t z ≡ code_step old.code old.relations hosts z (machine_over z old)) over
+    (h ∙ ap (λ (x : Standing). code_step x.code x.relations hosts r (machine_over r x)) same)

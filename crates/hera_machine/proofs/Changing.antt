@@ -13,14 +13,14 @@ use Rattle.hera_frames.proofs.Upheld.{Agree, items_agree, walks_agree, frames_ag
 use Rattle.hera_machine.specs.Working.{Work, machine_at, NameNone, NamesNothing}
 
 abbrev pub branches_of : Work → Branches
-branches_of w = record { layers = w.layers; tip = w.tip }
+branches_of w = record { catalogue = w.relations; layers = w.layers; tip = w.tip }
 
 module _ (s : State) (w : Work) (floor : ℕ) (names : Bool) where
   abbrev pub Holds : Type 0
   Holds = IsUpheld (branches_of w) w.own floor w.operands w.walks names w.callers
 
   -- behind fewer layers it is the same machine of the code
-  pub released : (c : Branches) → c ≡ record { layers = lowest (needed (branches_of w) w.own floor w.operands w.walks names w.callers) w.layers; tip = w.tip } → Holds →
+  pub released : (c : Branches) → c ≡ record { catalogue = w.relations; layers = lowest (needed (branches_of w) w.own floor w.operands w.walks names w.callers) w.layers; tip = w.tip } → Holds →
       machine_at s (record w { layers = c.layers; tip = c.tip }) ≡ machine_at s w
   released c e u =
       let n : ℕ = needed (branches_of w) w.own floor w.operands w.walks names w.callers in

@@ -9,3 +9,6 @@ pub mod Advancing
 pub mod Quietly
 pub mod Walked
 pub mod Calling
+pub mod Smashed
+pub mod Storing
+pub mod Sights

@@ -1,5 +1,7 @@
 -- What an instruction tells, from a committed state.
-use Rattle.std.specs.Prelude.{ℕ}
+use Rattle.std.specs.Prelude.{◌≡◌, ℕ, true, List}
+use Rattle.hera_meaning.specs.declared.schemas.RelDecl.{RelDecl}
+use Rattle.hera_meaning.specs.Fits.{is_delta_of}
 use Rattle.hera_meaning.specs.Deltas.{State, apply_of}
 use Rattle.hera_code.specs.Machine.{Machine, Step, quiet, says, commits, ends}
 use Rattle.hera_machine.specs.declared.events.Told.{Told}
@@ -21,3 +23,10 @@ TellsNearer l old new Quiet = IsLower l old new
 TellsNearer l old new (Out line) = IsLower l old new
 TellsNearer l old new (Commit d) = IsLower l old new
 TellsNearer l old new (Ended end) = Unit {0}
+
+-- a delta that is stored names relations of the program, and holds rows of them
+abbrev pub TellsKnown : List RelDecl → Told → Type 0
+TellsKnown rels Quiet = Unit {0}
+TellsKnown rels (Out line) = Unit {0}
+TellsKnown rels (Commit d) = is_delta_of rels d ≡ true
+TellsKnown rels (Ended end) = Unit {0}

@@ -1,5 +1,6 @@
 -- A machine at work, and the machine of the code for which it stands over a committed state.
 use Rattle.std.specs.Prelude.{ℕ, List, [], ◌∷◌, map}
+use Rattle.hera_meaning.specs.declared.schemas.RelDecl.{RelDecl}
 use Rattle.hera_meaning.specs.Deltas.{State}
 use Rattle.hera_meaning.specs.Values.{Value}
 use Rattle.hera_code.specs.Machine.{Machine}
@@ -12,13 +13,14 @@ use Rattle.hera_frames.specs.Waiting.{frame_at, NamesNone}
 
 -- as the machine of the code, but operands and walks may name a relation as it is under a layer; all layers,
 -- and the number of the one under which the running frame reads; and how many further operands have their
--- place
+-- place; relations are those that the layers may name
 pub record Work : Type 0 where
   pub at : ℕ
   pub operands : List Item
   pub spare : ℕ
   pub locals : List Value
   pub walks : List Pace
+  pub relations : List RelDecl
   pub layers : List Layer
   pub tip : ℕ
   pub own : ℕ

@@ -1,6 +1,8 @@
 //! A machine that runs a program's code.
 ghost use Rattle.std.specs.Prelude.{◌≡◌, ◌≢◌, ◌≤◌, [], true, Some, None, IfOk, IsErr, IsOk, OnOk, OnErr, length, slice_get};
+ghost use Rattle.std.specs.List.{list_all};
 ghost use Rattle.hera_meaning.specs.Deltas.{State};
+ghost use Rattle.hera_meaning.specs.Fits.{is_delta_of};
 ghost use Rattle.hera_meaning.specs.Hosts.{Hosts};
 ghost use Rattle.hera_host.specs.Tables.{specs_of};
 ghost use Rattle.hera_code.specs.Forward.{Forward};
@@ -20,25 +22,28 @@ use hera_meaning::RelDecl;
 use rel_pages::Base;
 use std::alloc::{AllocError, Global};
 use std::marker::Model;
+use when_overlay::Stored;
 
 /// A machine that runs a program's code.
 #[derive(Drop)]
 pub struct Machine<'c> {
     code: &'c Code,
-    relations: &'c [RelDecl],
-    work: Running,
+    work: Running<'c>,
     status: Status,
     waiting: Option<Delta>,
 }
 
 impl<'c> Model for Machine<'c> {
-    ghost use Rattle.std.specs.Prelude.{[]};
+    ghost use Rattle.std.specs.Prelude.{[], ◌≡◌, true, IfSome};
+    ghost use Rattle.hera_meaning.specs.Fits.{is_delta_of};
     ghost use Rattle.hera_machine.specs.Working.{machine_at};
     ghost use Rattle.hera_machine.specs.Standing.{Standing};
 
     ghost Value = { Standing };
 
-    ghost view = { λ m. record { code = m.code.now; relations = m.relations.now; work = m.work; state = machine_at [] m.work; spare = m.work.spare; status = m.status; waits = m.waiting } };
+    ghost view = { λ m. record { code = m.code.now; relations = m.work.relations; work = m.work; state = machine_at [] m.work; spare = m.work.spare; status = m.status; waits = m.waiting } };
+
+    ghost invariant = { λ m. IfSome m.waiting (λ d. is_delta_of m.work.relations d ≡ true) };
 }
 
 impl<'c> Machine<'c> {
@@ -61,8 +66,7 @@ impl<'c> Machine<'c> {
         };
         Ok(Machine {
             code,
-            relations,
-            work: Running::start(alloc, slots, turns)?,
+            work: Running::start(alloc, relations, slots, turns)?,
             status: Status::Working,
             waiting: None,
         })
@@ -85,7 +89,8 @@ impl<'c> Machine<'c> {
 
     /// Executes one instruction, over the base's state after the commits.
     ///
-    /// After an end it answers the same again, and after want of memory want of memory. Each delta of
+    /// Each commit is a delta of the base's catalogue, so that no row has to be looked at to know its kinds. After
+    /// an end it answers the same again, and after want of memory want of memory. Each delta of
     /// a commit has to be taken before the next step. It takes no memory where it leaves a layer, counts
     /// the tuples of a relation, or asks whether it has any or one; nor where it names a relation and
     /// there is the place for one more operand.
@@ -95,7 +100,8 @@ impl<'c> Machine<'c> {
         commits: &[Delta],
         hosts: &HostTable,
     ) -> Result<Event, AllocError>
-        requires { self.old.waits ≡ None }
+        requires waits { self.old.waits ≡ None }
+        requires commits { list_all (is_delta_of base.now.catalogue) commits.now ≡ true }
         ensures steps { self.old.status ≡ Status.Working → let stored = state_over base.now.state commits.now in IfOk result (λ e. event_over stored e self.new ≡ code_step self.old.code self.old.relations (specs_of hosts.now.names) stored (machine_over stored self.old)) }
         ensures no_copy { self.old.status ≡ Status.Working → is_sparing self.old.spare (slice_get self.old.code.instrs self.old.state.at) ≡ true → IsOk result }
         ensures nearer { Forward self.old.code → IfOk result (IsNearer (length self.old.code.instrs) self.old.state self.new.state) }
@@ -112,8 +118,7 @@ impl<'c> Machine<'c> {
             Status::Working => {}
         }
         let code = self.code;
-        let relations = self.relations;
-        match self.work.one(code, relations, base, commits, hosts) {
+        match self.work.one(code, &Stored::new(base, commits), hosts) {
             Err(e) => {
                 self.status = Status::GaveUp;
                 Err(e)
@@ -133,8 +138,8 @@ impl<'c> Machine<'c> {
 
     /// Executes the instructions at hand that have the quick way, 12,288 at most. It stops in front of one for
     /// which memory is refused.
-    fn hurry(&mut self, base: &Base, commits: &[Delta])
-        ensures quietly { self.old.status ≡ Status.Working → (hosts : Hosts) → let s = state_over base.now.state commits.now in GoesQuietly self.old.code self.old.relations hosts s (machine_over s self.old) (machine_over s self.new) }
+    fn hurry(&mut self, stored: &Stored<'_>)
+        ensures quietly { self.old.status ≡ Status.Working → (hosts : Hosts) → let s = stored.now.state in GoesQuietly self.old.code self.old.relations hosts s (machine_over s self.old) (machine_over s self.new) }
         ensures less { Forward self.old.code → left (length self.old.code.instrs) self.new.state ≤ left (length self.old.code.instrs) self.old.state }
         ensures status { self.new.status ≡ self.old.status }
         ensures waits { self.new.waits ≡ self.old.waits }
@@ -142,7 +147,7 @@ impl<'c> Machine<'c> {
         ensures relations { self.new.relations ≡ self.old.relations }
     {
         if let Status::Working = self.status {
-            self.work.hurry(self.code, base, commits);
+            self.work.hurry(self.code, stored);
         }
     }
 
@@ -155,7 +160,8 @@ impl<'c> Machine<'c> {
         commits: &[Delta],
         hosts: &HostTable,
     ) -> Result<Event, AllocError>
-        requires { self.old.waits ≡ None }
+        requires waits { self.old.waits ≡ None }
+        requires commits { list_all (is_delta_of base.now.catalogue) commits.now ≡ true }
         ensures tells { self.old.status ≡ Status.Working → let stored = state_over base.now.state commits.now in IfOk result (λ e. Tells self.old.code self.old.relations (specs_of hosts.now.names) stored e self.old self.new) }
         ensures less { Forward self.old.code → IfOk result (IsLess (length self.old.code.instrs) self.old.state self.new.state) }
         ensures status { IfOk result (λ e. self.new.status ≡ status_by e) }
@@ -163,7 +169,7 @@ impl<'c> Machine<'c> {
         ensures code { self.new.code ≡ self.old.code }
         ensures relations { self.new.relations ≡ self.old.relations }
     {
-        self.hurry(base, commits);
+        self.hurry(&Stored::new(base, commits));
         self.reserve(1)?;
         self.step(base, commits, hosts)
     }
@@ -172,6 +178,7 @@ impl<'c> Machine<'c> {
     pub fn take_pending(&mut self) -> Delta
         requires { self.old.waits ≢ None }
         ensures delta { self.old.waits ≡ Some result }
+        ensures known { is_delta_of self.old.relations result ≡ true }
         ensures taken { self.new ≡ record self.old { waits = None } }
     {
         match self.waiting.take() {

@@ -9,7 +9,7 @@ ghost use Rattle.hera_code.specs.Machine as machine;
 ghost use Rattle.hera_code.specs.Machine.{code_step};
 ghost use Rattle.hera_machine.specs.Over.{state_over};
 ghost use Rattle.hera_machine.specs.Sparing.{is_sparing};
-ghost use Rattle.hera_machine.specs.Telling.{step_at, TellsNearer};
+ghost use Rattle.hera_machine.specs.Telling.{step_at, TellsNearer, TellsKnown};
 ghost use Rattle.hera_machine.specs.Working.{machine_at};
 
 mod calls;
@@ -30,19 +30,19 @@ use hera_code::{Code, Instr};
 use hera_frames::{Callers, Changes, Locals, Operands, Stack, Walk, release};
 use hera_host::HostTable;
 use hera_meaning::RelDecl;
-use rel_pages::Base;
 use std::alloc::{AllocError, Global};
 use std::marker::Model;
+use when_overlay::Stored;
 
 /// A machine at work.
 #[derive(Drop)]
-pub(crate) struct Running {
+pub(crate) struct Running<'c> {
     alloc: Global,
     at: usize,
     operands: Operands,
     locals: Locals,
     walks: Stack<Walk>,
-    changes: Changes,
+    changes: Changes<'c>,
     /// How many of the layers under which the running frame reads it has pushed itself.
     own: usize,
     /// The number of the first layer that no frame that waits names.
@@ -53,7 +53,7 @@ pub(crate) struct Running {
     turns: u64,
 }
 
-impl Model for Running {
+impl<'c> Model for Running<'c> {
     ghost use Rattle.hera_machine.specs.Working.{Work};
     ghost use Rattle.hera_frames.specs.Waiting.{IsUpheld};
 
@@ -65,6 +65,7 @@ impl Model for Running {
       spare = r.operands.spare;
       locals = r.locals;
       walks = r.walks;
+      relations = r.changes.catalogue;
       layers = r.changes.layers;
       tip = r.changes.tip;
       own = r.own;
@@ -82,10 +83,16 @@ fn stuck() -> Result<Told, AllocError>
     Ok(Told::Ended(End::Stuck))
 }
 
-impl Running {
+impl<'c> Running<'c> {
     /// The machine as main starts.
-    pub(crate) fn start(alloc: Global, slots: u32, turns: u64) -> Result<Running, AllocError>
-        ensures { IfOk result (λ r. (s : State) → machine_at s r ≡ record { at = 0; operands = []; locals = locals_from slots []; walks = []; layers = []; own = 0; callers = []; pending = atoms []; turns = turns }) }
+    pub(crate) fn start(
+        alloc: Global,
+        relations: &'c [RelDecl],
+        slots: u32,
+        turns: u64,
+    ) -> Result<Running<'c>, AllocError>
+        ensures relations { IfOk result (λ r. r.relations ≡ relations.entry.now) }
+        ensures start { IfOk result (λ r. (s : State) → machine_at s r ≡ record { at = 0; operands = []; locals = locals_from slots []; walks = []; layers = []; own = 0; callers = []; pending = atoms []; turns = turns }) }
     {
         Ok(Running {
             alloc,
@@ -93,7 +100,7 @@ impl Running {
             operands: Operands::new(alloc),
             locals: Locals::start(alloc, slots)?,
             walks: Stack::new(alloc),
-            changes: Changes::new(alloc)?,
+            changes: Changes::new(alloc, relations)?,
             own: 0,
             floor: 0,
             callers: Callers::new(alloc),
@@ -116,20 +123,21 @@ impl Running {
     pub(crate) fn one(
         &mut self,
         code: &Code,
-        relations: &[RelDecl],
-        base: &Base,
-        commits: &[Delta],
+        stored: &Stored<'_>,
         hosts: &HostTable,
     ) -> Result<Told, AllocError>
-        ensures steps { let s = state_over base.now.state commits.now in IfOk result (λ told. step_at s told self.new ≡ code_step code.now relations.now (specs_of hosts.now.names) s (machine_at s self.old)) }
+        ensures steps { let s = stored.now.state in IfOk result (λ told. step_at s told self.new ≡ code_step code.now self.old.relations (specs_of hosts.now.names) s (machine_at s self.old)) }
         ensures no_copy { is_sparing self.old.spare (slice_get code.now.instrs self.old.at) ≡ true → IsOk result }
         ensures nearer { Forward code.now → IfOk result (TellsNearer (length code.now.instrs) (machine_at [] self.old) (machine_at [] self.new)) }
+        ensures known { IfOk result (TellsKnown self.old.relations) }
+        ensures relations { self.new.relations ≡ self.old.relations }
     {
-        // for the proof alone: addresses of code are below 2^64 - 1
+        // for the proof alone: addresses of code are below 2^64 - 1, and the pending delta is of the relations
         let _len = code.instrs.len();
+        let _count = self.changes.len();
         match code.instrs.get(self.at) {
             None => Ok(Told::Ended(End::Stuck)),
-            Some(instr) => self.execute(instr, code, relations, base, commits, hosts),
+            Some(instr) => self.execute(instr, code, stored, hosts),
         }
     }
 
@@ -138,23 +146,23 @@ impl Running {
         &mut self,
         instr: &Instr,
         code: &Code,
-        relations: &[RelDecl],
-        base: &Base,
-        commits: &[Delta],
+        stored: &Stored<'_>,
         hosts: &HostTable,
     ) -> Result<Told, AllocError>
         requires next { self.old.at + 1 < 2 ^ 64 }
-        ensures act { let s = state_over base.now.state commits.now in IfOk result (λ told. step_at s told self.new ≡ machine.act code.now relations.now (specs_of hosts.now.names) (Some instr.now) s (machine_at s self.old)) }
+        ensures act { let s = stored.now.state in IfOk result (λ told. step_at s told self.new ≡ machine.act code.now self.old.relations (specs_of hosts.now.names) (Some instr.now) s (machine_at s self.old)) }
         ensures no_copy { is_sparing self.old.spare (Some instr.now) ≡ true → IsOk result }
+        ensures relations { self.new.relations ≡ self.old.relations }
     {
-        let told = self.act(instr, code, relations, base, commits, hosts)?;
+        let told = self.act(instr, code, stored, hosts)?;
         self.release();
         Ok(told)
     }
 
     /// Drops the newest layers that nothing names any more. It takes no memory.
     fn release(&mut self)
-        ensures { (s : State) → machine_at s self.new ≡ machine_at s self.old }
+        ensures step { (s : State) → machine_at s self.new ≡ machine_at s self.old }
+        ensures relations { self.new.relations ≡ self.old.relations }
     {
         release(&mut self.changes, self.floor, &self.operands, &self.walks);
     }
@@ -164,40 +172,39 @@ impl Running {
         &mut self,
         instr: &Instr,
         code: &Code,
-        relations: &[RelDecl],
-        base: &Base,
-        commits: &[Delta],
+        stored: &Stored<'_>,
         hosts: &HostTable,
     ) -> Result<Told, AllocError>
         requires next { self.old.at + 1 < 2 ^ 64 }
-        ensures act { let s = state_over base.now.state commits.now in IfOk result (λ told. step_at s told self.new ≡ machine.act code.now relations.now (specs_of hosts.now.names) (Some instr.now) s (machine_at s self.old)) }
+        ensures act { let s = stored.now.state in IfOk result (λ told. step_at s told self.new ≡ machine.act code.now self.old.relations (specs_of hosts.now.names) (Some instr.now) s (machine_at s self.old)) }
         ensures no_copy { is_sparing self.old.spare (Some instr.now) ≡ true → IsOk result }
+        ensures relations { self.new.relations ≡ self.old.relations }
     {
         match instr {
             Instr::Push(constant) => self.push(constant),
             Instr::Load(i) => self.load(*i),
-            Instr::Store(i) => self.store(base, commits, *i),
-            Instr::Rel(r) => self.rel(base, commits, *r),
-            Instr::Prim(op, at) => self.prim(base, commits, op, *at),
+            Instr::Store(i) => self.store(stored, *i),
+            Instr::Rel(r) => self.rel(stored, *r),
+            Instr::Prim(op, at) => self.prim(stored, op, *at),
             Instr::Host(h) => self.host(hosts, *h),
             Instr::Jump(a) => self.jump(code, *a),
             Instr::Unless(a) => self.unless(code, *a),
             Instr::Back(a) => self.back(code, *a),
-            Instr::Enter(at) => self.enter(relations, *at),
+            Instr::Enter(at) => self.enter(*at),
             Instr::Leave => Ok(self.leave()),
-            Instr::Walk => self.open_walk(code, base, commits),
-            Instr::Next(i, a) => self.next(code, base, commits, *i, *a),
+            Instr::Walk => self.open_walk(code, stored),
+            Instr::Next(i, a) => self.next(code, stored, *i, *a),
             Instr::Keep => self.keep(),
             Instr::Gather => self.gather(),
             Instr::Yield => self.yield_set(),
             Instr::Drop => self.drop_walk(),
-            Instr::Call(k) => self.call(code, base, commits, *k),
+            Instr::Call(k) => self.call(code, stored, *k),
             Instr::Ret => self.ret(),
-            Instr::RetVal => self.ret_val(base, commits),
-            Instr::Print(shape) => self.print(relations, base, commits, shape),
-            Instr::Apply(at) => self.apply(relations, base, commits, *at),
+            Instr::RetVal => self.ret_val(stored),
+            Instr::Print(shape) => self.print(stored, shape),
+            Instr::Apply(at) => self.apply(stored, *at),
             Instr::Commit => self.commit(),
-            Instr::Rollback => self.rollback(base, commits),
+            Instr::Rollback => self.rollback(stored),
             Instr::Assert(at) => self.claim(*at),
             Instr::Halt => Ok(Told::Ended(End::Done)),
         }

@@ -235,7 +235,7 @@ module _ (rels : List RelDecl) (hosts : Hosts) (f g : Calls) (k : ℕ) (agree : 
         do_value n (eval hosts f e ls w.state n) (eval hosts g e ls w.state n) w _ _ (eval_alike hosts f g k agree e ls w.state n le) (λ v m l. record { same = refl; within = omega arith })
     exec_alike (apply d at) ls w n le =
         do_value n (eval hosts f d ls w.state n) (eval hosts g d ls w.state n) w _ _ (eval_alike hosts f g k agree d ls w.state n le) (λ v m l. do_applied at (delta_in v) ls w m)
-    exec_alike commit ls w n le = record { same = refl; within = omega arith }
+    exec_alike (commit label) ls w n le = record { same = refl; within = omega arith }
     exec_alike rollback ls w n le = record { same = refl; within = omega arith }
     exec_alike (assert c at) ls w n le =
         do_value n (eval hosts f c ls w.state n) (eval hosts g c ls w.state n) w _ _ (eval_alike hosts f g k agree c ls w.state n le) (λ v m l.

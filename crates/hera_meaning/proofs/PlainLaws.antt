@@ -1,5 +1,5 @@
 -- The plain value of a core tree that is matched or made, for each variant.
-use Rattle.std.proofs.Common.{◌≡◌, ℕ, Option, refl, sym, ap, ◌∙◌, rules}
+use Rattle.std.proofs.Common.{◌≡◌, ℕ, List, Option, refl, sym, ap, ◌∙◌, rules}
 use Rattle.std.specs.Prelude.{Vec, Box}
 use Rattle.std.specs.declared.alloc.Global.{Global}
 use Rattle.hera_meaning.specs.declared.scalars.RelId.{RelId}
@@ -104,9 +104,9 @@ pub command_of-Apply : (d : Core) (at : ℕ) → command_of (stmt_variant.Apply 
 unfolding command_of
 command_of-Apply d at = refl
 
-pub command_of-Commit : command_of stmt_variant.Commit ≡ commit
+pub command_of-Commit : (label : Option (List ℕ)) → command_of (stmt_variant.Commit label) ≡ commit label
 unfolding command_of
-command_of-Commit = refl
+command_of-Commit label = refl
 
 pub command_of-Rollback : command_of stmt_variant.Rollback ≡ rollback
 unfolding command_of

@@ -1,5 +1,5 @@
 -- Orders of a shop, and groups: two longer programs, computed.
-use Rattle.std.proofs.Common.{◌≡◌, ℕ, true, false, List, [], ◌∷◌, refl, pos, codes}
+use Rattle.std.proofs.Common.{◌≡◌, ℕ, true, false, List, [], ◌∷◌, Some, None, refl, pos, codes}
 use Rattle.std.specs.Fmt.{digits}
 use Rattle.std.specs.Str.{is_utf8, chars}
 use lib.Utf8.{encode}
@@ -84,7 +84,7 @@ abbrev main_block : Block
 main_block =
     then_stmt (apply (merged (added 1 offer (three (text (codes "Acme")) (text (codes "bolt")) (int 7))) (added 1 offer (three (text (codes "Bolts")) (text (codes "bolt")) (int 5)))) 0)
     (then_stmt (apply (merged (added 0 stock (two (text (codes "bolt")) (int 3))) (added 0 stock (two (text (codes "nut")) (int 40)))) 0)
-    (then_stmt commit
+    (then_stmt (commit (Some (codes "opened")))
     (then_stmt (set_slot 0 (order (codes "Acme") 100))
     (then_stmt (set_slot 1 (order (codes "Bolts") 100))
     (then_stmt (set_slot 2 (merged (order (codes "Acme") 60) (order (codes "Bolts") 40)))
@@ -95,7 +95,7 @@ main_block =
     (then_stmt (print (local 4) Int)
     (then_stmt (print (local 5) Int)
     (then_stmt (if_arms (arm (chain (local 4) (link Lt (local 3) 0 no_link)) (then_stmt (apply (local 1) 0) no_stmt) no_arm) (then_stmt (apply (local 0) 0) no_stmt))
-    (then_stmt commit
+    (then_stmt (commit None)
     (then_stmt (print (relation 2) (Rel orders)) no_stmt))))))))))))))
 
 abbrev shop : Program_tree
@@ -105,11 +105,11 @@ shop = record {
 }
 
 -- a call and one tuple for each of the first two prices, a call and two tuples for the third: 7 turns
-cheaper_order : output_of (run_of shop ([] ∷ [] ∷ [] ∷ []) [] 7) ≡ codes "commit 1\n700\n500\n620\ncommit 2\nrows 1\n[\"Bolts\", \"bolt\", 100]\n"
+cheaper_order : output_of (run_of shop ([] ∷ [] ∷ [] ∷ []) [] 7) ≡ codes "commit 1\nopened\n700\n500\n620\ncommit 2\nrows 1\n[\"Bolts\", \"bolt\", 100]\n"
 unfolding text_of digits is_below is_same is_utf8 chars encode table_text tuple_text commit_text quoted_byte
 cheaper_order = refl
 
-six_turns_are_spent : output_of (run_of shop ([] ∷ [] ∷ [] ∷ []) [] 6) ≡ codes "commit 1\nturns spent\n"
+six_turns_are_spent : output_of (run_of shop ([] ∷ [] ∷ [] ∷ []) [] 6) ≡ codes "commit 1\nopened\nturns spent\n"
 unfolding is_below is_same is_utf8 chars encode commit_text digits spent_line
 six_turns_are_spent = refl
 

@@ -46,13 +46,13 @@ two_fields = refl
 least_is_zeros : field_bytes (int_scalar least) ≡ replicate 8 0
 least_is_zeros = refl
 
-text_of_255_bytes : is_row (a_text ∷ []) (replicate 255 65 ++ 0 ∷ []) ≡ true
+text_of_1023_bytes : is_row (a_text ∷ []) (replicate 1023 65 ++ 0 ∷ []) ≡ true
 unfolding is_same is_utf8 chars encode
-text_of_255_bytes = refl
+text_of_1023_bytes = refl
 
-text_of_256_bytes : is_row (a_text ∷ []) (replicate 256 65 ++ 0 ∷ []) ≡ false
+text_of_1024_bytes : is_row (a_text ∷ []) (replicate 1024 65 ++ 0 ∷ []) ≡ false
 unfolding is_same is_utf8 chars encode
-text_of_256_bytes = refl
+text_of_1024_bytes = refl
 
 text_not_utf8 : is_row (a_text ∷ []) (255 ∷ 0 ∷ []) ≡ false
 unfolding is_same is_utf8 chars encode

@@ -1,5 +1,5 @@
 -- Where the code of each phrase ends: how many instructions it has.
-use Rattle.std.specs.Prelude.{ℕ, suc, ◌+◌, Bool, true, false, List, [], ◌∷◌}
+use Rattle.std.specs.Prelude.{ℕ, suc, ◌+◌, Bool, true, false, List, [], ◌∷◌, Some, None}
 use Rattle.hera_meaning.specs.Trees.{Expr, constant, local, relation, prim, chain, and_all, or_any, when, select, map_each, call, host, Exprs, no_more, then_expr, Links, no_link, link, Hypos, no_hypo, hypo, Command, set_slot, if_arms, while, foreach, print, apply, commit, rollback, assert, return, return_value, call_proc, Block, no_stmt, then_stmt, Arms, no_arm, arm, Body_tree, Program_tree}
 
 -- the address behind the code of a phrase that begins at an address
@@ -60,7 +60,9 @@ abbrev mutual
   command_end (foreach i of block) a = block_end block (expr_end of a + 1 + 1) + 1 + 1
   command_end (print e shape) a = expr_end e a + 1
   command_end (apply d at) a = expr_end d a + 1
-  command_end commit a = a + 1
+  -- Commit, and of a label Push and Print
+  command_end (commit None) a = a + 1
+  command_end (commit (Some label)) a = a + 1 + 1 + 1
   command_end rollback a = a + 1
   command_end (assert c at) a = expr_end c a + 1
   command_end return a = a + 1

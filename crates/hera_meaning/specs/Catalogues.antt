@@ -1,6 +1,7 @@
 -- What a catalogue is.
 use Rattle.std.specs.Prelude.{◌≤◌, ℕ, List, map, length, All}
 use Rattle.hera_meaning.specs.declared.schemas.RelDecl.{RelDecl}
+use Rattle.hera_meaning.specs.declared.schemas.TheConstants.{RELATIONS_LIMIT}
 use Rattle.hera_meaning.specs.Identifiers.{IsIdentifier}
 use Rattle.hera_meaning.specs.Schemas.{AreDistinct, IsSchema, names_of}
 
@@ -15,6 +16,6 @@ pub record IsDecl (d : RelDecl) : Type 0 where
 
 -- at most 256 declarations with distinct names; a relation's number is its place
 pub record IsCatalogue (rels : List RelDecl) : Type 0 where
-  pub few : length rels ≤ 256
+  pub few : length rels ≤ RELATIONS_LIMIT
   pub distinct : AreDistinct (map decl_name rels)
   pub decls : All IsDecl rels

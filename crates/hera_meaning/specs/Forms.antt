@@ -4,6 +4,7 @@ use Rattle.hera_meaning.specs.declared.scalars.Kind.{Kind}
 use Rattle.hera_meaning.specs.declared.scalars.Kind.TheVariants.{Int as int_kind, Bool as bool_kind, Text as text_kind}
 use Rattle.hera_meaning.specs.declared.schemas.Attr.{Attr}
 use Rattle.hera_meaning.specs.declared.schemas.RelDecl.{RelDecl}
+use Rattle.hera_meaning.specs.declared.schemas.TheConstants.{ATTRS_LIMIT}
 use Rattle.hera_meaning.specs.declared.schemas.Agg.{Agg}
 use Rattle.hera_meaning.specs.declared.schemas.Agg.TheVariants.{Count as count_agg, Sum as sum_agg, Min as min_agg, Max as max_agg}
 use Rattle.hera_meaning.specs.declared.trees.Op.{Op}
@@ -58,7 +59,7 @@ join_kinds left right = kinds_of left ++ kinds_of (lacking left right)
 
 -- a relation has 1 to 16 attributes
 abbrev pub IsWidth : List Kind → Type 0
-IsWidth ks = (1 ≤ length ks) × (length ks ≤ 16)
+IsWidth ks = (1 ≤ length ks) × (length ks ≤ ATTRS_LIMIT)
 
 abbrev pub int_form : Form
 int_form = of_scalar int_kind

@@ -2,6 +2,7 @@
 use Rattle.std.specs.Prelude.{◌≡◌, ◌≤◌, ℕ, Bool, true, false, ◌&&◌, ◌||◌, ◌==◌, List, [], ◌∷◌, length}
 use Rattle.std.specs.List.{list_all}
 use Rattle.std.specs.Str.{encode_utf8_all, all_scalars}
+use Rattle.hera_meaning.specs.declared.scalars.TheConstants.{NAME_LIMIT}
 use Rattle.unicode_ident.specs.Ident.{is_xid_start, is_xid_continue}
 
 -- what may begin a word: `_` or a character with XID_Start
@@ -15,7 +16,7 @@ is_word (c ∷ cs) = begins_word c && list_all is_xid_continue cs
 
 -- the most bytes of an identifier
 abbrev pub identifier_limit : ℕ
-identifier_limit = 255
+identifier_limit = NAME_LIMIT
 
 -- the bytes are the UTF-8 of a word, and at most 255
 pub record IsIdentifier (bytes : List ℕ) : Type 0 where

@@ -7,6 +7,7 @@ pub mod Scalars
 pub mod Rows
 pub mod Catalogues
 pub mod Deltas
+pub mod Commits
 pub mod Relations
 pub mod Aggregates
 pub mod Values
@@ -23,3 +24,4 @@ pub mod Run
 pub mod Addresses
 pub mod Forms
 pub mod Sound
+pub mod Wider

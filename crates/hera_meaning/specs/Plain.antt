@@ -64,7 +64,7 @@ unfoldable mutual
   command_of (Foreach' i c shape block) = foreach i (expr_of c) (block_of block)
   command_of (Print c s) = print (expr_of c) s
   command_of (Apply c at) = apply (expr_of c) at
-  command_of Commit = commit
+  command_of (Commit label) = commit label
   command_of Rollback = rollback
   command_of (Assert c at) = assert (expr_of c) at
   command_of (Return c) = return_of c

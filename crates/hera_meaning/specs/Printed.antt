@@ -103,6 +103,10 @@ text_of delta_shape v rels = delta_text rels (delta_in v)
 unfoldable pub commit_text : ℕ → List ℕ
 commit_text n = codes "commit " ++ number_text n ++ codes "\n"
 
+-- the line of a commit's label, which is printed as a text
+abbrev pub label_text : List ℕ → List ℕ
+label_text label = label ++ codes "\n"
+
 -- a name, ` at ` and a number
 unfoldable pub end_text : List ℕ → ℕ → List ℕ
 end_text name at = name ++ codes " at " ++ number_text at ++ codes "\n"

@@ -3,6 +3,7 @@ use Rattle.std.specs.Prelude.{ℕ, zero, suc, ◌+◌, Bool, cond, not, ◌&&◌
 use Rattle.std.specs.List.{list_any, list_all, flat_map}
 use Rattle.hera_sets.specs.Rows.{Row, is_same, normal}
 use Rattle.hera_meaning.specs.declared.schemas.Attr.{Attr}
+use Rattle.hera_meaning.specs.declared.schemas.TheConstants.{ATTRS_LIMIT}
 use Rattle.hera_meaning.specs.Scalars.{is_same_kind}
 use Rattle.hera_meaning.specs.Rows.{pieces}
 
@@ -40,7 +41,7 @@ lacking left right = filter (λ a. not (has_name left a.name)) right
 abbrev pub can_join : List Attr → List Attr → Bool
 can_join left right =
     list_all (λ a. list_all (λ b. not (is_same a.name b.name) || is_same_kind a.kind b.kind) right) left
-    && nat_lt (length left + length (lacking left right)) 17
+    && nat_lt (length left + length (lacking left right)) (suc ATTRS_LIMIT)
 
 abbrev pub pairs : List Row → List Row → List (Row × Row)
 pairs xs ys = flat_map (λ x. map (λ y. (x, y)) ys) xs

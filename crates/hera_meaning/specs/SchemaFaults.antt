@@ -2,6 +2,7 @@
 use Rattle.std.specs.Prelude.{◌≡◌, ◌<◌, ◌≤◌, ℕ, true, List, [], take, Some, length, slice_get}
 use Rattle.hera_sets.specs.Rows.{holds}
 use Rattle.hera_meaning.specs.declared.schemas.Attr.{Attr}
+use Rattle.hera_meaning.specs.declared.schemas.TheConstants.{ATTRS_LIMIT}
 use Rattle.hera_meaning.specs.declared.schemas.SchemaFault.{SchemaFault}
 use Rattle.hera_meaning.specs.declared.schemas.SchemaFault.TheVariants.{Empty, TooMany, Repeated}
 use Rattle.hera_meaning.specs.Schemas.{AreDistinct, names_of}
@@ -16,5 +17,5 @@ pub record IsFirstRepeat (names : List (List ℕ)) (second : ℕ) : Type 0 where
 -- the first rule that the attributes break
 abbrev pub IsSchemaFault : List Attr → SchemaFault → Type 0
 IsSchemaFault attrs Empty = attrs ≡ []
-IsSchemaFault attrs TooMany = 16 < length attrs
-IsSchemaFault attrs (Repeated second) = (1 ≤ length attrs) × (length attrs ≤ 16) × IsFirstRepeat (names_of attrs) second
+IsSchemaFault attrs TooMany = ATTRS_LIMIT < length attrs
+IsSchemaFault attrs (Repeated second) = (1 ≤ length attrs) × (length attrs ≤ ATTRS_LIMIT) × IsFirstRepeat (names_of attrs) second

@@ -3,6 +3,7 @@ use Rattle.std.specs.Prelude.{◌≡◌, ◌≤◌, ℕ, false, List, [], ◌∷
 use Rattle.std.specs.List.{position_from}
 use Rattle.hera_sets.specs.Rows.{is_same, holds}
 use Rattle.hera_meaning.specs.declared.schemas.Attr.{Attr}
+use Rattle.hera_meaning.specs.declared.schemas.TheConstants.{ATTRS_LIMIT}
 
 -- no name stands twice
 abbrev pub AreDistinct : List (List ℕ) → Type 0
@@ -18,7 +19,7 @@ names_of attrs = map attr_name attrs
 -- 1 to 16 attributes with distinct names
 pub record IsSchema (attrs : List Attr) : Type 0 where
   pub some : 1 ≤ length attrs
-  pub few : length attrs ≤ 16
+  pub few : length attrs ≤ ATTRS_LIMIT
   pub distinct : AreDistinct (names_of attrs)
 
 -- the place of the first attribute of this name

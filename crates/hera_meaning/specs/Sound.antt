@@ -68,7 +68,7 @@ abbrev mutual
   walks_of (foreach i of block) = i ∷ (walks_in of ++ walks_of_block block)
   walks_of (print e shape) = walks_in e
   walks_of (apply d at) = walks_in d
-  walks_of commit = []
+  walks_of (commit label) = []
   walks_of rollback = []
   walks_of (assert c at) = walks_in c
   walks_of return = []
@@ -134,6 +134,11 @@ const_form FailDelta = of_delta
 abbrev pub is_const : Const → Bool
 is_const (Scalar s) = is_scalar s
 is_const _ = true
+
+-- a label is a text
+abbrev pub is_label : Option (List ℕ) → Bool
+is_label None = true
+is_label (Some label) = is_text label
 
 -- body k, which is not main, is a func or not as asked, takes parameters of these forms and has this result
 pub record IsCallee (sc : Scope) (k : ℕ) (func : Bool) (params : List Form) (result : Option Form) : Type 0 where
@@ -209,7 +214,7 @@ module _ (sc : Scope) where
     IsSound seen rs inside (foreach i of block) = (ks : List Kind) × IsOf rs of (of_table ks) × IsSlot i (of_tuple ks) × BlockIsSound seen (i ∷ rs) (i ∷ inside) block
     IsSound seen rs inside (print e shape) = IsOf rs e (form_of shape) × (sc.func ≡ false)
     IsSound seen rs inside (apply d at) = IsOf rs d of_delta × (sc.func ≡ false)
-    IsSound seen rs inside commit = sc.func ≡ false
+    IsSound seen rs inside (commit label) = (is_label label ≡ true) × (sc.func ≡ false)
     IsSound seen rs inside rollback = sc.func ≡ false
     IsSound seen rs inside (assert c at) = IsOf rs c bool_form
     IsSound seen rs inside return = sc.func ≡ false

@@ -7,7 +7,7 @@ use Rattle.hera_meaning.specs.Values.{Value, tuple, is_true, rows_in, delta_in}
 use Rattle.hera_meaning.specs.Hosts.{Hosts}
 use Rattle.hera_meaning.specs.Printed.{text_of}
 use Rattle.hera_meaning.specs.Trees.{Command, set_slot, if_arms, while, foreach, print, apply, commit, rollback, assert, return, return_value, call_proc, Block, no_stmt, then_stmt, Arms, no_arm, arm}
-use Rattle.hera_meaning.specs.Worlds.{out, World, with_event, committed, rolled_back, set_local, Ended, by, Ending, goes_on, returned, traps, runs_out, then_do, with_value, turn_in, applied, resumed, Calls}
+use Rattle.hera_meaning.specs.Worlds.{out, World, with_event, committed, labelled, rolled_back, set_local, Ended, by, Ending, goes_on, returned, traps, runs_out, then_do, with_value, turn_in, applied, resumed, Calls}
 use Rattle.hera_meaning.specs.Expressions.{eval, eval_all}
 
 -- where the test is true the body, a turn, and again; else on; limit is more than the turns left
@@ -32,7 +32,7 @@ module _ (rels : List RelDecl) (hosts : Hosts) (calls : Calls) where
         with_value (eval hosts calls of ls w.state n) w (λ v m. each_row (λ x ls w m. exec_block block (set_local ls i (tuple x)) w m) (rows_in v) ls w m)
     exec (print e shape) ls w n = with_value (eval hosts calls e ls w.state n) w (λ v m. goes_on ls (with_event (out (text_of shape v rels)) w) m)
     exec (apply d at) ls w n = with_value (eval hosts calls d ls w.state n) w (λ v m. applied at (delta_in v) ls w m)
-    exec commit ls w n = goes_on ls (committed w) n
+    exec (commit label) ls w n = goes_on ls (labelled label (committed w)) n
     exec rollback ls w n = goes_on ls (rolled_back w) n
     exec (assert c at) ls w n = with_value (eval hosts calls c ls w.state n) w (λ v. by (is_true v) (λ m. goes_on ls w m) (λ m. traps Assert at w.events))
     exec return ls w n = returned None w n

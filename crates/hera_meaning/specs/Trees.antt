@@ -1,5 +1,5 @@
 -- Core trees as plain values: a Vec as the list of its items, a Box as its content.
-use Rattle.std.specs.Prelude.{ℕ, Bool, List}
+use Rattle.std.specs.Prelude.{ℕ, Bool, List, Option}
 use Rattle.hera_meaning.specs.declared.schemas.RelDecl.{RelDecl}
 use Rattle.hera_meaning.specs.declared.trees.Op.{Op}
 use Rattle.hera_meaning.specs.declared.trees.Const.{Const}
@@ -45,7 +45,7 @@ mutual
     foreach : (i : ℕ) (of : Expr) (block : Block) → Command
     print : (value : Expr) (shape : Shape) → Command
     apply : (delta : Expr) (at : ℕ) → Command
-    commit : Command
+    commit : (label : Option (List ℕ)) → Command
     rollback : Command
     assert : (cond : Expr) (at : ℕ) → Command
     return : Command

@@ -5,7 +5,7 @@ use Rattle.hera_meaning.specs.declared.trees.TrapName.TheVariants.{ApplyFail, Wh
 use Rattle.hera_meaning.specs.Deltas.{Delta, fail, atoms, State, apply_of, smash_of}
 use Rattle.hera_meaning.specs.Values.{Value, int_value}
 use Rattle.hera_meaning.specs.Primitives.{Answer, gives, refuses}
-use Rattle.hera_meaning.specs.Printed.{commit_text}
+use Rattle.hera_meaning.specs.Printed.{commit_text, label_text}
 
 -- a text that is printed, or a state that is stored with the delta that leads to it
 pub data Event : Type 0 where
@@ -40,6 +40,11 @@ committed w = record {
   commits = w.commits + 1;
   events = w.events ++ store w.state w.pending ∷ out (commit_text (w.commits + 1)) ∷ [];
 }
+
+-- a label is printed
+abbrev pub labelled : Option (List ℕ) → World → World
+labelled None w = w
+labelled (Some label) w = with_event (out (label_text label)) w
 
 abbrev pub rolled_back : World → World
 rolled_back w = record w { state = w.stored; pending = atoms [] }

@@ -1,11 +1,15 @@
 //! The laws of rows, deltas and runs, each the clause of a function without effect.
-ghost use Rattle.std.specs.Prelude.{◌≡◌, ◌≤◌, ◌↔◌, ◌++◌, [], Bool, true, false, List, ℕ};
-ghost use Rattle.hera_sets.specs.Rows.{is_below};
+ghost use Rattle.std.specs.Prelude.{◌≡◌, ◌≤◌, ◌↔◌, ◌++◌, [], Bool, true, false, List, ℕ, None, map, All};
+ghost use Rattle.hera_sets.specs.Rows.{is_below, IsAscending};
 ghost use Rattle.hera_meaning.specs.declared.scalars.Scalar.{Scalar};
 ghost use Rattle.hera_meaning.specs.declared.schemas.Attr.{Attr};
 ghost use Rattle.hera_meaning.specs.Scalars.{is_tuple, tuple_less};
 ghost use Rattle.hera_meaning.specs.Rows.{row_of, fields_of, IsRow, is_row};
-ghost use Rattle.hera_meaning.specs.Deltas.{State, Delta, IsDelta, is_fail, apply_of, smash_of, merge_of};
+ghost use Rattle.hera_meaning.specs.declared.schemas.RelDecl.{RelDecl};
+ghost use Rattle.hera_meaning.specs.Catalogues.{IsCatalogue};
+ghost use Rattle.hera_meaning.specs.Deltas.{State, IsState, Delta, IsDelta, is_fail, apply_of, smash_of, merge_of};
+ghost use Rattle.hera_meaning.specs.Commits.{after_all, smash_all, IsCommitOf, IsSmashOf};
+ghost use Rattle.hera_meaning.specs.Wider.{is_prefix, added, widened_row, Wider, first_narrowed, widen_of};
 ghost use Rattle.hera_meaning.specs.Hosts.{Hosts};
 ghost use Rattle.hera_meaning.specs.Trees.{Program_tree};
 ghost use Rattle.hera_meaning.specs.Run.{run_to, run_of, report_of};
@@ -65,6 +69,43 @@ pub fn merge_is_associative()
 pub fn a_merge_is_either_smash()
     ensures first { (a b : Delta) → IsDelta a → IsDelta b → is_fail (merge_of a b) ≡ false → smash_of a b ≡ merge_of a b }
     ensures second { (a b : Delta) → IsDelta a → IsDelta b → is_fail (merge_of a b) ≡ false → smash_of b a ≡ merge_of a b }
+{}
+
+/// A state after commits is one of the catalogue.
+pub fn a_state_after_commits_is_one()
+    ensures { (rels : List RelDecl) (s : State) (ds : List Delta) → IsState rels s → All (IsCommitOf rels) ds → IsState rels (after_all s ds) }
+{}
+
+/// The smash of commits is a commit, and does to a state what they do one after another.
+pub fn the_smash_of_commits_does_what_they_do()
+    ensures { (rels : List RelDecl) (ds : List Delta) → All (IsCommitOf rels) ds → IsSmashOf rels ds (smash_all ds) }
+{}
+
+/// A schema is a prefix of another exactly where that one has its attributes and then others.
+pub fn a_prefix_is_followed_by_more()
+    ensures { (old new : List Attr) → (is_prefix old new ≡ true) ↔ ((rest : List Attr) × (new ≡ old ++ rest)) }
+{}
+
+/// A row of a schema, widened, is a row of the wider schema, of the tuple with the added values behind it.
+pub fn a_widened_row_is_a_row()
+    ensures row { (old new : List Attr) (row : List ℕ) → is_prefix old new ≡ true → IsRow old row → IsRow new (widened_row old new row) }
+    ensures tuple { (old new : List Attr) (tuple : List Scalar) → widened_row old new (row_of tuple) ≡ row_of (tuple ++ added old new) }
+{}
+
+/// Widening keeps the order of rows.
+pub fn widening_keeps_the_order_of_rows()
+    ensures two { (old new : List Attr) (a b : List ℕ) → is_prefix old new ≡ true → IsRow old a → IsRow old b → is_below (widened_row old new a) (widened_row old new b) ≡ is_below a b }
+    ensures all { (old new : List Attr) (rows : List (List ℕ)) → is_prefix old new ≡ true → All (IsRow old) rows → IsAscending rows → IsAscending (map (widened_row old new) rows) }
+{}
+
+/// A state widened to a wider catalogue is one of it.
+pub fn a_widened_state_is_a_state()
+    ensures { (old new : List RelDecl) (s : State) → IsCatalogue new → Wider old new → IsState old s → IsState new (widen_of old s new) }
+{}
+
+/// A catalogue is wider than another exactly where it narrows no relation of it.
+pub fn a_wider_catalogue_narrows_no_relation()
+    ensures { (old new : List RelDecl) → Wider old new ↔ (first_narrowed old new ≡ None) }
 {}
 
 /// How deep calls may nest changes no run, once it is at least the number of turns.

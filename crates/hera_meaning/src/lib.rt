@@ -15,8 +15,12 @@ pub mod writing;
 
 pub use hosts::{HostAnswer, HostSpec};
 pub use lines::Line;
-pub use scalars::{Kind, Name, RelId, Scalar, ScalarRef, Sign, TEXT_LIMIT, Text, TextFault};
-pub use schemas::{ATTRS_LIMIT, Agg, Aggs, Attr, Places, RelDecl, Schema, SchemaFault};
+pub use scalars::{
+    Kind, NAME_LIMIT, Name, RelId, Scalar, ScalarRef, Sign, TEXT_LIMIT, Text, TextFault,
+};
+pub use schemas::{
+    ATTRS_LIMIT, Agg, Aggs, Attr, Places, RELATIONS_LIMIT, RelDecl, Schema, SchemaFault,
+};
 pub use trees::{Arm, Body, Const, Core, Hypo, Link, Op, Program, Shape, Stmt, TrapName};
 
 #[cfg(test)]

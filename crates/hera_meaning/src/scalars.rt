@@ -8,9 +8,12 @@ use std::marker::Model;
 use thiserror::Error;
 
 /// The most bytes of a text.
-pub const TEXT_LIMIT: usize = 255;
+pub const TEXT_LIMIT: usize = 1023;
 
-/// A text: UTF-8 of at most 255 bytes without U+0000. Its bytes lie behind one pointer, so that a scalar is small.
+/// The most bytes of an identifier.
+pub const NAME_LIMIT: usize = 255;
+
+/// A text: UTF-8 of at most 1,023 bytes without U+0000. Its bytes lie behind one pointer, so that a scalar is small.
 #[derive(Drop)]
 pub struct Text {
     bytes: Box<Vec<u8>>,
@@ -36,8 +39,8 @@ pub enum TextFault {
     /// A byte is 0.
     #[error("the text has a zero byte")]
     HasZero,
-    /// There are more than 255 bytes.
-    #[error("the text is longer than 255 bytes")]
+    /// There are more than 1,023 bytes.
+    #[error("the text is longer than 1,023 bytes")]
     TooLong,
     /// No memory for a copy of the bytes.
     #[error("out of memory")]

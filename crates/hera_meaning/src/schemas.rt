@@ -14,6 +14,9 @@ use thiserror::Error;
 /// The most attributes of a schema.
 pub const ATTRS_LIMIT: usize = 16;
 
+/// The most relations of a catalogue.
+pub const RELATIONS_LIMIT: usize = 256;
+
 /// A named field of a tuple.
 #[derive(Drop)]
 pub struct Attr {

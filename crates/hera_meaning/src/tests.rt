@@ -30,7 +30,7 @@ fn texts_and_schemas_are_refused_or_copied(rt: HostRuntime) -> Result<(), Fail> 
     assert_eq!(rt; text.bytes(), b"bolt \xc3\xa9".as_slice());
     assert!(rt; matches!(Text::new(alloc, b"\x00\xff"), Err(TextFault::BadUtf8)));
     assert!(rt; matches!(Text::new(alloc, b"a\x00"), Err(TextFault::HasZero)));
-    assert!(rt; matches!(Text::new(alloc, &[b'a'; 256]), Err(TextFault::TooLong)));
+    assert!(rt; matches!(Text::new(alloc, &[b'a'; 1024]), Err(TextFault::TooLong)));
     assert!(rt; fault_of(alloc, b"ab")?.is_none());
     assert!(rt; matches!(fault_of(alloc, b"")?, Some(SchemaFault::Empty)));
     assert!(rt;

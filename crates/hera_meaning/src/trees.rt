@@ -6,7 +6,7 @@
 
 ghost use Rattle.std.specs.Prelude.{◌≡◌, IfOk};
 
-use crate::scalars::{RelId, Scalar, Sign};
+use crate::scalars::{RelId, Scalar, Sign, Text};
 use crate::schemas::{Aggs, Places, RelDecl, Schema};
 use std::alloc::AllocError;
 
@@ -208,7 +208,8 @@ pub enum Stmt {
     Foreach(u32, Core, Vec<Stmt>),
     Print(Core, Shape),
     Apply(Core, u32),
-    Commit,
+    /// Where there is a label it is printed behind the commit's line.
+    Commit(Option<Text>),
     Rollback,
     Assert(Core, u32),
     Return(Option<Core>),

@@ -2,7 +2,7 @@
 use Rattle.std.proofs.Common.{◌≡◌, ◌<◌, ℕ, List, [], ◌∷◌, ◌++◌, ◌⊎◌, inl, inr, refl, sym, ap, subst, ◌∙◌, length, append_assoc}
 use Rattle.hera_syntax.specs.declared.token.Token.{Token}
 use Rattle.hera_syntax.specs.Grammar.{Allows, Production, Part, keep, leave, phrase, alternatives, alternative}
-use Rattle.hera_syntax.specs.Outline.{Mark, at_node, kept, left_out}
+use Rattle.hera_syntax.specs.Outline.{Entry, at_node, kept, left_out}
 use Rattle.hera_syntax.specs.Trees.{Obeys, no_part, keeps, leaves, produces, Agree, at_end, one_more, printed, Begins, so_far, begins_kept, begins_left, begins_phrase}
 use Rattle.hera_parser.specs.Beginnings.{ArePhrases, BeginsNext, BeginsByCases}
 use Rattle.hera_parser.proofs.Exact.{text_begins}
@@ -39,7 +39,7 @@ begins_more (begins_left e b) qs = begins_left e (begins_more b qs)
 begins_more (begins_phrase {s = s} {ps = ps} {us = us} k l b) qs = begins_phrase k l (subst (λ x. Begins x us) (append_assoc (alternative s k) ps qs) (begins_more b qs))
 
 -- whole phrases and then a beginning begin
-pub whole_then : {ps : List Part} {ms : List Mark} → Obeys ps ms → (front : List Token) → Agree (printed ms) front → (qs : List Part) (rest : List Token) → Begins qs rest → Begins (ps ++ qs) (front ++ rest)
+pub whole_then : {ps : List Part} {ms : List Entry} → Obeys ps ms → (front : List Token) → Agree (printed ms) front → (qs : List Part) (rest : List Token) → Begins qs rest → Begins (ps ++ qs) (front ++ rest)
 whole_then no_part _ at_end qs rest b = b
 whole_then (keeps {ts = codes} h o) _ (one_more {ts = us} a more) qs rest b = begins_kept (subst (λ x. Allows codes x) a h) (whole_then o us more qs rest b)
 whole_then (leaves o) _ (one_more {ts = us} a more) qs rest b = begins_left a (whole_then o us more qs rest b)

@@ -4,7 +4,7 @@ use Rattle.hera_syntax.specs.declared.token.Token.{Token}
 use Rattle.hera_syntax.specs.declared.tree.Tree.{Tree}
 use Rattle.hera_syntax.specs.Grammar.{phrase}
 use Rattle.hera_syntax.specs.Grammar as phrases
-use Rattle.hera_syntax.specs.Outline.{Mark}
+use Rattle.hera_syntax.specs.Outline.{Entry}
 use Rattle.hera_syntax.specs.Programs.{outline}
 use Rattle.hera_syntax.specs.Trees.{IsTextOf, IsFaultAt}
 use Rattle.hera_parser_exprs.specs.Reading.{Runs, accept, stuck, finished, left_over, Gives, Sticks}
@@ -57,7 +57,7 @@ pub program_text : (tree : Tree) (left : List Token) {ts us : List Token} → ts
 program_text tree [] {ts} {us} e g h = subst (IsTextOf tree) (sym e) (text_of tree us (all_read tree g))
 program_text tree (t ∷ left) e g h = absurd (one_left t left h)
 
-place : {us left : List Token} {ks : List Mark} → Runs (phrase phrases.program ∷ []) us ks (stuck left) → (count k : ℕ) {ts : List Token} → ts ≡ us → count ≡ length left → length ts - count ≡ k → IsFaultAt ts k
+place : {us left : List Token} {ks : List Entry} → Runs (phrase phrases.program ∷ []) us ks (stuck left) → (count k : ℕ) {ts : List Token} → ts ≡ us → count ≡ length left → length ts - count ≡ k → IsFaultAt ts k
 place {us} {left} {ks} r count k {ts} e n m =
     let within = stuck_length r in
     let here = count_is count (length left) (length us) (length ts) k within n m (ap length e) in

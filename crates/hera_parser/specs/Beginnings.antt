@@ -2,12 +2,12 @@
 use Rattle.std.specs.Prelude.{◌≡◌, ◌<◌, ◌⊎◌, ℕ, List, [], ◌∷◌, ◌++◌, length}
 use Rattle.hera_syntax.specs.declared.token.Token.{Token}
 use Rattle.hera_syntax.specs.Grammar.{Production, Part, phrase, alternatives, alternative}
-use Rattle.hera_syntax.specs.Outline.{Mark}
+use Rattle.hera_syntax.specs.Outline.{Entry}
 use Rattle.hera_syntax.specs.Trees.{Obeys, Agree, printed, Begins}
 
 -- the tokens are those of a whole phrase of each of these parts, one after the other
 pub record ArePhrases (ps : List Part) (ts : List Token) : Type 0 where
-  pub marks : List Mark
+  pub marks : List Entry
   pub obeys : Obeys ps marks
   pub agrees : Agree (printed marks) ts
 

@@ -2,7 +2,7 @@
 
 ghost use Rattle.std.specs.Prelude.{◌≡◌, ◌↔◌, ℕ, List, [], ◌∷◌};
 ghost use Rattle.hera_syntax.specs.Grammar.{Production, phrase};
-ghost use Rattle.hera_syntax.specs.Outline.{Mark};
+ghost use Rattle.hera_syntax.specs.Outline.{Entry};
 ghost use Rattle.hera_syntax.specs.Programs.{outline};
 ghost use Rattle.hera_syntax.specs.Trees.{Begins, IsFaultAt, IsTextOf};
 ghost use Rattle.hera_syntax.specs.declared.token.Token.{Token};

@@ -3,14 +3,16 @@
 ghost use Rattle.std.specs.Prelude.{◌<◌, ◌≤◌, [], ◌∷◌, length, IfOk, OnOk, IsErrOf};
 ghost use Rattle.hera_syntax.specs.Grammar.{phrase};
 ghost use Rattle.hera_syntax.specs.Grammar as phrases;
-ghost use Rattle.hera_syntax.specs.Programs.{some_value_outline, stmt_outline};
+ghost use Rattle.hera_syntax.specs.Programs.{some_text_outline, some_value_outline, stmt_outline};
 ghost use Rattle.hera_parser_exprs.specs.Reading.{Tells, Gives, Sticks};
 
 use crate::decls::type_tree;
 use crate::terminals::{APPLY, ASSERT, COMMIT, PRINT, RETURN, ROLLBACK};
-use hera_parser_exprs::terminals::{CLOSE_PAREN, EQUALS, EXPR_STARTS, NAME, PAREN, SEMICOLON};
+use hera_parser_exprs::terminals::{
+    CLOSE_PAREN, EQUALS, EXPR_STARTS, NAME, PAREN, SEMICOLON, TEXT,
+};
 use hera_parser_exprs::{Parser, Stop};
-use hera_syntax::{Expr, StmtTree};
+use hera_syntax::{Expr, StmtTree, Token};
 use std::alloc::Global;
 
 /// A declaration of a local.
@@ -79,8 +81,22 @@ pub(crate) fn commit(parser: &mut Parser<'_>) -> Result<StmtTree, Stop>
     ensures shorter { OnOk result (length parser.new < length parser.old) }
 {
     let word = parser.keep(COMMIT)?;
+    let label = some_text(parser)?;
     parser.skip(SEMICOLON)?;
-    Ok(StmtTree::commit(word))
+    Ok(StmtTree::commit(word, label))
+}
+
+/// `text?`
+fn some_text(parser: &mut Parser<'_>) -> Result<Option<Token>, Stop>
+    ensures reads { IfOk result (λ label. Gives (phrase phrases.some_text ∷ []) parser.old (some_text_outline label) [] parser.new) }
+    ensures sticks { IsErrOf result Stop.Syntax → Sticks (phrase phrases.some_text ∷ []) parser.old parser.new }
+    ensures no_longer { OnOk result (length parser.new ≤ length parser.old) }
+{
+    if !parser.next_is(TEXT) {
+        return Ok(None);
+    }
+    let label = parser.keep(TEXT)?;
+    Ok(Some(label))
 }
 
 /// A `rollback`.

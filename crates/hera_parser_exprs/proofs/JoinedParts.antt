@@ -3,12 +3,12 @@ use Rattle.std.proofs.Common.{◌≡◌, ◌<◌, ◌≤◌, ℕ, List, [], ◌�
 use Rattle.hera_syntax.specs.declared.token.Token.{Token}
 use Rattle.hera_syntax.specs.declared.token.Terminal.{Terminal}
 use Rattle.hera_syntax.specs.Grammar.{Part, leave}
-use Rattle.hera_syntax.specs.Outline.{Mark}
+use Rattle.hera_syntax.specs.Outline.{Entry}
 use Rattle.hera_parser_exprs.specs.Parts.{StopsInOrAt, inside, behind}
 use Rattle.hera_parser_exprs.specs.Reading.{Gives, Sticks}
 use Rattle.hera_parser_exprs.proofs.Steps.{next, stops}
 
-pub got : {A E : Type 0} (f : A → List Mark) (ps : List Part) {a b : List Token} {r : Result A E} {x : A} → r ≡ Ok x → IfOk r (λ t. Gives ps a (f t) [] b) → Gives ps a (f x) [] b
+pub got : {A E : Type 0} (f : A → List Entry) (ps : List Part) {a b : List Token} {r : Result A E} {x : A} → r ≡ Ok x → IfOk r (λ t. Gives ps a (f t) [] b) → Gives ps a (f x) [] b
 got f ps {a} {b} e h = subst (λ s. IfOk s (λ t. Gives ps a (f t) [] b)) e h
 
 pub shortened : {A E : Type 0} {m n : ℕ} {r : Result A E} {x : A} → r ≡ Ok x → OnOk r (m < n) → m < n
@@ -18,11 +18,11 @@ pub not_longer : {A E : Type 0} {m n : ℕ} {r : Result A E} {x : A} → r ≡ O
 not_longer {m = m} {n = n} e h = subst (λ s. OnOk s (m ≤ n)) e h
 
 -- where the reading stopped in the next part, or behind it
-pub stops_in : {A E : Type 0} {cause : E} (f : A → List Mark) {P qs : List Part} {p : Part} {end : Terminal} {a b m n : List Token} {ms : List Mark} {read : Result A E} →
+pub stops_in : {A E : Type 0} {cause : E} (f : A → List Entry) {P qs : List Part} {p : Part} {end : Terminal} {a b m n : List Token} {ms : List Entry} {read : Result A E} →
     Gives P a ms (p ∷ leave end ∷ qs) b → IfOk read (λ t. Gives (p ∷ []) b (f t) [] m) → (IsErrOf read cause → Sticks (p ∷ []) b m) → StopsInOrAt read cause end m n → Sticks P a n
 stops_in f {P = P} {a = a} g h s (inside e same) = subst (Sticks P a) (sym same) (stops g (s e))
 stops_in f {p = p} g h s (behind x e k) = stops (next g (got f (p ∷ []) e h)) k
 
 -- nothing was passed over
-pub reads_there : {P qs : List Part} {a b c : List Token} {ms : List Mark} → c ≡ b → Gives P a ms qs b → Gives P a ms qs c
+pub reads_there : {P qs : List Part} {a b c : List Token} {ms : List Entry} → c ≡ b → Gives P a ms qs b → Gives P a ms qs c
 reads_there {P} {qs} {a = a} {ms = ms} e g = subst (λ x. Gives P a ms qs x) (sym e) g

@@ -1,5 +1,5 @@
 -- The reading of a chain, for all levels of operators.
-use Rattle.std.proofs.Common.{◌≡◌, ℕ, suc, List, [], ◌∷◌, ◌++◌, Option, Some, None, Bool, true, false, refl, sym, ap, subst, ◌∙◌}
+use Rattle.std.proofs.Common.{◌≡◌, ℕ, suc, List, [], ◌∷◌, ◌++◌, Option, Some, Bool, true, false, refl, sym, ap, subst, ◌∙◌}
 use Rattle.hera_syntax.specs.declared.expr.Level.{Level}
 use Rattle.hera_syntax.specs.declared.expr.Level.TheVariants as levels
 use Rattle.hera_syntax.specs.declared.expr.Operand.{Operand}
@@ -9,7 +9,7 @@ use Rattle.hera_syntax.specs.declared.token.Terminal.{Terminal}
 use Rattle.hera_syntax.specs.Grammar.{keep, phrase}
 use Rattle.hera_syntax.specs.Grammar as phrases
 use Rattle.hera_syntax.specs.Operators.{below, operand_of, operators_of}
-use Rattle.hera_syntax.specs.Outline.{Mark, comparison_rest, more_of, node, operand_outline, production_of, tail_outline}
+use Rattle.hera_syntax.specs.Outline.{Entry, comparison_rest, more_of, node, operand_outline, production_of, tail_outline}
 use Rattle.hera_parser_exprs.specs.Reading.{stands, next_terminal, Gives, Sticks}
 use Rattle.hera_parser_exprs.proofs.Steps.{choose}
 use Rattle.hera_parser_exprs.proofs.Choices.{told, other}
@@ -74,17 +74,17 @@ pub told_by : (t : Option Terminal) {ops wanted : List Terminal} {b known : Bool
 told_by t e o k = ap (λ ts. stands ts t) (sym o) ∙ (sym e ∙ k)
 
 -- a token that is kept, where the terminals are given under another name
-pub keeps_as : {ops wanted : List Terminal} {a b : List Token} {ms : List Mark} → ops ≡ wanted → Gives (keep ops ∷ []) a ms [] b → Gives (keep wanted ∷ []) a ms [] b
+pub keeps_as : {ops wanted : List Terminal} {a b : List Token} {ms : List Entry} → ops ≡ wanted → Gives (keep ops ∷ []) a ms [] b → Gives (keep wanted ∷ []) a ms [] b
 keeps_as {a = a} {b = b} {ms = ms} e g = subst (λ ops. Gives (keep ops ∷ []) a ms [] b) e g
 
 pub sticks_as : {ops wanted : List Terminal} {a b : List Token} → ops ≡ wanted → Sticks (keep ops ∷ []) a b → Sticks (keep wanted ∷ []) a b
 sticks_as {a = a} {b = b} e s = subst (λ ops. Sticks (keep ops ∷ []) a b) e s
 
 -- a comparison of no tail, and of one
-pub compared_none : (first : List Mark) {whole : List Mark} {tails : List Tail} → whole ≡ first ++ comparison_rest tails → tails ≡ [] → whole ≡ first ++ node phrases.more_cmp 1
+pub compared_none : (first : List Entry) {whole : List Entry} {tails : List Tail} → whole ≡ first ++ comparison_rest tails → tails ≡ [] → whole ≡ first ++ node phrases.more_cmp 1
 compared_none first e n = e ∙ ap (λ ts. first ++ comparison_rest ts) n
 
-pub compared_one : (first : Operand) (tail : Tail) {whole : List Mark} {given : Operand} {tails none : List Tail} →
+pub compared_one : (first : Operand) (tail : Tail) {whole : List Entry} {given : Operand} {tails none : List Tail} →
     whole ≡ node phrases.cmp 0 ++ operand_outline given ++ comparison_rest tails → given ≡ first → tails ≡ none ++ tail ∷ [] → none ≡ [] →
     whole ≡ node phrases.cmp 0 ++ operand_outline first ++ (node phrases.more_cmp 0 ++ tail_outline tail)
 compared_one first tail {tails = tails} e f m n =

@@ -7,7 +7,7 @@ use Rattle.std.specs.List.{flat_map}
 use Rattle.hera_syntax.specs.declared.token.Token.{Token}
 use Rattle.hera_syntax.specs.declared.token.Terminal.{Terminal}
 use Rattle.hera_syntax.specs.Grammar.{Allows, Production, Part, keep, leave, phrase, alternative}
-use Rattle.hera_syntax.specs.Outline.{Mark, kept, left_out, node, hold, skip}
+use Rattle.hera_syntax.specs.Outline.{Entry, kept, left_out, node, hold, skip}
 use Rattle.hera_parser_exprs.specs.Reading.{next_terminal, stands, stuck, Runs, kept_one, kept_missed, kept_ended, left_one, left_missed, left_ended, chosen, Tells, Gives, Sticks}
 
 -- a token that is kept
@@ -36,32 +36,32 @@ pub choose : (s : Production) (k : ℕ) {a : List Token} → Tells s k a → Giv
 choose s k h = record { goes = λ rest ns end r. chosen k h.number r }
 
 -- one thing after the other
-pub join : {ps qs rs : List Part} {a b c : List Token} {ms ns : List Mark} → Gives ps a ms qs b → Gives qs b ns rs c → Gives ps a (ms ++ ns) rs c
+pub join : {ps qs rs : List Part} {a b c : List Token} {ms ns : List Entry} → Gives ps a ms qs b → Gives qs b ns rs c → Gives ps a (ms ++ ns) rs c
 join {ps = ps} {a = a} {ms = ms} {ns = ns} g h = record {
   goes = λ rest ks e r. subst (λ x. Runs (ps ++ rest) a x e) (sym (append_assoc ms ns ks)) (g.goes rest (ns ++ ks) e (h.goes rest ks e r));
 }
 
 -- what is read in front of more
-pub before : (qs : List Part) {ps : List Part} {a b : List Token} {ms : List Mark} → Gives ps a ms [] b → Gives (ps ++ qs) a ms qs b
+pub before : (qs : List Part) {ps : List Part} {a b : List Token} {ms : List Entry} → Gives ps a ms [] b → Gives (ps ++ qs) a ms qs b
 before qs {ps = ps} {a = a} {ms = ms} g = record {
   goes = λ rest ns e r. subst (λ x. Runs x a (ms ++ ns) e) (sym (append_assoc ps qs rest)) (g.goes (qs ++ rest) ns e r);
 }
 
 -- the next part
-pub next : {P qs : List Part} {p : Part} {a b c : List Token} {ms ns : List Mark} → Gives P a ms (p ∷ qs) b → Gives (p ∷ []) b ns [] c → Gives P a (ms ++ ns) qs c
+pub next : {P qs : List Part} {p : Part} {a b c : List Token} {ms ns : List Entry} → Gives P a ms (p ∷ qs) b → Gives (p ∷ []) b ns [] c → Gives P a (ms ++ ns) qs c
 next {qs = qs} g h = join g (before qs h)
 
 -- the next part is a phrase, of this alternative
-pub next_choose : {P qs : List Part} {s : Production} {a b : List Token} {ms : List Mark} (k : ℕ) → Gives P a ms (phrase s ∷ qs) b → Tells s k b →
+pub next_choose : {P qs : List Part} {s : Production} {a b : List Token} {ms : List Entry} (k : ℕ) → Gives P a ms (phrase s ∷ qs) b → Tells s k b →
     Gives P a (ms ++ node s k) (alternative s k ++ qs) b
 next_choose {qs = qs} {s = s} {b = b} k g h = join g (record { goes = λ rest ns end r. chosen k h.number (subst (λ x. Runs x b ns end) (append_assoc (alternative s k) qs rest) r) })
 
 -- where the next part gets stuck
-pub stops : {P qs : List Part} {p : Part} {a b c : List Token} {ms : List Mark} → Gives P a ms (p ∷ qs) b → Sticks (p ∷ []) b c → Sticks P a c
+pub stops : {P qs : List Part} {p : Part} {a b c : List Token} {ms : List Entry} → Gives P a ms (p ∷ qs) b → Sticks (p ∷ []) b c → Sticks P a c
 stops {qs = qs} {ms = ms} g s = record { marks = ms ++ s.marks; sticks = λ rest. g.goes rest s.marks (stuck _) (s.sticks (qs ++ rest)) }
 
 -- the same under other names
-pub as_marks : {P qs : List Part} {a b : List Token} {ms ns : List Mark} → ns ≡ ms → Gives P a ms qs b → Gives P a ns qs b
+pub as_marks : {P qs : List Part} {a b : List Token} {ms ns : List Entry} → ns ≡ ms → Gives P a ms qs b → Gives P a ns qs b
 as_marks {P} {qs} {a} {b} e g = subst (λ x. Gives P a x qs b) (sym e) g
 
 -- rows of a chain or a list
@@ -69,25 +69,25 @@ append_none : {A : Type 0} (xs : List A) → xs ++ [] ≡ xs
 append_none [] = refl
 append_none (x ∷ xs) = ap (λ r. x ∷ r) (append_none xs)
 
-flat_map_last : {A : Type 0} (f : A → List Mark) (xs : List A) (x : A) → flat_map f (xs ++ x ∷ []) ≡ flat_map f xs ++ f x
+flat_map_last : {A : Type 0} (f : A → List Entry) (xs : List A) (x : A) → flat_map f (xs ++ x ∷ []) ≡ flat_map f xs ++ f x
 flat_map_last f [] x = append_none (f x)
 flat_map_last f (y ∷ ys) x = ap (λ r. f y ++ r) (flat_map_last f ys x) ∙ sym (append_assoc (f y) (flat_map f ys) (f x))
 
-pub rows_start : {A : Type 0} (f : A → List Mark) {P qs : List Part} {a b : List Token} {ms : List Mark} {xs : List A} → Gives P a ms qs b → xs ≡ [] →
+pub rows_start : {A : Type 0} (f : A → List Entry) {P qs : List Part} {a b : List Token} {ms : List Entry} {xs : List A} → Gives P a ms qs b → xs ≡ [] →
     Gives P a (ms ++ flat_map f xs) qs b
 rows_start f {ms = ms} g e = as_marks (ap (λ r. ms ++ flat_map f r) e ∙ append_none ms) g
 
-pub rows_more : {A : Type 0} (f : A → List Mark) (ms : List Mark) (xs : List A) (x : A) {P qs rs : List Part} {a b c : List Token} {ys : List A} →
+pub rows_more : {A : Type 0} (f : A → List Entry) (ms : List Entry) (xs : List A) (x : A) {P qs rs : List Part} {a b c : List Token} {ys : List A} →
     Gives P a (ms ++ flat_map f xs) qs b → Gives qs b (f x) rs c → ys ≡ xs ++ x ∷ [] → Gives P a (ms ++ flat_map f ys) rs c
 rows_more f ms xs x g h e =
     as_marks (ap (λ r. ms ++ flat_map f r) e ∙ (ap (λ r. ms ++ r) (flat_map_last f xs x) ∙ sym (append_assoc ms (flat_map f xs) (f x)))) (join g h)
 
 -- the items of a list that is read: its first one, and those behind it
-pub items_start : {A T : Type 0} (g : A → List Mark) (f : T → List Mark) (m : List Mark) {P qs : List Part} {a b : List Token} {first given : A} {xs : List T} →
+pub items_start : {A T : Type 0} (g : A → List Entry) (f : T → List Entry) (m : List Entry) {P qs : List Part} {a b : List Token} {first given : A} {xs : List T} →
     Gives P a (m ++ g first) qs b → given ≡ first → xs ≡ [] → Gives P a (m ++ g given ++ flat_map f xs) qs b
 items_start g f m {xs = xs} r e k = as_marks (ap (λ x. m ++ g x ++ flat_map f xs) e) (rows_start f r k)
 
-pub items_more : {A T : Type 0} (g : A → List Mark) (f : T → List Mark) (m : List Mark) (xs : List T) (x : T) {P qs rs : List Part} {a b c : List Token} {first given : A} {ys : List T} →
+pub items_more : {A T : Type 0} (g : A → List Entry) (f : T → List Entry) (m : List Entry) (xs : List T) (x : T) {P qs rs : List Part} {a b c : List Token} {first given : A} {ys : List T} →
     Gives P a (m ++ g first ++ flat_map f xs) qs b → Gives qs b (f x) rs c → given ≡ first → ys ≡ xs ++ x ∷ [] → Gives P a (m ++ g given ++ flat_map f ys) rs c
 items_more g f m xs x {first = first} {ys = ys} r h e k = as_marks (ap (λ y. m ++ g y ++ flat_map f ys) e) (rows_more f (m ++ g first) xs x r h k)
 
@@ -117,16 +117,16 @@ pub idle : {ps : List Part} {a : List Token} → Gives ps a [] ps a
 idle = record { goes = λ rest ns e r. r }
 
 -- where some parts in front of more get stuck
-pub stops_list : (qs : List Part) {P ps : List Part} {a b c : List Token} {ms : List Mark} → Gives P a ms (ps ++ qs) b → Sticks ps b c → Sticks P a c
+pub stops_list : (qs : List Part) {P ps : List Part} {a b c : List Token} {ms : List Entry} → Gives P a ms (ps ++ qs) b → Sticks ps b c → Sticks P a c
 stops_list qs {P = P} {ps = ps} {a = a} {b = b} {c = c} {ms = ms} g s = record {
   marks = ms ++ s.marks;
   sticks = λ rest. g.goes rest s.marks (stuck c) (subst (λ x. Runs x b s.marks (stuck c)) (sym (append_assoc ps qs rest)) (s.sticks (qs ++ rest)));
 }
 
-pub rows_first : {A : Type 0} (f : A → List Mark) {ps : List Part} {a : List Token} {xs : List A} → xs ≡ [] → Gives ps a (flat_map f xs) ps a
+pub rows_first : {A : Type 0} (f : A → List Entry) {ps : List Part} {a : List Token} {xs : List A} → xs ≡ [] → Gives ps a (flat_map f xs) ps a
 rows_first f e = as_marks (ap (flat_map f) e) idle
 
-pub regroup : (n r a f b p c l : List Mark) → n ++ r ++ a ++ f ++ b ++ p ++ c ++ l ≡ n ++ (r ++ a) ++ (f ++ b) ++ (p ++ c) ++ l
+pub regroup : (n r a f b p c l : List Entry) → n ++ r ++ a ++ f ++ b ++ p ++ c ++ l ≡ n ++ (r ++ a) ++ (f ++ b) ++ (p ++ c) ++ l
 regroup n r a f b p c l =
     ap (λ x. x ++ f ++ b ++ p ++ c ++ l) (append_assoc n r a)
     ∙ (ap (λ x. x ++ p ++ c ++ l) (append_assoc (n ++ (r ++ a)) f b) ∙ ap (λ x. x ++ l) (append_assoc (n ++ (r ++ a) ++ (f ++ b)) p c))

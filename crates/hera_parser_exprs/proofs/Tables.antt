@@ -2,6 +2,8 @@
 use Rattle.std.proofs.Common.{◌≡◌, ◌<◌, ℕ, zero, suc, List, [], ◌∷◌, ◌++◌, Option, Some, None, Bool, true, false, refl, sym, ap, subst, ◌∙◌, ◌⊎◌, inl, inr, if◌then◌else◌, not, ◌&&◌, ◌||◌, append_assoc, length, arith}
 use Rattle.std.specs.Prelude.{slice_index_or}
 use Rattle.std.specs.List.{list_any, list_all}
+use Rattle.hera_syntax.specs.declared.token.Terminal.TheVariants as terminals
+use Rattle.hera_syntax.specs.declared.words.Keyword.TheVariants as keys
 use Rattle.hera_syntax.specs.declared.token.Token.{Token}
 use Rattle.hera_syntax.specs.declared.token.Terminal.{Terminal}
 use Rattle.hera_syntax.specs.Grammar.{terminal_of, is_one_of, word, comma, dot, paren, cmp_ops, signs, ops, Level, whens, ors, ands, sums, terms, smashes, merges, Production, Part, keep, leave, phrase, alternatives, alternative}
@@ -25,11 +27,11 @@ level_extends whens = ops whens ++ (ops ors ++ (ops ands ++ (cmp_ops ++ (ops sum
 
 -- the terminals that would make a phrase of a production go on
 abbrev pub extends : Production → List Terminal
-extends phrases.program = word 0 ∷ word 1 ∷ word 2 ∷ word 3 ∷ []
-extends phrases.relations = word 0 ∷ []
-extends phrases.funcs = word 1 ∷ []
-extends phrases.procs = word 2 ∷ []
-extends phrases.last_main = word 3 ∷ []
+extends phrases.program = word keys.Relation ∷ word keys.Func ∷ word keys.Proc ∷ word keys.Main ∷ []
+extends phrases.relations = word keys.Relation ∷ []
+extends phrases.funcs = word keys.Func ∷ []
+extends phrases.procs = word keys.Proc ∷ []
+extends phrases.last_main = word keys.Main ∷ []
 extends phrases.relation = []
 extends phrases.attrs = comma ∷ []
 extends phrases.more_attrs = comma ∷ []
@@ -45,12 +47,13 @@ extends phrases.more_params = comma ∷ []
 extends phrases.param = []
 extends phrases.main = []
 extends phrases.block = []
-extends phrases.stmts = word 11 ∷ stmt_starts
-extends phrases.stmt = word 11 ∷ []
+extends phrases.stmts = word keys.Else ∷ stmt_starts
+extends phrases.stmt = word keys.Else ∷ []
 extends phrases.named = []
-extends phrases.else_part = word 11 ∷ []
-extends phrases.after_else = word 11 ∷ []
+extends phrases.else_part = word keys.Else ∷ []
+extends phrases.after_else = word keys.Else ∷ []
 extends phrases.some_value = expr_starts ++ level_extends whens
+extends phrases.some_text = terminals.Text ∷ []
 extends phrases.some_args = comma ∷ (expr_starts ++ level_extends whens)
 extends phrases.args = comma ∷ level_extends whens
 extends phrases.more_args = comma ∷ level_extends whens
@@ -142,6 +145,7 @@ grammar_fine phrases.named = refl
 grammar_fine phrases.else_part = refl
 grammar_fine phrases.after_else = refl
 grammar_fine phrases.some_value = refl
+grammar_fine phrases.some_text = refl
 grammar_fine phrases.some_args = refl
 grammar_fine phrases.args = refl
 grammar_fine phrases.more_args = refl

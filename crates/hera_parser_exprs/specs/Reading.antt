@@ -1,55 +1,58 @@
 -- How the parser reads tokens from the left, and how far it gets.
 use Rattle.std.specs.Prelude.{◌≡◌, ℕ, suc, List, [], ◌∷◌, ◌++◌, Option, Some, None, Bool, true, false, if◌then◌else◌}
+use Rattle.hera_syntax.specs.declared.words.Keyword.TheVariants as keys
+use Rattle.hera_syntax.specs.declared.words.Mark.TheVariants as puncts
 use Rattle.hera_syntax.specs.declared.token.Token.{Token}
 use Rattle.hera_syntax.specs.declared.token.Terminal.{Terminal}
 use Rattle.hera_syntax.specs.declared.token.Terminal.TheVariants as terminals
 use Rattle.hera_syntax.specs.Grammar.{Allows, terminal_of, is_one_of, word, mark, name, paren, brace, comma, dot, kind_words, cmp_ops, prefix_ops, signs, walk_words, pair_words, measure_words, fold_words, part_words, ops, Production, Part, keep, leave, phrase, alternatives, alternative}
 use Rattle.hera_syntax.specs.Grammar as phrases
-use Rattle.hera_syntax.specs.Outline.{Mark, at_node, kept, left_out}
+use Rattle.hera_syntax.specs.Outline.{Entry, at_node, kept, left_out}
 
 -- what a type begins with
 abbrev pub type_starts : List Terminal
-type_starts = kind_words ++ word 7 ∷ word 8 ∷ word 9 ∷ []
+type_starts = kind_words ++ word keys.Delta ∷ word keys.Rel ∷ word keys.Tuple ∷ []
 
 -- what an expression that no operator splits begins with
 abbrev pub prime_starts : List Terminal
-prime_starts = (terminals.Int ∷ terminals.Text ∷ word 21 ∷ word 22 ∷ word 23 ∷ terminals.Name ∷ mark 0 ∷ mark 2 ∷ mark 4 ∷ word 25 ∷ [])
-    ++ walk_words ++ (word 28 ∷ word 29 ∷ []) ++ pair_words ++ (word 34 ∷ []) ++ measure_words ++ fold_words ++ (word 42 ∷ []) ++ part_words
+prime_starts = (terminals.Int ∷ terminals.Text ∷ word keys.True ∷ word keys.False ∷ word keys.Fail ∷ terminals.Name ∷ mark puncts.OpenParen ∷ mark puncts.OpenSquare ∷ mark puncts.OpenBrace ∷ word keys.Rows ∷ [])
+    ++ walk_words ++ (word keys.Project ∷ word keys.Rename ∷ []) ++ pair_words ++ (word keys.Group ∷ []) ++ measure_words ++ fold_words ++ (word keys.Bulk ∷ []) ++ part_words
 
 abbrev pub expr_starts : List Terminal
 expr_starts = prefix_ops ++ prime_starts
 
 abbrev pub stmt_starts : List Terminal
-stmt_starts = type_starts ++ (terminals.Name ∷ word 10 ∷ word 12 ∷ word 13 ∷ word 15 ∷ word 16 ∷ word 19 ∷ word 17 ∷ word 18 ∷ word 20 ∷ [])
+stmt_starts = type_starts ++ (terminals.Name ∷ word keys.If ∷ word keys.While ∷ word keys.Foreach ∷ word keys.Print ∷ word keys.Apply ∷ word keys.Assert ∷ word keys.Commit ∷ word keys.Rollback ∷ word keys.Return ∷ [])
 
 -- what a phrase of a production begins with
 abbrev pub firsts : Production → List Terminal
-firsts phrases.program = word 0 ∷ word 1 ∷ word 2 ∷ word 3 ∷ []
-firsts phrases.relations = word 0 ∷ []
-firsts phrases.funcs = word 1 ∷ []
-firsts phrases.procs = word 2 ∷ []
-firsts phrases.last_main = word 3 ∷ []
-firsts phrases.relation = word 0 ∷ []
+firsts phrases.program = word keys.Relation ∷ word keys.Func ∷ word keys.Proc ∷ word keys.Main ∷ []
+firsts phrases.relations = word keys.Relation ∷ []
+firsts phrases.funcs = word keys.Func ∷ []
+firsts phrases.procs = word keys.Proc ∷ []
+firsts phrases.last_main = word keys.Main ∷ []
+firsts phrases.relation = word keys.Relation ∷ []
 firsts phrases.attrs = name
 firsts phrases.more_attrs = comma ∷ []
 firsts phrases.attr = name
 firsts phrases.kind = kind_words
 firsts phrases.type_tree = type_starts
-firsts phrases.schema = terminals.Name ∷ mark 0 ∷ []
-firsts phrases.func = word 1 ∷ []
-firsts phrases.proc = word 2 ∷ []
+firsts phrases.schema = terminals.Name ∷ mark puncts.OpenParen ∷ []
+firsts phrases.func = word keys.Func ∷ []
+firsts phrases.proc = word keys.Proc ∷ []
 firsts phrases.some_params = type_starts
 firsts phrases.params = type_starts
 firsts phrases.more_params = comma ∷ []
 firsts phrases.param = type_starts
-firsts phrases.main = word 3 ∷ []
+firsts phrases.main = word keys.Main ∷ []
 firsts phrases.block = brace
 firsts phrases.stmts = stmt_starts
 firsts phrases.stmt = stmt_starts
-firsts phrases.named = mark 10 ∷ mark 0 ∷ []
-firsts phrases.else_part = word 11 ∷ []
-firsts phrases.after_else = word 10 ∷ mark 4 ∷ []
+firsts phrases.named = mark puncts.Equals ∷ mark puncts.OpenParen ∷ []
+firsts phrases.else_part = word keys.Else ∷ []
+firsts phrases.after_else = word keys.If ∷ mark puncts.OpenBrace ∷ []
 firsts phrases.some_value = expr_starts
+firsts phrases.some_text = terminals.Text ∷ []
 firsts phrases.some_args = expr_starts
 firsts phrases.args = expr_starts
 firsts phrases.more_args = comma ∷ []
@@ -81,7 +84,7 @@ firsts phrases.renaming = name
 firsts phrases.aggs = name
 firsts phrases.more_aggs = comma ∷ []
 firsts phrases.named_agg = name
-firsts phrases.agg = word 36 ∷ fold_words
+firsts phrases.agg = word keys.Count ∷ fold_words
 
 -- whether it may be empty
 abbrev pub nullable : Production → Bool
@@ -111,6 +114,7 @@ nullable phrases.named = false
 nullable phrases.else_part = true
 nullable phrases.after_else = false
 nullable phrases.some_value = true
+nullable phrases.some_text = true
 nullable phrases.some_args = true
 nullable phrases.args = false
 nullable phrases.more_args = true
@@ -179,20 +183,20 @@ pub data End : Type 0 where
   stuck : List Token → End
 
 -- these parts are read from these tokens, which gives an outline so far, up to an end
-pub data Runs : List Part → List Token → List Mark → End → Type 0 where
+pub data Runs : List Part → List Token → List Entry → End → Type 0 where
   finished : Runs [] [] [] accept
   left_over : {t : Token} {ts : List Token} → Runs [] (t ∷ ts) [] (stuck (t ∷ ts))
-  kept_one : {codes : List Terminal} {ps : List Part} {t : Token} {ts : List Token} {ms : List Mark} {e : End}
+  kept_one : {codes : List Terminal} {ps : List Part} {t : Token} {ts : List Token} {ms : List Entry} {e : End}
       → Allows codes t → Runs ps ts ms e → Runs (keep codes ∷ ps) (t ∷ ts) (kept t ∷ ms) e
   kept_missed : {codes : List Terminal} {ps : List Part} {t : Token} {ts : List Token}
       → is_one_of codes (terminal_of t.kind) ≡ false → Runs (keep codes ∷ ps) (t ∷ ts) [] (stuck (t ∷ ts))
   kept_ended : {codes : List Terminal} {ps : List Part} → Runs (keep codes ∷ ps) [] [] (stuck [])
-  left_one : {c : Terminal} {ps : List Part} {t : Token} {ts : List Token} {ms : List Mark} {e : End}
+  left_one : {c : Terminal} {ps : List Part} {t : Token} {ts : List Token} {ms : List Entry} {e : End}
       → Allows (c ∷ []) t → Runs ps ts ms e → Runs (leave c ∷ ps) (t ∷ ts) (left_out c ∷ ms) e
   left_missed : {c : Terminal} {ps : List Part} {t : Token} {ts : List Token}
       → is_one_of (c ∷ []) (terminal_of t.kind) ≡ false → Runs (leave c ∷ ps) (t ∷ ts) [] (stuck (t ∷ ts))
   left_ended : {c : Terminal} {ps : List Part} → Runs (leave c ∷ ps) [] [] (stuck [])
-  chosen : {s : Production} {ps : List Part} {ts : List Token} {ms : List Mark} {e : End}
+  chosen : {s : Production} {ps : List Part} {ts : List Token} {ms : List Entry} {e : End}
       → (k : ℕ) → choice s (next_terminal ts) ≡ k → Runs (alternative s k ++ ps) ts ms e → Runs (phrase s ∷ ps) ts (at_node s k ∷ ms) e
 
 -- the next of these tokens tells this alternative of the production
@@ -205,10 +209,10 @@ BeginsNone [] tokens = Unit {0}
 BeginsNone (q ∷ qs) tokens = (stands (starts q) (next_terminal tokens) ≡ false) × BeginsNone qs tokens
 
 -- Reading ps from old is as reading qs from new, whatever follows, and what lies between has this outline.
-pub record Gives (ps : List Part) (old : List Token) (ms : List Mark) (qs : List Part) (new : List Token) : Type 0 where
-  pub goes : (rest : List Part) (ns : List Mark) (e : End) → Runs (qs ++ rest) new ns e → Runs (ps ++ rest) old (ms ++ ns) e
+pub record Gives (ps : List Part) (old : List Token) (ms : List Entry) (qs : List Part) (new : List Token) : Type 0 where
+  pub goes : (rest : List Part) (ns : List Entry) (e : End) → Runs (qs ++ rest) new ns e → Runs (ps ++ rest) old (ms ++ ns) e
 
 -- Reading ps from old, whatever follows, gets as far as new and no further.
 pub record Sticks (ps : List Part) (old new : List Token) : Type 0 where
-  pub marks : List Mark
+  pub marks : List Entry
   pub sticks : (rest : List Part) → Runs (ps ++ rest) old marks (stuck new)

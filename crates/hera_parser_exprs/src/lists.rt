@@ -1,6 +1,7 @@
 // Names, renamings and aggregates.
 
 ghost use Rattle.std.specs.Prelude.{◌≡◌, ◌<◌, ◌≤◌, [], ◌∷◌, ◌++◌, length, IfOk, OnOk, IsErrOf};
+ghost use Rattle.hera_syntax.specs.declared.words.Keyword.TheVariants as keys;
 ghost use Rattle.hera_syntax.specs.Grammar.{keep, leave, phrase, word};
 ghost use Rattle.hera_syntax.specs.Grammar as phrases;
 ghost use Rattle.hera_syntax.specs.Outline.{agg_outline, aggs_outline, field_outline, hold, named_agg_outline, names_outline, renaming_outline, renamings_outline, skip};
@@ -65,8 +66,8 @@ impl<'a> Parser<'a> {
 
     /// `'bulk' '(' ('+' | '-') name ','`
     pub(crate) fn bulk_head(&mut self) -> Result<(((Token, Token), Token), Token), Stop>
-        ensures reads { IfOk result (λ head. Gives (keep (word 42 ∷ []) ∷ keep phrases.paren ∷ keep phrases.signs ∷ keep phrases.name ∷ leave phrases.comma ∷ []) self.old (hold head.0.0.0 ++ hold head.0.0.1 ++ hold head.0.1 ++ hold head.1 ++ skip phrases.comma) [] self.new) }
-        ensures sticks { IsErrOf result Stop.Syntax → Sticks (keep (word 42 ∷ []) ∷ keep phrases.paren ∷ keep phrases.signs ∷ keep phrases.name ∷ leave phrases.comma ∷ []) self.old self.new }
+        ensures reads { IfOk result (λ head. Gives (keep (word keys.Bulk ∷ []) ∷ keep phrases.paren ∷ keep phrases.signs ∷ keep phrases.name ∷ leave phrases.comma ∷ []) self.old (hold head.0.0.0 ++ hold head.0.0.1 ++ hold head.0.1 ++ hold head.1 ++ skip phrases.comma) [] self.new) }
+        ensures sticks { IsErrOf result Stop.Syntax → Sticks (keep (word keys.Bulk ∷ []) ∷ keep phrases.paren ∷ keep phrases.signs ∷ keep phrases.name ∷ leave phrases.comma ∷ []) self.old self.new }
         ensures shorter { OnOk result (length self.new < length self.old) }
     {
         let head = self.bracketed(BULK)?;
@@ -78,8 +79,8 @@ impl<'a> Parser<'a> {
 
     /// `'rows' '(' name ')' '{'`
     pub(crate) fn rows_head(&mut self) -> Result<(((Token, Token), Token), Token), Stop>
-        ensures reads { IfOk result (λ head. Gives (keep (word 25 ∷ []) ∷ keep phrases.paren ∷ keep phrases.name ∷ leave phrases.close_paren ∷ keep phrases.brace ∷ []) self.old (hold head.0.0.0 ++ hold head.0.0.1 ++ hold head.0.1 ++ skip phrases.close_paren ++ hold head.1) [] self.new) }
-        ensures sticks { IsErrOf result Stop.Syntax → Sticks (keep (word 25 ∷ []) ∷ keep phrases.paren ∷ keep phrases.name ∷ leave phrases.close_paren ∷ keep phrases.brace ∷ []) self.old self.new }
+        ensures reads { IfOk result (λ head. Gives (keep (word keys.Rows ∷ []) ∷ keep phrases.paren ∷ keep phrases.name ∷ leave phrases.close_paren ∷ keep phrases.brace ∷ []) self.old (hold head.0.0.0 ++ hold head.0.0.1 ++ hold head.0.1 ++ skip phrases.close_paren ++ hold head.1) [] self.new) }
+        ensures sticks { IsErrOf result Stop.Syntax → Sticks (keep (word keys.Rows ∷ []) ∷ keep phrases.paren ∷ keep phrases.name ∷ leave phrases.close_paren ∷ keep phrases.brace ∷ []) self.old self.new }
         ensures shorter { OnOk result (length self.new < length self.old) }
     {
         let named = self.naming(ROWS, CLOSE_PAREN)?;

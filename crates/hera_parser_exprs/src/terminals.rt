@@ -1,133 +1,143 @@
 //! The terminals that the reader of expressions looks for. Those of declarations and statements too are public.
 
-use hera_syntax::Terminal;
+use hera_syntax::{Keyword, Mark, Terminal};
 
 /// A name.
 pub const NAME: &[Terminal] = &[Terminal::Name];
 
 /// `(`
-pub const PAREN: &[Terminal] = &[Terminal::Punct(0)];
+pub const PAREN: &[Terminal] = &[Terminal::Punct(Mark::OpenParen)];
 
-pub(crate) const SQUARE: &[Terminal] = &[Terminal::Punct(2)];
+pub(crate) const SQUARE: &[Terminal] = &[Terminal::Punct(Mark::OpenSquare)];
 
 /// `{`
-pub const BRACE: &[Terminal] = &[Terminal::Punct(4)];
+pub const BRACE: &[Terminal] = &[Terminal::Punct(Mark::OpenBrace)];
 
 pub(crate) const INT: &[Terminal] = &[Terminal::Int];
 
-pub(crate) const TEXT: &[Terminal] = &[Terminal::Text];
+/// A text literal.
+pub const TEXT: &[Terminal] = &[Terminal::Text];
 
 pub(crate) const CMP_OPS: &[Terminal] = &[
-    Terminal::Punct(11),
-    Terminal::Punct(12),
-    Terminal::Punct(13),
-    Terminal::Punct(14),
-    Terminal::Punct(15),
-    Terminal::Punct(16),
-    Terminal::Key(14),
+    Terminal::Punct(Mark::EqualEqual),
+    Terminal::Punct(Mark::NotEqual),
+    Terminal::Punct(Mark::Less),
+    Terminal::Punct(Mark::LessEqual),
+    Terminal::Punct(Mark::Greater),
+    Terminal::Punct(Mark::GreaterEqual),
+    Terminal::Key(Keyword::In),
 ];
 
-pub(crate) const PREFIX_OPS: &[Terminal] = &[Terminal::Punct(18), Terminal::Punct(22)];
+pub(crate) const PREFIX_OPS: &[Terminal] = &[
+    Terminal::Punct(Mark::Minus),
+    Terminal::Punct(Mark::Bang),
+];
 
-pub(crate) const SIGNS: &[Terminal] = &[Terminal::Punct(17), Terminal::Punct(18)];
+pub(crate) const SIGNS: &[Terminal] = &[Terminal::Punct(Mark::Plus), Terminal::Punct(Mark::Minus)];
 
-pub(crate) const WALK_WORDS: &[Terminal] = &[Terminal::Key(26), Terminal::Key(27)];
+pub(crate) const WALK_WORDS: &[Terminal] = &[
+    Terminal::Key(Keyword::Select),
+    Terminal::Key(Keyword::Map),
+];
 
 pub(crate) const PAIR_WORDS: &[Terminal] = &[
-    Terminal::Key(30),
-    Terminal::Key(31),
-    Terminal::Key(32),
-    Terminal::Key(33),
+    Terminal::Key(Keyword::Union),
+    Terminal::Key(Keyword::Minus),
+    Terminal::Key(Keyword::Inter),
+    Terminal::Key(Keyword::Join),
 ];
 
 pub(crate) const MEASURE_WORDS: &[Terminal] = &[
-    Terminal::Key(36),
-    Terminal::Key(37),
-    Terminal::Key(41),
+    Terminal::Key(Keyword::Count),
+    Terminal::Key(Keyword::Empty),
+    Terminal::Key(Keyword::IsFail),
 ];
 
 pub(crate) const FOLD_WORDS: &[Terminal] = &[
-    Terminal::Key(38),
-    Terminal::Key(39),
-    Terminal::Key(40),
+    Terminal::Key(Keyword::Sum),
+    Terminal::Key(Keyword::Min),
+    Terminal::Key(Keyword::Max),
 ];
 
-pub(crate) const PART_WORDS: &[Terminal] = &[Terminal::Key(43), Terminal::Key(44)];
+pub(crate) const PART_WORDS: &[Terminal] = &[
+    Terminal::Key(Keyword::Ins),
+    Terminal::Key(Keyword::Del),
+];
 
-pub(crate) const TRUE: &[Terminal] = &[Terminal::Key(21)];
+pub(crate) const TRUE: &[Terminal] = &[Terminal::Key(Keyword::True)];
 
-pub(crate) const FALSE: &[Terminal] = &[Terminal::Key(22)];
+pub(crate) const FALSE: &[Terminal] = &[Terminal::Key(Keyword::False)];
 
-pub(crate) const FAIL: &[Terminal] = &[Terminal::Key(23)];
+pub(crate) const FAIL: &[Terminal] = &[Terminal::Key(Keyword::Fail)];
 
-pub(crate) const ROWS: &[Terminal] = &[Terminal::Key(25)];
+pub(crate) const ROWS: &[Terminal] = &[Terminal::Key(Keyword::Rows)];
 
-pub(crate) const PROJECT: &[Terminal] = &[Terminal::Key(28)];
+pub(crate) const PROJECT: &[Terminal] = &[Terminal::Key(Keyword::Project)];
 
-pub(crate) const RENAME: &[Terminal] = &[Terminal::Key(29)];
+pub(crate) const RENAME: &[Terminal] = &[Terminal::Key(Keyword::Rename)];
 
-pub(crate) const GROUP: &[Terminal] = &[Terminal::Key(34)];
+pub(crate) const GROUP: &[Terminal] = &[Terminal::Key(Keyword::Group)];
 
-pub(crate) const COUNT: &[Terminal] = &[Terminal::Key(36)];
+pub(crate) const COUNT: &[Terminal] = &[Terminal::Key(Keyword::Count)];
 
-pub(crate) const BULK: &[Terminal] = &[Terminal::Key(42)];
+pub(crate) const BULK: &[Terminal] = &[Terminal::Key(Keyword::Bulk)];
 
 /// What an expression begins with.
 pub const EXPR_STARTS: &[Terminal] = &[
-    Terminal::Punct(18),
-    Terminal::Punct(22),
+    Terminal::Punct(Mark::Minus),
+    Terminal::Punct(Mark::Bang),
     Terminal::Int,
     Terminal::Text,
-    Terminal::Key(21),
-    Terminal::Key(22),
-    Terminal::Key(23),
+    Terminal::Key(Keyword::True),
+    Terminal::Key(Keyword::False),
+    Terminal::Key(Keyword::Fail),
     Terminal::Name,
-    Terminal::Punct(0),
-    Terminal::Punct(2),
-    Terminal::Punct(4),
-    Terminal::Key(25),
-    Terminal::Key(26),
-    Terminal::Key(27),
-    Terminal::Key(28),
-    Terminal::Key(29),
-    Terminal::Key(30),
-    Terminal::Key(31),
-    Terminal::Key(32),
-    Terminal::Key(33),
-    Terminal::Key(34),
-    Terminal::Key(36),
-    Terminal::Key(37),
-    Terminal::Key(41),
-    Terminal::Key(38),
-    Terminal::Key(39),
-    Terminal::Key(40),
-    Terminal::Key(42),
-    Terminal::Key(43),
-    Terminal::Key(44),
+    Terminal::Punct(Mark::OpenParen),
+    Terminal::Punct(Mark::OpenSquare),
+    Terminal::Punct(Mark::OpenBrace),
+    Terminal::Key(Keyword::Rows),
+    Terminal::Key(Keyword::Select),
+    Terminal::Key(Keyword::Map),
+    Terminal::Key(Keyword::Project),
+    Terminal::Key(Keyword::Rename),
+    Terminal::Key(Keyword::Union),
+    Terminal::Key(Keyword::Minus),
+    Terminal::Key(Keyword::Inter),
+    Terminal::Key(Keyword::Join),
+    Terminal::Key(Keyword::Group),
+    Terminal::Key(Keyword::Count),
+    Terminal::Key(Keyword::Empty),
+    Terminal::Key(Keyword::IsFail),
+    Terminal::Key(Keyword::Sum),
+    Terminal::Key(Keyword::Min),
+    Terminal::Key(Keyword::Max),
+    Terminal::Key(Keyword::Bulk),
+    Terminal::Key(Keyword::Ins),
+    Terminal::Key(Keyword::Del),
 ];
 
 /// `)`
-pub const CLOSE_PAREN: Terminal = Terminal::Punct(1);
+pub const CLOSE_PAREN: Terminal = Terminal::Punct(Mark::CloseParen);
 
-pub(crate) const CLOSE_SQUARE: Terminal = Terminal::Punct(3);
+pub(crate) const CLOSE_SQUARE: Terminal = Terminal::Punct(Mark::CloseSquare);
 
 /// `}`
-pub const CLOSE_BRACE: Terminal = Terminal::Punct(5);
+pub const CLOSE_BRACE: Terminal = Terminal::Punct(Mark::CloseBrace);
 
 /// `,`
-pub const COMMA: Terminal = Terminal::Punct(6);
+pub const COMMA: Terminal = Terminal::Punct(Mark::Comma);
 
 /// `;`
-pub const SEMICOLON: Terminal = Terminal::Punct(7);
+pub const SEMICOLON: Terminal = Terminal::Punct(Mark::Semicolon);
 
-pub(crate) const COLON: Terminal = Terminal::Punct(8);
+pub(crate) const COLON: Terminal = Terminal::Punct(Mark::Colon);
 
-pub(crate) const DOT: Terminal = Terminal::Punct(9);
+pub(crate) const DOT: Terminal = Terminal::Punct(Mark::Dot);
 
 /// `=`
-pub const EQUALS: Terminal = Terminal::Punct(10);
+pub const EQUALS: Terminal = Terminal::Punct(Mark::Equals);
 
 /// `in`
-pub const IN: Terminal = Terminal::Key(14);
+pub const IN: Terminal = Terminal::Key(Keyword::In);
 
-pub(crate) const BY: Terminal = Terminal::Key(35);
+pub(crate) const BY: Terminal = Terminal::Key(Keyword::By);

@@ -7,7 +7,7 @@ use Rattle.hera_syntax.specs.declared.token.Token.{Token}
 use Rattle.hera_syntax.specs.declared.token.Terminal.{Terminal}
 use Rattle.hera_syntax.specs.Grammar.{terminal_of, is_one_of, Production, Part, keep, leave, phrase, alternatives, alternative}
 use Rattle.hera_syntax.specs.Grammar as phrases
-use Rattle.hera_syntax.specs.Outline.{Mark, at_node, kept, left_out}
+use Rattle.hera_syntax.specs.Outline.{Entry, at_node, kept, left_out}
 use Rattle.hera_parser_exprs.specs.Reading.{nullable, next_terminal, choice, End, accept, stuck, Runs, finished, left_over, kept_one, kept_missed, kept_ended, left_one, left_missed, left_ended, chosen}
 use Rattle.hera_parser_exprs.proofs.Tests.{bool_cases}
 use Rattle.hera_parser_exprs.proofs.Tables.{all_nullable, empty_alternative, choice_within}
@@ -40,6 +40,7 @@ rank phrases.named = 1
 rank phrases.else_part = 1
 rank phrases.after_else = 2
 rank phrases.some_value = 12
+rank phrases.some_text = 1
 rank phrases.some_args = 13
 rank phrases.args = 12
 rank phrases.more_args = 1
@@ -117,6 +118,7 @@ all_cheap phrases.named = refl
 all_cheap phrases.else_part = refl
 all_cheap phrases.after_else = refl
 all_cheap phrases.some_value = refl
+all_cheap phrases.some_text = refl
 all_cheap phrases.some_args = refl
 all_cheap phrases.args = refl
 all_cheap phrases.more_args = refl
@@ -189,7 +191,7 @@ descends s k ps l = by (bool_cases (all_nullable (alternative s k))) where
       omega (arith, less, all)
 
 pub record Ended (ps : List Part) (ts : List Token) : Type 0 where
-  pub marks : List Mark
+  pub marks : List Entry
   pub end : End
   pub runs : Runs ps ts marks end
 

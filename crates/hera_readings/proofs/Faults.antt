@@ -78,7 +78,7 @@ mutual
   act_placed g r ls n (applying at p) = then_placed (check g ls n p) _ (phrase_placed g ls n p) (λ v. stays_placed ls (apply_row (is_some r) at v) (apply_placed (is_some r) at v))
   act_placed g r ls n (asserting at p) = then_placed (check g ls n p) _ (phrase_placed g ls n p) (λ v. stays_placed ls (assert_row at v) (assert_placed at v))
   act_placed g r ls n (returning_value at p) = then_placed (check g ls n p) _ (phrase_placed g ls n p) (λ v. stays_placed ls (return_value_row r at v) (return_value_placed r at v))
-  act_placed g r ls n (committing at) = stays_placed ls (effect_row (is_some r) at commit) (effect_placed (is_some r) at commit)
+  act_placed g r ls n (committing at label) = stays_placed ls (effect_row (is_some r) at (commit label)) (effect_placed (is_some r) at (commit label))
   act_placed g r ls n (rolling_back at) = stays_placed ls (effect_row (is_some r) at rollback) (effect_placed (is_some r) at rollback)
   act_placed g r ls n (returning at) = stays_placed ls (return_row r at) (return_placed r at)
   act_placed g r ls n (performing w args) = then_placed (check_all g ls n [] args) _ (all_placed g ls n [] args) (λ vs. stays_placed ls (perform_row g (is_some r) w vs) (perform_placed g (is_some r) w vs))

@@ -37,6 +37,7 @@ makes phrases.named = acts.makes_named
 makes phrases.else_part = acts.makes_else_part
 makes phrases.after_else = acts.makes_after_else
 makes phrases.some_value = acts.makes_some_value
+makes phrases.some_text = acts.makes_some_text
 makes phrases.some_args = exprs.makes_some_args
 makes phrases.args = exprs.makes_args
 makes phrases.more_args = exprs.makes_more_args

@@ -16,7 +16,7 @@ use Rattle.hera_syntax.specs.declared.tree.StmtTree.{Declare, Assign, Call, Prin
 use Rattle.hera_syntax.specs.declared.tree.StmtTree.TheVariants as acts
 use Rattle.hera_syntax.specs.Grammar.{alternatives}
 use Rattle.hera_syntax.specs.Grammar as phrases
-use Rattle.hera_syntax.specs.Outline.{Mark, node, hold, skip, expr_outline}
+use Rattle.hera_syntax.specs.Outline.{Entry, node, hold, skip, expr_outline}
 use Rattle.hera_syntax.specs.Programs.{attr_outline, attr_row, block_outline, else_if_row, func_row, last_else, last_main_outline, param_outline, param_row, proc_row, relation_row, stmt_row}
 use Rattle.hera_syntax.proofs.Rows.{block_rows, else_ifs_rows, all_three, last_rows}
 use Rattle.hera_readings.proofs.Vecs.{vec_of}
@@ -71,7 +71,7 @@ makes_some_params = (λ (p, _) short. (Some p, refl), (λ _ short. (None, refl),
 pub makes_block : Makes phrases.block 0 (alternatives phrases.block)
 makes_block = (
   λ (b, (xs, _)) short.
-      let front : List Mark = node phrases.block 0 ++ hold b in
+      let front : List Entry = node phrases.block 0 ++ hold b in
       let few = fits stmt_row stmt_prints front xs (node phrases.stmts 1) (shorter (front ++ (flat_map stmt_row xs ++ node phrases.stmts 1)) (skip phrases.close_brace) short) in
       (record { bracket = b; stmts = vec_of xs few }, ap (λ r. r ++ skip phrases.close_brace) (append_assoc front (flat_map stmt_row xs) (node phrases.stmts 1))),
   tt,
@@ -82,6 +82,9 @@ makes_stmts = (λ (s, (xs, _)) short. (s ∷ xs, row_more stmt_row s xs (node ph
 
 pub makes_some_value : Makes phrases.some_value 0 (alternatives phrases.some_value)
 makes_some_value = (λ (e, _) short. (Some e, refl), (λ _ short. (None, refl), tt))
+
+pub makes_some_text : Makes phrases.some_text 0 (alternatives phrases.some_text)
+makes_some_text = (λ (t, _) short. (Some t, refl), (λ _ short. (None, refl), tt))
 
 pub makes_named : Makes phrases.named 0 (alternatives phrases.named)
 makes_named = (λ (e, _) short. (inl e, refl), (λ (b, (args, _)) short. (inr (b, args), refl), tt))
@@ -94,7 +97,7 @@ branch : (w b : Token) (e : Expr) (block : Block) (more : Elses)
     → Short (node phrases.stmt 2 ++ hold w ++ hold b ++ expr_outline e ++ skip phrases.close_paren ++ block_outline block ++ elses_outline more)
     → Made phrases.stmt (node phrases.stmt 2 ++ hold w ++ hold b ++ expr_outline e ++ skip phrases.close_paren ++ block_outline block ++ elses_outline more)
 branch w b e block (es, last) short =
-    let front : List Mark = node phrases.stmt 2 ++ hold w ++ hold b ++ expr_outline e ++ skip phrases.close_paren ++ block_outline block in
+    let front : List Entry = node phrases.stmt 2 ++ hold w ++ hold b ++ expr_outline e ++ skip phrases.close_paren ++ block_outline block in
     let few = fits else_if_row (λ x. zero-lt-suc _) front es (last_else last) short in (
       acts.If w b e block (vec_of es few) last,
       all_three (λ x y z. node phrases.stmt 2 ++ hold w ++ hold b ++ expr_outline e ++ skip phrases.close_paren
@@ -135,7 +138,7 @@ makes_stmt = (
               (
                 λ (w, (e, _)) short. (Assert w e, refl),
                 (
-                  λ (w, _) short. (Commit w, refl),
+                  λ (w, (label, _)) short. (Commit w label, refl),
                   (
                     λ (w, _) short. (Rollback w, refl),
                     (
@@ -153,7 +156,7 @@ makes_stmt = (
   ),
 )
 
-else_more : (x : (ElseIf × Elses) ⊎ Block) → Made phrases.else_part (node phrases.else_part 0 ++ skip (phrases.word 11) ++ after_else_outline x)
+else_more : (x : (ElseIf × Elses) ⊎ Block) → Made phrases.else_part (node phrases.else_part 0 ++ skip phrases.else_word ++ after_else_outline x)
 else_more (inl (e, (es, last))) = ((e ∷ es, last), append_assoc (else_if_row e) (flat_map else_if_row es) (last_else last))
 else_more (inr b) = (([], Some b), refl)
 
@@ -189,7 +192,7 @@ makes_procs = (λ (p, (xs, _)) short. (p ∷ xs, row_more proc_row p xs (node ph
 pub makes_last_main : Makes phrases.last_main 0 (alternatives phrases.last_main)
 makes_last_main = (λ (m, _) short. (Some m, refl), (λ _ short. (None, refl), tt))
 
-regroup : (n r a f b p c l : List Mark) → n ++ r ++ a ++ f ++ b ++ p ++ c ++ l ≡ n ++ (r ++ a) ++ (f ++ b) ++ (p ++ c) ++ l
+regroup : (n r a f b p c l : List Entry) → n ++ r ++ a ++ f ++ b ++ p ++ c ++ l ≡ n ++ (r ++ a) ++ (f ++ b) ++ (p ++ c) ++ l
 regroup n r a f b p c l =
     ap (λ x. x ++ f ++ b ++ p ++ c ++ l) (append_assoc n r a)
     ∙ (ap (λ x. x ++ p ++ c ++ l) (append_assoc (n ++ (r ++ a)) f b) ∙ ap (λ x. x ++ l) (append_assoc (n ++ (r ++ a) ++ (f ++ b)) p c))
@@ -198,9 +201,9 @@ whole : (rs : List Relation) (fs : List Func) (ps : List Proc) (m : Option Main)
     → Short (node phrases.program 0 ++ (flat_map relation_row rs ++ node phrases.relations 1) ++ (flat_map func_row fs ++ node phrases.funcs 1) ++ (flat_map proc_row ps ++ node phrases.procs 1) ++ last_main_outline m)
     → Made phrases.program (node phrases.program 0 ++ (flat_map relation_row rs ++ node phrases.relations 1) ++ (flat_map func_row fs ++ node phrases.funcs 1) ++ (flat_map proc_row ps ++ node phrases.procs 1) ++ last_main_outline m)
 whole rs fs ps m short =
-    let one : List Mark = node phrases.program 0 ++ (flat_map relation_row rs ++ node phrases.relations 1) in
-    let two : List Mark = one ++ (flat_map func_row fs ++ node phrases.funcs 1) in
-    let three : List Mark = two ++ (flat_map proc_row ps ++ node phrases.procs 1) in
+    let one : List Entry = node phrases.program 0 ++ (flat_map relation_row rs ++ node phrases.relations 1) in
+    let two : List Entry = one ++ (flat_map func_row fs ++ node phrases.funcs 1) in
+    let three : List Entry = two ++ (flat_map proc_row ps ++ node phrases.procs 1) in
     let in_three = shorter three (last_main_outline m) short in
     let in_two = shorter two (flat_map proc_row ps ++ node phrases.procs 1) in_three in
     let in_one = shorter one (flat_map func_row fs ++ node phrases.funcs 1) in_two in

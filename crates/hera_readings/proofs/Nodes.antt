@@ -36,8 +36,8 @@ use Rattle.hera_syntax.specs.declared.tree.Main.{Main}
 use Rattle.hera_syntax.specs.declared.tree.Tree.{Tree}
 use Rattle.hera_syntax.specs.Grammar.{Level, Production, Part, keep, leave, phrase}
 use Rattle.hera_syntax.specs.Grammar as phrases
-use Rattle.hera_syntax.specs.Outline.{Mark, node, hold, skip, agg_outline, agg_row, aggs_outline, args_outline, args_row, atom_outline, atoms_outline, atoms_row, binding_outline, bindings_outline, bindings_row, expr_outline, field_outline, line_outline, lines_outline, lines_row, name_row, named_agg_outline, names_outline, prefix_start, prime_outline, renaming_outline, renaming_row, renamings_outline, some_args_outline, some_atoms_outline, some_lines_outline, tail_outline}
-use Rattle.hera_syntax.specs.Programs.{attr_outline, attr_row, attrs_outline, block_outline, else_if_row, func_outline, func_row, kind_outline, last_else, last_main_outline, main_outline, outline, param_outline, param_row, params_outline, proc_outline, proc_row, relation_outline, relation_row, schema_outline, some_params_outline, some_value_outline, stmt_outline, stmt_row, type_outline}
+use Rattle.hera_syntax.specs.Outline.{Entry, node, hold, skip, agg_outline, agg_row, aggs_outline, args_outline, args_row, atom_outline, atoms_outline, atoms_row, binding_outline, bindings_outline, bindings_row, expr_outline, field_outline, line_outline, lines_outline, lines_row, name_row, named_agg_outline, names_outline, prefix_start, prime_outline, renaming_outline, renaming_row, renamings_outline, some_args_outline, some_atoms_outline, some_lines_outline, tail_outline}
+use Rattle.hera_syntax.specs.Programs.{attr_outline, attr_row, attrs_outline, block_outline, else_if_row, func_outline, func_row, kind_outline, last_else, last_main_outline, main_outline, outline, param_outline, param_row, params_outline, proc_outline, proc_row, relation_outline, relation_row, schema_outline, some_params_outline, some_text_outline, some_value_outline, stmt_outline, stmt_row, type_outline}
 
 -- an `else if` or the last `else`, with what follows
 abbrev pub Elses : Type 0
@@ -70,6 +70,7 @@ Node phrases.named = Expr ⊎ (Token × Option Args)
 Node phrases.else_part = Elses
 Node phrases.after_else = (ElseIf × Elses) ⊎ Block
 Node phrases.some_value = Option Expr
+Node phrases.some_text = Option Token
 Node phrases.some_args = Option Args
 Node phrases.args = Args
 Node phrases.more_args = List Expr
@@ -103,33 +104,33 @@ Node phrases.more_aggs = List NamedAgg
 Node phrases.named_agg = NamedAgg
 Node phrases.agg = AggTree
 
-abbrev pub named_outline : Expr ⊎ (Token × Option Args) → List Mark
+abbrev pub named_outline : Expr ⊎ (Token × Option Args) → List Entry
 named_outline (inl e) = node phrases.named 0 ++ skip phrases.equals ++ expr_outline e ++ skip phrases.semicolon
 named_outline (inr (b, args)) = node phrases.named 1 ++ hold b ++ some_args_outline args ++ skip phrases.close_paren ++ skip phrases.semicolon
 
-abbrev pub elses_outline : Elses → List Mark
+abbrev pub elses_outline : Elses → List Entry
 elses_outline (es, last) = flat_map else_if_row es ++ last_else last
 
-abbrev pub after_else_outline : (ElseIf × Elses) ⊎ Block → List Mark
+abbrev pub after_else_outline : (ElseIf × Elses) ⊎ Block → List Entry
 after_else_outline (inl (e, more)) =
     node phrases.after_else 0 ++ hold e.word ++ hold e.bracket ++ expr_outline e.condition ++ skip phrases.close_paren ++ block_outline e.block ++ elses_outline more
 after_else_outline (inr b) = node phrases.after_else 1 ++ block_outline b
 
-abbrev pub post_marks : Prime × Option Token → List Mark
+abbrev pub post_marks : Prime × Option Token → List Entry
 post_marks (prime, field) = node phrases.post 0 ++ prime_outline prime ++ field_outline field
 
-abbrev pub more_cmp_outline : Option Tail → List Mark
+abbrev pub more_cmp_outline : Option Tail → List Entry
 more_cmp_outline None = node phrases.more_cmp 1
 more_cmp_outline (Some t) = node phrases.more_cmp 0 ++ tail_outline t
 
-abbrev pub call_outline : Option (Token × Option Args) → List Mark
+abbrev pub call_outline : Option (Token × Option Args) → List Entry
 call_outline None = node phrases.call 1
 call_outline (Some (b, args)) = node phrases.call 0 ++ hold b ++ some_args_outline args ++ skip phrases.close_paren
 
-abbrev pub level_row : Level → Tail → List Mark
+abbrev pub level_row : Level → Tail → List Entry
 level_row l t = node (phrases.more l) 0 ++ tail_outline t
 
-abbrev pub marks_of : (s : Production) → Node s → List Mark
+abbrev pub marks_of : (s : Production) → Node s → List Entry
 marks_of phrases.program x = outline x
 marks_of phrases.relations xs = flat_map relation_row xs ++ node phrases.relations 1
 marks_of phrases.funcs xs = flat_map func_row xs ++ node phrases.funcs 1
@@ -156,6 +157,7 @@ marks_of phrases.named x = named_outline x
 marks_of phrases.else_part x = elses_outline x
 marks_of phrases.after_else x = after_else_outline x
 marks_of phrases.some_value x = some_value_outline x
+marks_of phrases.some_text x = some_text_outline x
 marks_of phrases.some_args x = some_args_outline x
 marks_of phrases.args x = args_outline x
 marks_of phrases.more_args xs = flat_map args_row xs ++ node phrases.more_args 1
@@ -197,7 +199,7 @@ Parts (leave t ∷ q) = Parts q
 Parts (phrase s ∷ q) = Node s × Parts q
 
 -- the outline of an alternative behind what stands before it
-abbrev pub spelled : List Mark → (q : List Part) → Parts q → List Mark
+abbrev pub spelled : List Entry → (q : List Part) → Parts q → List Entry
 spelled front [] x = front
 spelled front (keep ts ∷ q) (t, x) = spelled (front ++ hold t) q x
 spelled front (leave t ∷ q) x = spelled (front ++ skip t) q x

@@ -4,7 +4,7 @@ use Rattle.hera_syntax.specs.declared.token.Token.{Token}
 use Rattle.hera_syntax.specs.declared.tree.Tree.{Tree}
 use Rattle.hera_syntax.specs.Grammar.{phrase}
 use Rattle.hera_syntax.specs.Grammar as phrases
-use Rattle.hera_syntax.specs.Outline.{Mark}
+use Rattle.hera_syntax.specs.Outline.{Entry}
 use Rattle.hera_syntax.specs.Programs.{outline}
 use Rattle.hera_syntax.specs.Tokens.{script_limit}
 use Rattle.hera_syntax.specs.Trees.{Printed, Agree, at_end, one_more, IsTextOf, IsFaultAt}
@@ -28,7 +28,7 @@ StopsAtFaults = (tokens : List Token) (place : ℕ) → StopsBefore tokens place
 abbrev TextOrFault : List Token → Type 0
 TextOrFault tokens = ((tree : Tree) × IsTextOf tree tokens) ⊎ ((place : ℕ) × IsFaultAt tokens place)
 
-read_to : ReadsTexts → StopsAtFaults → (tokens : List Token) → length tokens ≤ script_limit → (marks : List Mark) (end : End) → Runs (phrase phrases.program ∷ []) tokens marks end → TextOrFault tokens
+read_to : ReadsTexts → StopsAtFaults → (tokens : List Token) → length tokens ≤ script_limit → (marks : List Entry) (end : End) → Runs (phrase phrases.program ∷ []) tokens marks end → TextOrFault tokens
 read_to reads stops tokens few marks accept r =
     let many = as_many (accepted_agrees r) in
     let tree = tree_of marks (omega (arith, many, few)) (accepted_obeys r) in

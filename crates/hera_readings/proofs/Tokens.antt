@@ -4,6 +4,9 @@ use Rattle.std.specs.Str.{chars}
 use Rattle.std.proofs.Math.Utf8.{encodes, scalars}
 use Rattle.std.proofs.lemmas.Bool.{cases_lt}
 use Rattle.std.proofs.lemmas.Str.{chars-encodes}
+use Rattle.hera_syntax.specs.declared.words.Keyword.{Keyword}
+use Rattle.hera_meaning.specs.Texts.{text_limit}
+use Rattle.hera_meaning.specs.Identifiers.{identifier_limit}
 use Rattle.hera_syntax.specs.declared.token.PieceShape.{PieceShape}
 use Rattle.hera_syntax.specs.declared.token.PieceShape.TheVariants as shapes
 use Rattle.hera_syntax.specs.declared.token.TokenKind.{TokenKind}
@@ -39,12 +42,12 @@ module _ (p : List ℕ) (s : scalars p ≡ true) where
   token_here : (k : PieceShape) (kind : TokenKind) → IsToken k (chars (encodes p)) kind → Judged k p
   token_here k kind t = token (subst (λ z. IsToken k z kind) same t)
 
-  word_judged : (o : Option ℕ) → keyword_of (encodes p) ≡ o → Judged shapes.Word p
-  word_judged (Some i) e = token_here shapes.Word (kinds.Key i) (word_key (encodes p) i e)
+  word_judged : (o : Option Keyword) → keyword_of (encodes p) ≡ o → Judged shapes.Word p
+  word_judged (Some k) e = token_here shapes.Word (kinds.Key k) (word_key (encodes p) k e)
   word_judged None e = ⊎_elim
       (λ long. neither word_no_between (λ kind t. word_refused (encodes p) is_text e long kind (subst (λ z. IsToken shapes.Word z kind) (sym same) t)))
       (λ short. token_here shapes.Word (kinds.Ident (encodes p)) (word_ident (encodes p) is_text e short))
-      (cases_lt 255 (length (encodes p)))
+      (cases_lt identifier_limit (length (encodes p)))
 
   digits_judged : IsPiece shapes.Digits p → Judged shapes.Digits p
   digits_judged h =
@@ -59,7 +62,7 @@ module _ (p : List ℕ) (s : scalars p ≡ true) where
       let value : List ℕ = value_of false (encodes (is_quoted (chars (encodes p)) is).body) in ⊎_elim
       (λ long. neither quoted_no_between (λ kind t. quoted_refused (encodes p) is_text is long kind (subst (λ z. IsToken shapes.Quoted z kind) (sym same) t)))
       (λ short. token_here shapes.Quoted (kinds.Text value) (quoted_token (encodes p) value is_text is refl short))
-      (cases_lt 255 (length value))
+      (cases_lt text_limit (length value))
 
   judged : (k : PieceShape) → IsPiece k p → Judged k p
   judged shapes.Blank h = between blank
@@ -69,7 +72,7 @@ module _ (p : List ℕ) (s : scalars p ≡ true) where
   judged shapes.Word h = word_judged (keyword_of (encodes p)) refl
   judged shapes.Digits h = digits_judged h
   judged shapes.Quoted h = quoted_judged h
-  judged (shapes.Punct i) h = token punct
+  judged (shapes.Punct m) h = token punct
 
 -- ---- a text
 

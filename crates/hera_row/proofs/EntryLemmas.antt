@@ -15,6 +15,7 @@ use Rattle.hera_sets.proofs.Order.{before, level, behind, stands, same_true, sam
 use Rattle.hera_sets.proofs.Members.{holds-append}
 use Rattle.hera_meaning.specs.declared.scalars.RelId.{RelId}
 use Rattle.hera_meaning.specs.declared.schemas.RelDecl.{RelDecl}
+use Rattle.hera_meaning.specs.declared.schemas.TheConstants.{RELATIONS_LIMIT}
 use Rattle.hera_meaning.specs.Schemas.{AreDistinct}
 use Rattle.hera_meaning.specs.Catalogues.{IsCatalogue, IsDecl, decl_name}
 use Rattle.hera_row.specs.Numbers.{number_named}
@@ -78,7 +79,7 @@ distinct-push (x ∷ xs) name d h =
       distinct-push xs name d.1 p.1,
     )
 
-pub numbered_push : (es : List Entry) (key : Vec ℕ Global) (d : RelDecl) → IsNumbered es → key.items ≡ d.name → IsDecl d → holds (map decl_name (decls_of es)) d.name ≡ false → length (decls_of es) < 256 → IsNumbered (es ++ (key, d) ∷ [])
+pub numbered_push : (es : List Entry) (key : Vec ℕ Global) (d : RelDecl) → IsNumbered es → key.items ≡ d.name → IsDecl d → holds (map decl_name (decls_of es)) d.name ≡ false → length (decls_of es) < RELATIONS_LIMIT → IsNumbered (es ++ (key, d) ∷ [])
 numbered_push es key d h name decl new few =
     let more : decls_of (es ++ (key, d) ∷ []) ≡ decls_of es ++ d ∷ [] = map_push decl_in es (key, d) in
     record {

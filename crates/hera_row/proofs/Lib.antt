@@ -5,3 +5,4 @@ pub mod RowLemmas
 pub mod Words
 pub mod EntryLemmas
 pub mod SchemaNames
+pub mod Widened

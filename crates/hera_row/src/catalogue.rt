@@ -2,19 +2,17 @@
 ghost use Rattle.std.specs.Prelude.{◌≡◌, ◌↔◌, ◌<◌, ◌≤◌, true, false, [], ◌∷◌, ◌++◌, length, map, slice_get, All, Some, IfOk, OnOk, OnErr};
 ghost use Rattle.std.specs.Option.{option_map};
 ghost use Rattle.hera_sets.specs.Rows.{holds};
+ghost use Rattle.hera_meaning.specs.declared.schemas.TheConstants.{RELATIONS_LIMIT};
 ghost use Rattle.hera_meaning.specs.Schemas.{names_of};
 ghost use Rattle.hera_meaning.specs.Identifiers.{IsIdentifier};
 ghost use Rattle.hera_meaning.specs.Catalogues.{IsCatalogue, decl_name};
 ghost use Rattle.hera_row.specs.Numbers.{number_named};
 
-use hera_meaning::{Name, RelDecl, RelId, Schema};
+use hera_meaning::{Name, RELATIONS_LIMIT, RelDecl, RelId, Schema};
 use indexmap::IndexMap;
 use std::alloc::{AllocError, Global};
 use std::marker::Model;
 use thiserror::Error;
-
-/// The most relations of a catalogue.
-const RELATIONS_LIMIT: usize = 256;
 
 /// At most 256 declarations of relations with distinct names, in which every name has an
 /// identifier's shape. A relation's number is its place, counted from 0.
@@ -67,7 +65,7 @@ impl Catalogue {
         ensures number { IfOk result (λ id. id.0 ≡ length self.old) }
         ensures added { OnOk result (self.new ≡ self.old ++ record { name = name; schema = schema } ∷ []) }
         ensures taken { (result ≡ Err CatalogueFault.NameTaken) ↔ (holds (map decl_name self.old) name ≡ true) }
-        ensures full { (result ≡ Err CatalogueFault.TooMany) ↔ ((holds (map decl_name self.old) name ≡ false) × (length self.old ≡ 256)) }
+        ensures full { (result ≡ Err CatalogueFault.TooMany) ↔ ((holds (map decl_name self.old) name ≡ false) × (length self.old ≡ RELATIONS_LIMIT)) }
         ensures err { OnErr result (self.new ≡ self.old) }
     {
         if self.find(name.bytes()).is_some() {
@@ -117,7 +115,7 @@ impl Catalogue {
         requires name { IsIdentifier name }
         requires attrs { All IsIdentifier (names_of schema) }
         requires new { holds (map decl_name self.old) name ≡ false }
-        requires few { length self.old < 256 }
+        requires few { length self.old < RELATIONS_LIMIT }
         ensures ok { OnOk result (self.new ≡ self.old ++ record { name = name; schema = schema } ∷ []) }
         ensures err { OnErr result (self.new ≡ self.old) }
     {

@@ -68,7 +68,7 @@ fn push_field(row: &mut Vec<u8>, field: &Scalar) -> Result<(), AllocError>
 }
 
 /// Puts the 8 bytes of an int behind the others.
-fn push_int(row: &mut Vec<u8>, value: i64) -> Result<(), AllocError>
+pub(crate) fn push_int(row: &mut Vec<u8>, value: i64) -> Result<(), AllocError>
     ensures ok { OnOk result (row.new.items ≡ row.old.items ++ to_be_bytes w64 (shifted value)) }
     ensures valid { OnOk result (fits_int value ≡ true) }
 {

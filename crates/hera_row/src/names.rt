@@ -6,10 +6,7 @@ ghost use Rattle.unicode_ident.specs.Ident.{is_xid_continue};
 ghost use Rattle.hera_meaning.specs.Schemas.{names_of};
 ghost use Rattle.hera_meaning.specs.Identifiers.{IsIdentifier, begins_word, is_word};
 
-use hera_meaning::Schema;
-
-/// The most bytes of an identifier.
-const NAME_LIMIT: usize = 255;
+use hera_meaning::{NAME_LIMIT, Schema};
 
 /// Whether the bytes have an identifier's shape: UTF-8 of at most 255 bytes, a character with
 /// XID_Start or `_`, and then characters with XID_Continue. A keyword has this shape too.

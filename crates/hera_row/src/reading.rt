@@ -7,10 +7,7 @@ ghost use Rattle.hera_row.specs.Fields.{told};
 ghost use Rattle.hera_row.specs.Reading.{field_len, row_len_of, BeginsField};
 
 use byteorder::{BigEndian, ByteOrder};
-use hera_meaning::{Kind, ScalarRef, Schema};
-
-/// The most bytes of a text.
-const TEXT_LIMIT: usize = 255;
+use hera_meaning::{Kind, ScalarRef, Schema, TEXT_LIMIT};
 
 /// Whether the bytes are a row of the schema.
 pub fn check_row(schema: &Schema, bytes: &[u8]) -> bool

@@ -5,13 +5,19 @@
 //! there.
 #![tactic(auto)]
 
+mod blocks;
+mod bounds;
+mod marks;
 mod packing;
 mod row_buf;
 mod row_set;
 mod sorted;
+mod stacks;
 mod walks;
 
+pub use marks::{Mark, Side, Spot};
 pub use row_buf::RowBuf;
 pub use row_set::RowSet;
 pub use sorted::Sorted;
+pub use stacks::Near;
 pub use walks::{collect, same_rows};

@@ -1,12 +1,14 @@
 //! Rows in one buffer.
-ghost use Rattle.std.specs.Prelude.{◌≡◌, ◌↔◌, IsTrue, true, false, ◌+◌, ◌^◌, List, [], ◌∷◌, ◌++◌, ℕ, ◌<◌, ◌≤◌, length, not, insert, IfOk, OnOk, OnErr, MatchResult, slice_get, Some};
+ghost use Rattle.std.specs.Prelude.{◌≡◌, ◌↔◌, IsTrue, true, false, ◌+◌, ◌^◌, List, [], ◌∷◌, ◌++◌, ℕ, ◌<◌, ◌≤◌, length, not, insert, IfOk, OnOk, OnErr, MatchResult, slice_get, slice_range, Some};
 ghost use Rattle.std.specs.List.{find};
 ghost use Rattle.std.specs.Option.{option_copied};
 ghost use Rattle.hera_sets.specs.Rows.{is_past, IsAscending, put, holds, without};
+ghost use Rattle.hera_rows.specs.Froms.{passes};
 ghost use Rattle.hera_rows.specs.Packed.{IsWithin, cut};
 ghost use Rattle.hera_rows.specs.Places.{IsPlace};
 
 use super::Sorted;
+use super::bounds::Bound;
 use hera_sets::{byte_order, is_same};
 use std::alloc::{AllocError, Global};
 use std::cmp::Ordering;
@@ -18,8 +20,8 @@ const SLACK: usize = 256;
 /// Where a row lies in the bytes.
 #[derive(Clone, Copy)]
 struct Span {
-    start: usize,
-    end: usize,
+    start: u32,
+    end: u32,
 }
 
 /// A strictly ascending list of rows in one buffer.
@@ -52,7 +54,21 @@ fn cut(bytes: &[u8], span: Span) -> &[u8]
     requires { IsWithin (length bytes.now) span }
     ensures { result.now ≡ cut bytes.now span }
 {
-    &bytes[span.start..span.end]
+    &bytes[span.start as usize..span.end as usize]
+}
+
+/// The span of so many bytes behind so many. There are at most 2^32 - 1 of them.
+fn span_behind(count: usize, more: usize) -> Result<Span, AllocError>
+    ensures start { IfOk result (λ span. span.start ≡ count) }
+    ensures end { IfOk result (λ span. span.end ≡ count + more) }
+{
+    if count > 0xFFFF_FFFF || more > 0xFFFF_FFFF - count {
+        return Err(AllocError);
+    }
+    Ok(Span {
+        start: count as u32,
+        end: (count + more) as u32,
+    })
 }
 
 impl Packing {
@@ -67,7 +83,17 @@ impl Packing {
         }
     }
 
+    /// The set of this one row.
+    pub(crate) fn of(alloc: Global, row: &[u8]) -> Result<Packing, AllocError>
+        ensures { IfOk result (λ set. set ≡ row.now ∷ []) }
+    {
+        let mut set = Packing::new(alloc);
+        set.append(row)?;
+        Ok(set)
+    }
+
     /// How many rows there are.
+    #[inline]
     pub(crate) fn len(&self) -> usize
         ensures count { result ≡ length self.now }
         ensures ordered { IsAscending self.now }
@@ -76,6 +102,7 @@ impl Packing {
     }
 
     /// The row at place `i`, counted from 0.
+    #[inline]
     pub(crate) fn row(&self, i: usize) -> &[u8]
         requires { i < length self.now }
         ensures { slice_get self.now i ≡ Some result.now }
@@ -118,7 +145,7 @@ impl Packing {
         match self.search(row) {
             Ok(i) => {
                 let span = self.spans.remove(i);
-                self.dead += span.end - span.start;
+                self.dead += (span.end - span.start) as usize;
                 true
             }
             Err(_) => false,
@@ -156,6 +183,21 @@ impl Packing {
         Ok(copy)
     }
 
+    /// A set of its own with the rows from one place up to another, one put behind the other.
+    pub(crate) fn part(&self, from: usize, to: usize) -> Result<Packing, AllocError>
+        requires ordered { from ≤ to }
+        requires within { to ≤ length self.now }
+        ensures { IfOk result (λ part. part ≡ slice_range self.now from to) }
+    {
+        // for the proof alone: the rows ascend
+        let _ordered = self.len();
+        let mut part = Packing::new(*self.bytes.allocator());
+        for i in from..to {
+            part.append(self.row(i))?;
+        }
+        Ok(part)
+    }
+
     /// Whether both have the same rows. It takes no memory.
     pub(crate) fn equal(&self, other: &Packing) -> bool
         ensures { IsTrue result ↔ (self.now ≡ other.now) }
@@ -191,7 +233,7 @@ impl Packing {
     }
 
     /// The place of the first row past the bound, or the number of rows where there is none.
-    fn start(&self, bound: Option<&[u8]>) -> usize
+    pub(crate) fn start(&self, bound: Option<&[u8]>) -> usize
         ensures { slice_get self.now result ≡ find (is_past (option_copied bound.entry)) self.now }
     {
         match bound {
@@ -203,6 +245,19 @@ impl Packing {
         }
     }
 
+    /// The place of the first row that is looked for, or the number of rows where there is none.
+    pub(crate) fn first(&self, bound: Bound<'_>) -> usize
+        ensures { slice_get self.now result ≡ find (passes bound.entry) self.now }
+    {
+        match self.search(bound.low()) {
+            Ok(i) => match bound {
+                Bound::Past(_) => i + 1,
+                Bound::From(_) => i,
+            },
+            Err(i) => i,
+        }
+    }
+
     /// Puts a row at a place at which the rows stay in order.
     fn put_at(&mut self, i: usize, row: &[u8]) -> Result<(), AllocError>
         requires within { i ≤ length self.old }
@@ -210,11 +265,10 @@ impl Packing {
         ensures ok { OnOk result (self.new ≡ insert self.old i row.now) }
         ensures err { OnErr result (self.new ≡ self.old) }
     {
-        let start = self.bytes.len();
+        let span = span_behind(self.bytes.len(), row.len())?;
         self.bytes.extend_from_slice(row)?;
-        let end = self.bytes.len();
         self.dead += row.len();
-        self.spans.insert(i, Span { start, end })?;
+        self.spans.insert(i, span)?;
         self.dead -= row.len();
         Ok(())
     }
@@ -225,11 +279,10 @@ impl Packing {
         ensures ok { OnOk result (self.new ≡ self.old ++ row.now ∷ []) }
         ensures err { OnErr result (self.new ≡ self.old) }
     {
-        let start = self.bytes.len();
+        let span = span_behind(self.bytes.len(), row.len())?;
         self.bytes.extend_from_slice(row)?;
-        let end = self.bytes.len();
         self.dead += row.len();
-        self.spans.push(Span { start, end })?;
+        self.spans.push(span)?;
         self.dead -= row.len();
         Ok(())
     }

@@ -1,18 +1,22 @@
 //! Sets of rows.
 ghost use Rattle.std.specs.Prelude.{◌≡◌, ◌↔◌, IsTrue, [], ◌∷◌, ◌++◌, ◌<◌, length, not, IfOk, OnOk, OnErr, slice_get, Some};
-ghost use Rattle.hera_sets.specs.Rows.{IsAscending, put, holds, without};
+ghost use Rattle.std.specs.List.{find};
+ghost use Rattle.std.specs.Option.{option_copied};
+ghost use Rattle.hera_rows.specs.Froms.{is_from};
+ghost use Rattle.hera_sets.specs.Rows.{is_past, IsAscending, put, holds, without};
 
-use super::Sorted;
-use super::packing::Packing;
+use super::blocks::Blocks;
+use super::stacks::Near;
+use super::{Mark, Sorted, Spot};
 use std::alloc::{AllocError, Global};
 use std::marker::Model;
 
-/// A strictly ascending list of rows, packed in one buffer.
+/// A strictly ascending list of rows, in blocks.
 ///
 /// A set into which no row came has no buffer: it takes no memory, and little place wherever it stands. One whose rows
 /// were all taken out may keep its buffer.
 pub struct RowSet {
-    kept: Option<Box<Packing>>,
+    kept: Option<Box<Blocks>>,
     alloc: Global,
 }
 
@@ -41,7 +45,7 @@ impl RowSet {
     }
 
     /// The set of these rows, in a place of their own.
-    fn of(alloc: Global, rows: Packing) -> Result<RowSet, AllocError>
+    fn of(alloc: Global, rows: Blocks) -> Result<RowSet, AllocError>
         ensures { IfOk result (λ set. set ≡ rows) }
     {
         Ok(RowSet {
@@ -51,6 +55,7 @@ impl RowSet {
     }
 
     /// How many rows there are.
+    #[inline]
     pub fn len(&self) -> usize
         ensures count { result ≡ length self.now }
         ensures ordered { IsAscending self.now }
@@ -62,6 +67,7 @@ impl RowSet {
     }
 
     /// The row at place `i`, counted from 0.
+    #[inline]
     pub fn row(&self, i: usize) -> &[u8]
         requires { i < length self.now }
         ensures { slice_get self.now i ≡ Some result.now }
@@ -69,6 +75,29 @@ impl RowSet {
         match &self.kept {
             None => &[],
             Some(rows) => rows.row(i),
+        }
+    }
+
+    /// The first row past the bound, and where it stands. It is looked for behind the spot first.
+    #[inline]
+    pub fn above_near<'s>(&'s self, bound: Option<&[u8]>, spot: Spot) -> Near<'s>
+        ensures next { option_copied result.row ≡ find (is_past (option_copied bound.entry)) self.now }
+        ensures ordered { IsAscending self.now }
+    {
+        match &self.kept {
+            None => Near { row: None, spot },
+            Some(rows) => rows.above_near(bound, spot),
+        }
+    }
+
+    /// The first row that does not stand before the bound, and where it stands. It is looked for beside the spot first.
+    pub fn not_below_near<'s>(&'s self, bound: &[u8], spot: Spot) -> Near<'s>
+        ensures least { option_copied result.row ≡ find (is_from bound.now) self.now }
+        ensures ordered { IsAscending self.now }
+    {
+        match &self.kept {
+            None => Near { row: None, spot },
+            Some(rows) => rows.not_below_near(bound, spot),
         }
     }
 
@@ -97,7 +126,7 @@ impl RowSet {
         match &mut self.kept {
             Some(rows) => rows.push_last(row),
             None => {
-                let mut rows = Packing::new(self.alloc);
+                let mut rows = Blocks::new(self.alloc);
                 rows.push_last(row)?;
                 *self = RowSet::of(self.alloc, rows)?;
                 Ok(())
@@ -145,6 +174,18 @@ impl Sorted for RowSet {
             None => None,
             Some(rows) => rows.above(bound),
         }
+    }
+
+    fn above_from<'s>(&'s self, bound: Option<&[u8]>, mark: &mut Mark) -> Option<&'s [u8]> {
+        let near = self.above_near(bound, mark.first.kept);
+        mark.first.kept = near.spot;
+        near.row
+    }
+
+    fn not_below<'s>(&'s self, bound: &'s [u8], mark: &mut Mark) -> Option<&'s [u8]> {
+        let near = self.not_below_near(bound, mark.first.kept);
+        mark.first.kept = near.spot;
+        near.row
     }
 
     fn has(&self, row: &[u8]) -> bool {

@@ -47,7 +47,7 @@ mutual
   decided_act g r ls n (applying at p) = single g r ls n p (applying at p) (λ v. apply_row (is_some r) at v) (decided g ls n p) (λ v c e h. apply_is e h) (λ v f e h. apply_breaks e h) (λ f d. in_apply d)
   decided_act g r ls n (asserting at p) = single g r ls n p (asserting at p) (λ v. assert_row at v) (decided g ls n p) (λ v c e h. assert_is e h) (λ v f e h. assert_breaks e h) (λ f d. in_assert d)
   decided_act g r ls n (returning_value at p) = single g r ls n p (returning_value at p) (λ v. return_value_row r at v) (decided g ls n p) (λ v c e h. return_value_is e h) (λ v f e h. return_value_breaks e h) (λ f d. in_return_value d)
-  decided_act g r ls n (committing at) = stays_says (λ d. ElabAct g r ls n (committing at) d) (λ f. FirstAct g r ls n (committing at) f) ls (effect_row (is_some r) at commit) (λ c h. commit_is h) (λ f h. here (commit_breaks h))
+  decided_act g r ls n (committing at label) = stays_says (λ d. ElabAct g r ls n (committing at label) d) (λ f. FirstAct g r ls n (committing at label) f) ls (effect_row (is_some r) at (commit label)) (λ c h. commit_is h) (λ f h. here (commit_breaks h))
   decided_act g r ls n (rolling_back at) = stays_says (λ d. ElabAct g r ls n (rolling_back at) d) (λ f. FirstAct g r ls n (rolling_back at) f) ls (effect_row (is_some r) at rollback) (λ c h. rollback_is h) (λ f h. here (rollback_breaks h))
   decided_act g r ls n (returning at) = stays_says (λ d. ElabAct g r ls n (returning at) d) (λ f. FirstAct g r ls n (returning at) f) ls (return_row r at) (λ c h. return_is h) (λ f h. here (return_breaks h))
   decided_act g r ls n (performing w args) =

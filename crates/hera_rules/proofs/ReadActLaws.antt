@@ -15,7 +15,7 @@ use Rattle.hera_syntax.specs.declared.tree.StmtTree.TheVariants as variant
 use Rattle.hera_syntax.specs.declared.tree.StmtTree.TheViews.{the_lemmas}
 use Rattle.hera_rules.specs.Phrases.{Act, declaring, assigning, performing, choosing, looping, visiting, printing, applying, asserting, committing, rolling_back, Acts, act, Branches, branch}
 use Rattle.hera_rules.specs.Read.{word_of, expr_phrase}
-use Rattle.hera_rules.specs.ReadActs.{type_phrase, some_args, return_act, act_of, acts_of, branches_of, last_acts, acts_in, block_acts, branches_in, last_in}
+use Rattle.hera_rules.specs.ReadActs.{type_phrase, some_args, return_act, label_of, act_of, acts_of, branches_of, last_acts, acts_in, block_acts, branches_in, last_in}
 
 act_rows : (n : _) (k : Row_of-StmtTree n) → acts_of k ≡ acts_in (items-the_row-StmtTree n k)
 unfolding act_of
@@ -46,9 +46,9 @@ pub act_of-Assert : (w : Token) (e : Expr) → act_of (variant.Assert w e) ≡ a
 unfolding act_of
 act_of-Assert w e = refl
 
-pub act_of-Commit : (w : Token) → act_of (variant.Commit w) ≡ committing w.at
+pub act_of-Commit : (w : Token) (label : Option Token) → act_of (variant.Commit w label) ≡ committing w.at (label_of label)
 unfolding act_of
-act_of-Commit w = refl
+act_of-Commit w label = refl
 
 pub act_of-Rollback : (w : Token) → act_of (variant.Rollback w) ≡ rolling_back w.at
 unfolding act_of

@@ -67,7 +67,7 @@ module _ (own catalogue : List RelDecl) where
     bound_command (foreach i of block) = foreach i (bound_expr of) (bound_block block)
     bound_command (print e shape) = print (bound_expr e) shape
     bound_command (apply d at) = apply (bound_expr d) at
-    bound_command commit = commit
+    bound_command (commit label) = commit label
     bound_command rollback = rollback
     bound_command (assert c at) = assert (bound_expr c) at
     bound_command return = return

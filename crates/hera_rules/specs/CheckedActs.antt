@@ -24,7 +24,7 @@ abbrev mutual
   check_act g r ls n (applying at p) = and_then (check g ls n p) (λ v. stays ls (apply_row (is_some r) at v))
   check_act g r ls n (asserting at p) = and_then (check g ls n p) (λ v. stays ls (assert_row at v))
   check_act g r ls n (returning_value at p) = and_then (check g ls n p) (λ v. stays ls (return_value_row r at v))
-  check_act g r ls n (committing at) = stays ls (effect_row (is_some r) at commit)
+  check_act g r ls n (committing at label) = stays ls (effect_row (is_some r) at (commit label))
   check_act g r ls n (rolling_back at) = stays ls (effect_row (is_some r) at rollback)
   check_act g r ls n (returning at) = stays ls (return_row r at)
   check_act g r ls n (performing w args) = and_then (check_all g ls n [] args) (λ vs. stays ls (perform_row g (is_some r) w vs))

@@ -1,5 +1,5 @@
 -- Phrases: a syntax tree without its brackets, and without the levels that have no operator.
-use Rattle.std.specs.Prelude.{ℕ, List}
+use Rattle.std.specs.Prelude.{ℕ, List, Option}
 use Rattle.hera_rules.specs.declared.words.Word.{Word}
 use Rattle.hera_rules.specs.declared.words.WalkKind.{WalkKind}
 use Rattle.hera_rules.specs.declared.words.Pair.{Pair}
@@ -77,7 +77,8 @@ mutual
     printing : (at : ℕ) (value : Phrase) → Act
     applying : (at : ℕ) (delta : Phrase) → Act
     asserting : (at : ℕ) (cond : Phrase) → Act
-    committing : (at : ℕ) → Act
+    -- with the bytes of its label, where it has one
+    committing : (at : ℕ) (label : Option (List ℕ)) → Act
     rolling_back : (at : ℕ) → Act
     returning : (at : ℕ) → Act
     returning_value : (at : ℕ) (value : Phrase) → Act

@@ -1,5 +1,5 @@
 -- The phrase of a syntax tree.
-use Rattle.std.specs.Prelude.{ℕ, List, [], ◌∷◌, map, Option, Some, None, ℤ, pos, nat_eq, if◌then◌else◌, true, false, Box}
+use Rattle.std.specs.Prelude.{ℕ, List, [], ◌∷◌, map, Option, Some, None, ℤ, pos, true, false, Box}
 use Rattle.std.specs.declared.alloc.Global.{Global}
 use Rattle.hera_meaning.specs.declared.scalars.Kind.{Kind}
 use Rattle.hera_meaning.specs.declared.scalars.Kind.TheVariants.{Int as int_kind, Bool as bool_kind, Text as text_kind}
@@ -8,6 +8,8 @@ use Rattle.hera_meaning.specs.declared.scalars.Sign.TheVariants.{Plus, Minus}
 use Rattle.hera_meaning.specs.declared.scalars.Scalar.TheVariants.{Int as int_scalar, Bool as bool_scalar, Text as text_scalar}
 use Rattle.hera_meaning.specs.declared.trees.Op.TheVariants.{Add as add_op, Sub as sub_op, Mul as mul_op, Div as div_op, Rem as rem_op, Eq as eq_op, Ne as ne_op, Lt as lt_op, Le as le_op, Gt as gt_op, Ge as ge_op, Union as union_op, Minus as minus_op, Inter as inter_op, Smash as smash_op, Merge as merge_op}
 use Rattle.hera_meaning.specs.declared.trees.Const.TheVariants.{Scalar as scalar, FailDelta as fail_delta}
+use Rattle.hera_syntax.specs.declared.words.Keyword.TheVariants as keys
+use Rattle.hera_syntax.specs.declared.words.Mark.TheVariants as puncts
 use Rattle.hera_syntax.specs.declared.token.Token.{Token}
 use Rattle.hera_syntax.specs.declared.token.TokenKind.{TokenKind}
 use Rattle.hera_syntax.specs.declared.token.TokenKind.TheVariants.{Ident as ident_token, Int as int_token, Text as text_token, Key as key_token, Punct as punct_token}
@@ -70,25 +72,21 @@ abbrev pub text_of : TokenKind → List ℕ
 text_of (text_token t) = t
 text_of _ = []
 
--- the number of a keyword or of a punctuation
-abbrev pub key_of : TokenKind → ℕ
-key_of (key_token k) = k
-key_of _ = 0
-
-abbrev pub punct_of : TokenKind → ℕ
-punct_of (punct_token k) = k
-punct_of _ = 0
-
 -- the operator of a link; `in` is a keyword
-abbrev pub joint_numbered : ℕ → Joint
-joint_numbered k =
-    if nat_eq k 11 then Equality eq_op else (if nat_eq k 12 then Equality ne_op else (if nat_eq k 13 then Order lt_op else (if nat_eq k 14 then Order le_op
-    else (if nat_eq k 15 then Order gt_op else (if nat_eq k 16 then Order ge_op else (if nat_eq k 17 then Arithmetic add_op else (if nat_eq k 18 then Arithmetic sub_op
-    else (if nat_eq k 19 then Arithmetic mul_op else (if nat_eq k 20 then Arithmetic div_op else (if nat_eq k 21 then Arithmetic rem_op else (if nat_eq k 22 then Deltas smash_op
-    else Deltas merge_op)))))))))))
-
 abbrev pub joint_of : TokenKind → Joint
-joint_of (punct_token k) = joint_numbered k
+joint_of (punct_token puncts.EqualEqual) = Equality eq_op
+joint_of (punct_token puncts.NotEqual) = Equality ne_op
+joint_of (punct_token puncts.Less) = Order lt_op
+joint_of (punct_token puncts.LessEqual) = Order le_op
+joint_of (punct_token puncts.Greater) = Order gt_op
+joint_of (punct_token puncts.GreaterEqual) = Order ge_op
+joint_of (punct_token puncts.Plus) = Arithmetic add_op
+joint_of (punct_token puncts.Minus) = Arithmetic sub_op
+joint_of (punct_token puncts.Star) = Arithmetic mul_op
+joint_of (punct_token puncts.Slash) = Arithmetic div_op
+joint_of (punct_token puncts.Percent) = Arithmetic rem_op
+joint_of (punct_token puncts.Bang) = Deltas smash_op
+joint_of (punct_token _) = Deltas merge_op
 joint_of _ = Member
 
 -- the operator of a link of a chain of this level
@@ -100,35 +98,48 @@ joint_at _ t = joint_of t
 
 -- `-`, `!`
 abbrev pub prefix_of : TokenKind → Prefix_kind
-prefix_of t = if nat_eq (punct_of t) 18 then negated else denied
+prefix_of (punct_token puncts.Minus) = negated
+prefix_of _ = denied
 
 -- `+`, `-`
 abbrev pub sign_of : TokenKind → Sign
-sign_of t = if nat_eq (punct_of t) 17 then Plus else Minus
+sign_of (punct_token puncts.Plus) = Plus
+sign_of _ = Minus
 
 -- `ins`, `del`
 abbrev pub part_of : TokenKind → Sign
-part_of t = if nat_eq (key_of t) 43 then Plus else Minus
+part_of (key_token keys.Ins) = Plus
+part_of _ = Minus
 
 -- `select`, `map`
 abbrev pub walk_of : TokenKind → WalkKind
-walk_of t = if nat_eq (key_of t) 26 then Keeping else Mapping
+walk_of (key_token keys.Select) = Keeping
+walk_of _ = Mapping
 
 -- `union`, `minus`, `inter`, `join`
 abbrev pub pair_of : TokenKind → Pair_kind
-pair_of t = if nat_eq (key_of t) 30 then Sets union_op else (if nat_eq (key_of t) 31 then Sets minus_op else (if nat_eq (key_of t) 32 then Sets inter_op else as_join))
+pair_of (key_token keys.Union) = Sets union_op
+pair_of (key_token keys.Minus) = Sets minus_op
+pair_of (key_token keys.Inter) = Sets inter_op
+pair_of _ = as_join
 
 -- `count`, `empty`, `isfail`
 abbrev pub test_of : TokenKind → Test
-test_of t = if nat_eq (key_of t) 36 then count_test else (if nat_eq (key_of t) 37 then empty_test else is_fail_test)
+test_of (key_token keys.Count) = count_test
+test_of (key_token keys.Empty) = empty_test
+test_of _ = is_fail_test
 
 -- `sum`, `min`, `max`
 abbrev pub fold_of : TokenKind → Fold
-fold_of t = if nat_eq (key_of t) 38 then sum_of else (if nat_eq (key_of t) 39 then Least else Greatest)
+fold_of (key_token keys.Sum) = sum_of
+fold_of (key_token keys.Min) = Least
+fold_of _ = Greatest
 
 -- `int`, `bool`, `text`
 abbrev pub kind_word : TokenKind → Kind
-kind_word t = if nat_eq (key_of t) 4 then int_kind else (if nat_eq (key_of t) 5 then bool_kind else text_kind)
+kind_word (key_token keys.Int) = int_kind
+kind_word (key_token keys.Bool) = bool_kind
+kind_word _ = text_kind
 
 -- ---- lists of names
 

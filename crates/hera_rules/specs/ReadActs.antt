@@ -1,5 +1,5 @@
 -- The phrases of statements, declarations and a whole tree.
-use Rattle.std.specs.Prelude.{List, [], ◌∷◌, map, Option, Some, None}
+use Rattle.std.specs.Prelude.{ℕ, List, [], ◌∷◌, map, Option, Some, None}
 use Rattle.hera_syntax.specs.declared.token.Token.{Token}
 use Rattle.hera_syntax.specs.declared.expr.Expr.{Expr}
 use Rattle.hera_syntax.specs.declared.expr.Args.{Args}
@@ -21,7 +21,7 @@ use Rattle.hera_syntax.specs.declared.tree.Main.{Main}
 use Rattle.hera_syntax.specs.declared.tree.Tree.{Tree}
 use Rattle.hera_rules.specs.declared.words.Field.{Field}
 use Rattle.hera_rules.specs.Phrases.{Phrases, no_phrase, Schema_phrase, of_relation, written, Type_phrase, kind_type, delta_type, rel_type, tuple_type, Act, declaring, assigning, performing, choosing, looping, visiting, printing, applying, asserting, committing, rolling_back, returning, returning_value, Acts, no_act, act, Branches, no_branch, branch, Relation_phrase, Param_phrase, Func_phrase, Proc_phrase, Script}
-use Rattle.hera_rules.specs.Read.{word_of, kind_word, expr_phrase, args_phrases}
+use Rattle.hera_rules.specs.Read.{word_of, text_of, kind_word, expr_phrase, args_phrases}
 
 abbrev pub field_of : AttrTree → Field
 field_of a = record { name = word_of a.name; kind = kind_word a.kind.word.kind }
@@ -47,6 +47,11 @@ abbrev pub return_act : Token → Option Expr → Act
 return_act t None = returning t.at
 return_act t (Some e) = returning_value t.at (expr_phrase e)
 
+-- the bytes of a label
+abbrev pub label_of : Option Token → Option (List ℕ)
+label_of None = None
+label_of (Some t) = Some (text_of t.kind)
+
 unfoldable mutual
   pub act_of : StmtTree → Act
   act_of (Declare t n e) = declaring (type_phrase t) (word_of n) (expr_phrase e)
@@ -58,7 +63,7 @@ unfoldable mutual
   act_of (Print word e) = printing word.at (expr_phrase e)
   act_of (Apply word e) = applying word.at (expr_phrase e)
   act_of (Assert word e) = asserting word.at (expr_phrase e)
-  act_of (Commit word) = committing word.at
+  act_of (Commit word label) = committing word.at (label_of label)
   act_of (Rollback word) = rolling_back word.at
   act_of (Return word e) = return_act word e
 

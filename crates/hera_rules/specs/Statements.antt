@@ -23,7 +23,7 @@ abbrev mutual
   slots_of_act (printing at p) = slots_of p
   slots_of_act (applying at p) = slots_of p
   slots_of_act (asserting at p) = slots_of p
-  slots_of_act (committing at) = 0
+  slots_of_act (committing at label) = 0
   slots_of_act (rolling_back at) = 0
   slots_of_act (returning at) = 0
   slots_of_act (returning_value at p) = slots_of p
@@ -47,7 +47,7 @@ mutual
     apply_is : {ls : List Local} {n : ℕ} {at : ℕ} {p : Phrase} {v : Typing} {c : Command} → Elab g ls n p v → apply_row (is_some r) at v ≡ Ok c → ElabAct g r ls n (applying at p) (done ls c)
     assert_is : {ls : List Local} {n : ℕ} {at : ℕ} {p : Phrase} {v : Typing} {c : Command} → Elab g ls n p v → assert_row at v ≡ Ok c → ElabAct g r ls n (asserting at p) (done ls c)
     return_value_is : {ls : List Local} {n : ℕ} {at : ℕ} {p : Phrase} {v : Typing} {c : Command} → Elab g ls n p v → return_value_row r at v ≡ Ok c → ElabAct g r ls n (returning_value at p) (done ls c)
-    commit_is : {ls : List Local} {n : ℕ} {at : ℕ} {c : Command} → effect_row (is_some r) at commit ≡ Ok c → ElabAct g r ls n (committing at) (done ls c)
+    commit_is : {ls : List Local} {n : ℕ} {at : ℕ} {label : Option (List ℕ)} {c : Command} → effect_row (is_some r) at (commit label) ≡ Ok c → ElabAct g r ls n (committing at label) (done ls c)
     rollback_is : {ls : List Local} {n : ℕ} {at : ℕ} {c : Command} → effect_row (is_some r) at rollback ≡ Ok c → ElabAct g r ls n (rolling_back at) (done ls c)
     return_is : {ls : List Local} {n : ℕ} {at : ℕ} {c : Command} → return_row r at ≡ Ok c → ElabAct g r ls n (returning at) (done ls c)
     perform_is : {ls : List Local} {n : ℕ} {w : Word} {args : Phrases} {vs : List Typing} {c : Command} →
@@ -85,7 +85,7 @@ pub data BrokenAct (g : Env) (r : Option Shape) : List Local → ℕ → Act →
   apply_breaks : {ls : List Local} {n : ℕ} {at : ℕ} {p : Phrase} {v : Typing} {f : TypeFault} → Elab g ls n p v → apply_row (is_some r) at v ≡ Err f → BrokenAct g r ls n (applying at p) f
   assert_breaks : {ls : List Local} {n : ℕ} {at : ℕ} {p : Phrase} {v : Typing} {f : TypeFault} → Elab g ls n p v → assert_row at v ≡ Err f → BrokenAct g r ls n (asserting at p) f
   return_value_breaks : {ls : List Local} {n : ℕ} {at : ℕ} {p : Phrase} {v : Typing} {f : TypeFault} → Elab g ls n p v → return_value_row r at v ≡ Err f → BrokenAct g r ls n (returning_value at p) f
-  commit_breaks : {ls : List Local} {n : ℕ} {at : ℕ} {f : TypeFault} → effect_row (is_some r) at commit ≡ Err f → BrokenAct g r ls n (committing at) f
+  commit_breaks : {ls : List Local} {n : ℕ} {at : ℕ} {label : Option (List ℕ)} {f : TypeFault} → effect_row (is_some r) at (commit label) ≡ Err f → BrokenAct g r ls n (committing at label) f
   rollback_breaks : {ls : List Local} {n : ℕ} {at : ℕ} {f : TypeFault} → effect_row (is_some r) at rollback ≡ Err f → BrokenAct g r ls n (rolling_back at) f
   return_breaks : {ls : List Local} {n : ℕ} {at : ℕ} {f : TypeFault} → return_row r at ≡ Err f → BrokenAct g r ls n (returning at) f
   perform_breaks : {ls : List Local} {n : ℕ} {w : Word} {args : Phrases} {vs : List Typing} {f : TypeFault} →

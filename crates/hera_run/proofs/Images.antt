@@ -1,19 +1,19 @@
 -- What is found while one event is carried out is a cut of it.
 use Rattle.std.proofs.Common.{◌≡◌, ℕ, inl, inr, ⊎_elim, List, [], ◌∷◌, ◌++◌, Option, Some, None, refl, sym, ap, subst, ◌∙◌, append-nil}
 use Rattle.std.specs.Io.KnownBytes.{Appends, Keeps}
+use Rattle.hera_meaning.specs.Commits.{after_all}
 use Rattle.hera_meaning.specs.Deltas.{Delta, State, apply_of}
 use Rattle.hera_meaning.specs.Worlds.{out, store}
 use Rattle.hera_meaning.specs.Printed.{trap_line, spent_line}
 use Rattle.hera_machine.specs.Over.{state_over}
 use Rattle.hera_machine.specs.declared.events.End.{End}
 use Rattle.hera_machine.specs.declared.events.End.TheVariants.{Done, Trap, Spent, Stuck}
-use Rattle.hera_volume.specs.Disk.{Disk, IsImage}
+use Rattle.hera_volume.specs.Disk.{Disk, IsImage, IsSettled}
 use Rattle.hera_volume.specs.Time.{Image, IsImageAmid}
 use Rattle.hera_volume.proofs.Images.{image-settled}
 use Rattle.hera_volume.specs.declared.file_id.FileId.{FileId}
-use Rattle.commit_journal.specs.Halves.{state_with}
 use Rattle.hera_store.proofs.Commits.{stands_holds}
-use Rattle.hera_store.proofs.States.{state_push}
+use Rattle.hera_meaning.proofs.CommitLaws.{state_push}
 use Rattle.hera_store.specs.Databases.{Database, Holds}
 use Rattle.hera_store.specs.Moments.{IsEither}
 use Rattle.hera_store.specs.Standing.{Standing, StandsFor, database_of, database_after}
@@ -22,7 +22,7 @@ use Rattle.hera_run.specs.Cut.{IsCut, with_state}
 
 -- ---- states after commits
 
-pub with_over : (s : State) (ds : List Delta) → state_with s ds ≡ state_over s ds
+pub with_over : (s : State) (ds : List Delta) → after_all s ds ≡ state_over s ds
 with_over s [] = refl
 with_over s (d ∷ ds) = with_over (apply_of s d) ds
 
@@ -30,8 +30,8 @@ with_over s (d ∷ ds) = with_over (apply_of s d) ds
 pub database_more : (old now : Standing) (d : Delta) (db : Database) → now.base ≡ old.base → now.commits ≡ old.commits ++ d ∷ [] → database_of old ≡ db
     → database_of now ≡ with_state db (apply_of db.state d)
 database_more old now d db same longer is =
-    ap (λ (b : _). record { catalogue = b.catalogue; state = state_with b.state now.commits }) same
-    ∙ ap (λ (cs : List Delta). record { catalogue = old.base.catalogue; state = state_with old.base.state cs }) longer
+    ap (λ (b : _). record { catalogue = b.catalogue; state = after_all b.state now.commits }) same
+    ∙ ap (λ (cs : List Delta). record { catalogue = old.base.catalogue; state = after_all old.base.state cs }) longer
     ∙ ap (λ (t : State). record { catalogue = old.base.catalogue; state = t }) (state_push old.base.state old.commits d)
     ∙ ap (λ (x : Database). with_state x (apply_of x.state d)) is
 
@@ -44,10 +44,13 @@ stands-kept before now s same stands =
     subst (λ (d : FileId → Disk). StandsFor d s) is stands
 
 -- the only image of settled files is what a read gives
+pub holds-settled : (disks : FileId → Disk) (db : Database) (c : Image) → ((f : FileId) → IsSettled (disks f)) → Holds (λ f. (disks f).bytes) db → ((f : FileId) → IsImage (disks f) (c.files f)) → Holds c.files db
+holds-settled disks db c settled holds images =
+    let is : (λ (f : FileId). (disks f).bytes) ≡ c.files = λ i f. sym (image-settled (disks f) (c.files f) (settled f) (images f)) i in
+    subst (λ (x : FileId → List ℕ). Holds x db) is holds
+
 pub found-settled : (disks : FileId → Disk) (s : Standing) (c : Image) → StandsFor disks s → ((f : FileId) → IsImage (disks f) (c.files f)) → Holds c.files (database_of s)
-found-settled disks s c stands images =
-    let is : (λ (f : FileId). (disks f).bytes) ≡ c.files = λ i f. sym (image-settled (disks f) (c.files f) (stands.settled f) (images f)) i in
-    subst (λ (x : FileId → List ℕ). Holds x (database_of s)) is (stands_holds disks s stands)
+found-settled disks s c stands images = holds-settled disks (database_of s) c stands.settled (stands_holds disks s stands) images
 
 pub nothing-appended : (a b : Option (List ℕ)) → Keeps a b → Appends a b []
 nothing-appended None b kept = tt

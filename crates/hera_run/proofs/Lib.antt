@@ -2,7 +2,9 @@ pub mod Fittings
 pub mod Cuts
 pub mod Images
 pub mod Steps
+pub mod Levelled
 pub mod Endings
 pub mod Meaning
 pub mod Opening
 pub mod Results
+pub mod Renewal

@@ -11,20 +11,18 @@ use Rattle.hera_volume.specs.Time.{Image, IsImageOf, IsImageAmid, LeavesOnly}
 use Rattle.hera_volume.specs.declared.file_id.FileId.{FileId}
 use Rattle.hera_volume.specs.declared.file_id.FileId.TheVariants.{Select}
 use Rattle.hera_volume.proofs.Moments.{leaves-weaker, leaves-on}
-use Rattle.rel_format.specs.Pages.{format_one}
-use Rattle.commit_journal.specs.Halves.{IsHalfTo}
-use Rattle.hera_store.specs.Databases.{Names, IsFound, held}
+use Rattle.hera_volume.specs.Disk.{IsSettled}
+use Rattle.hera_store.specs.Databases.{Database, Holds, IsFound, absent, spoilt, held}
 use Rattle.hera_store.specs.Moments.{IsUntouched}
-use Rattle.hera_store.specs.Standing.{Standing, StandsFor, database_of}
 use Rattle.hera_run.specs.declared.refusal.FolderRefusal.{FolderRefusal}
-use Rattle.hera_run.specs.declared.refusal.FolderRefusal.TheVariants.{Differing}
+use Rattle.hera_run.specs.declared.refusal.FolderRefusal.TheVariants.{NoDatabase, Damaged, Differing}
 use Rattle.hera_run.specs.declared.status.RunStatus.{RunStatus}
 use Rattle.hera_run.specs.Cut.{IsCut}
 use Rattle.hera_run.specs.Fitting.{all_fit, fitting}
 use Rattle.hera_run.specs.Passages.{Passage, passage, LeavesOnceOpened}
-use Rattle.hera_run.specs.Bound.{events_of, Continues, turns_away, goes_on, stops}
-use Rattle.hera_run.specs.Outcome.{RunOutcome, barred, ran_in, filled, outcome_from, line_of, text_of_outcome, EndsAt, RunsTo, differs, runs, FilesAfter, KeepsFiles, IsSaid, Leaves, Answers, answers, fails}
-use Rattle.hera_run.proofs.Images.{found-settled, nothing-appended}
+use Rattle.hera_run.specs.Bound.{events_of, LeavesBehind, Continues, comes, stops}
+use Rattle.hera_run.specs.Outcome.{RunOutcome, barred, ran_in, filled, outcome_from, line_of, text_of_outcome, StartsAt, Overfills, ComesTo, finds_none, finds_damage, differs, overflows, runs, FilesAfter, KeepsFiles, IsSaid, Leaves, Answers, answers, fails}
+use Rattle.hera_run.proofs.Images.{holds-settled, nothing-appended}
 
 module _ {D : Type 0} (told : Type 0) (disk : D → FileId → Disk) (emitted : D → Option (List ℕ)) (moment : D → ℕ) (left_since : D → ℕ → Image → Type 0) (old mid new : D)
     (untouched : told → IsUntouched disk emitted moment left_since old mid) (same : emitted mid ≡ emitted old) where
@@ -68,60 +66,70 @@ module _ {D : Type 0} (told : Type 0) (disk : D → FileId → Disk) (emitted : 
       })
 
   -- a cut at the end of the opening
-  cut_there : (s : Standing) (events : List Event) (c : Image) → StandsFor (disk mid) s → IsImageOf (disk mid) (emitted mid) c → IsCut events (database_of s) (emitted old) c
-  cut_there s events c stands image = record {
+  cut_there : (db : Database) (events : List Event) (c : Image) → ((f : FileId) → IsSettled (disk mid f)) → Holds (λ f. (disk mid f).bytes) db → IsImageOf (disk mid) (emitted mid) c → IsCut events db (emitted old) c
+  cut_there db events c settled holds image = record {
     done = [];
     rest = events;
     split = refl;
     front = 0;
     bytes = subst (λ (e : Option (List ℕ)). Appends e (Some c.emitted) []) same (nothing-appended (emitted mid) (Some c.emitted) image.emitted);
-    state = (database_of s).state;
-    found = found-settled (disk mid) s c stands image.files;
+    state = db.state;
+    found = holds-settled (disk mid) db c settled holds image.files;
     stored = inl refl;
   }
 
-  opened_leaves : (s : Standing) (events : List Event) → told → StandsFor (disk mid) s → LeavesOnly moment left_since mid new (IsCut events (database_of s) (emitted mid))
-      → LeavesOnceOpened disk emitted moment left_since old new (IsCut events (database_of s) (emitted old))
-  opened_leaves s events t stands leaves = record {
+  opened_leaves : (db : Database) (events : List Event) → told → ((f : FileId) → IsSettled (disk mid f)) → Holds (λ f. (disk mid f).bytes) db → LeavesOnly moment left_since mid new (IsCut events db (emitted mid))
+      → LeavesOnceOpened disk emitted moment left_since old new (IsCut events db (emitted old))
+  opened_leaves db events t settled holds leaves = record {
     between = mid;
     before = untouched t;
-    settled = stands.settled;
-    there = λ c image. cut_there s events c stands image;
-    behind = subst (λ (e : Option (List ℕ)). LeavesOnly moment left_since mid new (IsCut events (database_of s) e)) same leaves;
+    settled = settled;
+    there = λ c image. cut_there db events c settled holds image;
+    behind = subst (λ (e : Option (List ℕ)). LeavesOnly moment left_since mid new (IsCut events db e)) same leaves;
   }
 
-  leaves_run : (s : Standing) (report : Report) → told → StandsFor (disk mid) s → LeavesOnly moment left_since mid new (IsCut (events_of (outcome_from (database_of s) s.end report)) (database_of s) (emitted mid))
-      → Leaves (outcome_from (database_of s) s.end report) all
-  leaves_run s report t stands leaves = by (all_fit s.end report.events) leaves
+  leaves_run : (db : Database) (gate : ℕ) (report : Report) → told → ((f : FileId) → IsSettled (disk mid f)) → Holds (λ f. (disk mid f).bytes) db → LeavesBehind (outcome_from db gate report) behind
+      → Leaves (outcome_from db gate report) all
+  leaves_run db gate report t settled holds leaves = by (all_fit gate report.events) leaves
     where
-      by : (b : Bool) → LeavesOnly moment left_since mid new (IsCut (events_of (cond b (ran_in (database_of s) report) (filled (database_of s) (fitting s.end report.events)))) (database_of s) (emitted mid))
-          → Leaves (cond b (ran_in (database_of s) report) (filled (database_of s) (fitting s.end report.events))) all
-      by true here = opened_leaves s report.events t stands here
-      by false here = opened_leaves s (fitting s.end report.events) t stands here
+      by : (b : Bool) → LeavesBehind (cond b (ran_in db report) (filled db (fitting gate report.events))) behind → Leaves (cond b (ran_in db report) (filled db (fitting gate report.events))) all
+      by true here = opened_leaves db report.events t settled holds here
+      by false here = opened_leaves db (fitting gate report.events) t settled holds here
 
-  -- the journal ends where the store keeps its end
-  ends_there : (s : Standing) → told → StandsFor (disk mid) s → EndsAt (λ f. (disk old f).bytes) (database_of s) s.end
-  ends_there s t stands = record {
-    half = s.half;
-    named = subst (λ (l : List ℕ). Names l s.half) ((untouched t).reads Select) stands.named;
-    ends = subst (λ (l : List ℕ). IsHalfTo format_one l (database_of s).catalogue (database_of s).state s.end) ((untouched t).reads s.half) stands.half;
-  }
+  -- the files read as before
+  abbrev files_of : D → FileId → List ℕ
+  files_of d f = (disk d f).bytes
 
-  -- a run over the store that was opened
-  pub run_answers : (hosts : List Host) (turns : ℕ) (p : Program_tree) (s : Standing) (status : RunStatus) → (told → IsFound (λ f. (disk old f).bytes) (held (database_of s))) → (told → StandsFor (disk mid) s)
-      → Continues hosts turns p (database_of s) s.end status behind → Answers hosts turns p status all
-  run_answers hosts turns p s status found stands (turns_away {name} lacks said leaves) =
-      answers (barred (Differing name)) (differs found lacks) (said_before (barred (Differing name)) status said) (λ t. leaves_barred (Differing name) t (leaves t))
-  run_answers hosts turns p s status found stands (goes_on has said leaves) =
-      answers _ (runs found (λ t. ends_there s t (stands t)) has) (said_before _ status said) (λ t. leaves_run s (run_of (bound p (database_of s).catalogue) (database_of s).state (specs_of hosts) turns) t (stands t) (leaves t))
-  run_answers hosts turns p s status found stands (stops memory kept files leaves) =
-      fails (inr memory) (subst (λ (e : Option (List ℕ)). Keeps e (emitted new)) same kept) (λ t f. files t f ∙ (untouched t).reads f)
-      (λ t. leaves-on moment left_since (untouched t).any_moment (leaves t) (λ c none. absurd none))
+  files_same : told → files_of mid ≡ files_of old
+  files_same t = λ i f. (untouched t).reads f i
+
+  module _ (hosts : List Host) (turns : ℕ) (p : Program_tree) where
+    comes_before : (outcome : RunOutcome) → ComesTo hosts turns p behind outcome → ComesTo hosts turns p all outcome
+    comes_before _ (finds_none x) = finds_none (λ t. subst (λ (files : FileId → List ℕ). IsFound files absent) (files_same t) (x t))
+    comes_before _ (finds_damage {file = file} {at = at} x) = finds_damage (λ t. subst (λ (files : FileId → List ℕ). IsFound files (spoilt file at)) (files_same t) (x t))
+    comes_before _ (differs {db = db} x lacks) = differs (λ t. subst (λ (files : FileId → List ℕ). IsFound files (held db)) (files_same t) (x t)) lacks
+    comes_before _ (overflows {db = db} x over has) =
+        overflows (λ t. subst (λ (files : FileId → List ℕ). IsFound files (held db)) (files_same t) (x t)) (λ t. subst (λ (files : FileId → List ℕ). Overfills files db) (files_same t) (over t)) has
+    comes_before _ (runs {db = db} {gate = gate} x starts has) =
+        runs (λ t. subst (λ (files : FileId → List ℕ). IsFound files (held db)) (files_same t) (x t)) (λ t. subst (λ (files : FileId → List ℕ). StartsAt files db gate) (files_same t) (starts t)) has
+
+    leaves_before : (outcome : RunOutcome) → ComesTo hosts turns p behind outcome → told → ((f : FileId) → IsSettled (disk mid f)) → LeavesBehind outcome behind → Leaves outcome all
+    leaves_before _ (finds_none x) t settled leaves = leaves_barred NoDatabase t leaves
+    leaves_before _ (finds_damage {file = file} {at = at} x) t settled leaves = leaves_barred (Damaged file at) t leaves
+    leaves_before _ (differs {name = name} x lacks) t settled leaves = leaves_barred (Differing name) t leaves
+    leaves_before _ (overflows {db = db} x over has) t settled leaves = opened_leaves db [] t settled (x t) leaves
+    leaves_before _ (runs {db = db} {gate = gate} x starts has) t settled leaves = leaves_run db gate (run_of (bound p db.catalogue) db.state (specs_of hosts) turns) t settled (x t) leaves
+
+    -- a run over the store that was opened
+    pub run_answers : (status : RunStatus) → (told → (f : FileId) → IsSettled (disk mid f)) → Continues hosts turns p status behind → Answers hosts turns p status all
+    run_answers status settled (comes outcome to said leaves) = answers outcome (comes_before outcome to) (said_before outcome status said) (λ t. leaves_before outcome to t (settled t) (leaves t))
+    run_answers status settled (stops memory kept files leaves) =
+        fails (inr memory) (subst (λ (e : Option (List ℕ)). Keeps e (emitted new)) same kept) (λ t f. files t f ∙ (untouched t).reads f)
+        (λ t. leaves-on moment left_since (untouched t).any_moment (leaves t) (λ c none. absurd none))
 
   -- a refusal of what was found
   pub refusal_answers : (hosts : List Host) (turns : ℕ) (p : Program_tree) (r : FolderRefusal) (status : RunStatus)
-      → RunsTo hosts turns p (λ found. told → IsFound (λ f. (disk old f).bytes) found) (λ db gate. told → EndsAt (λ f. (disk old f).bytes) db gate) (barred r)
-      → IsSaid (barred r) status behind → (told → LeavesOnly moment left_since mid new (IsImageAmid (disk mid) (emitted mid) (line_of r))) → Answers hosts turns p status all
+      → ComesTo hosts turns p all (barred r) → IsSaid (barred r) status behind → (told → LeavesOnly moment left_since mid new (IsImageAmid (disk mid) (emitted mid) (line_of r))) → Answers hosts turns p status all
   refusal_answers hosts turns p r status to said leaves = answers (barred r) to (said_before (barred r) status said) (λ t. leaves_barred r t (leaves t))
 
 -- ---- every image

@@ -33,12 +33,6 @@ use Rattle.hera_run.proofs.Cuts.{cut-behind}
 use Rattle.hera_run.proofs.Fittings.{gate_after-append, all_fit-append, fit-store}
 use Rattle.hera_run.proofs.Images.{with_over, database_more}
 
--- the state that a step reads is the one stored
-pub state_read : (now : seen.Standing) (db : Database) (here : State) (b : Stored) (cs : List Delta) → b ≡ now.base → cs ≡ now.commits → seen.database_of now ≡ with_state db here → state_over b.state cs ≡ here
-state_read now db here b cs base given is =
-    ap (λ (b : Stored). state_over b.state cs) base ∙ ap (λ (cs : List Delta). state_over now.base.state cs) given
-    ∙ sym (with_over now.base.state now.commits) ∙ ap (λ (x : Database). x.state) is
-
 -- the database of a store that is as before
 database_kept : (old now : seen.Standing) (db : Database) → now.base ≡ old.base → now.commits ≡ old.commits → seen.database_of old ≡ db → seen.database_of now ≡ db
 database_kept old now db same kept is =

@@ -1,5 +1,5 @@
 -- What a run over a folder comes to, and what is seen of it.
-use Rattle.std.specs.Prelude.{◌≡◌, ◌⊎◌, ℕ, cond, List, ◌++◌, take, codes}
+use Rattle.std.specs.Prelude.{◌≡◌, ◌≤◌, ◌<◌, ◌⊎◌, ℕ, suc, cond, List, [], ◌++◌, length, take, codes}
 use Rattle.std.specs.Io.KnownBytes.{Appends, Keeps}
 use Rattle.hera_meaning.specs.Printed.{end_text}
 use Rattle.hera_meaning.specs.Trees.{Program_tree}
@@ -11,9 +11,11 @@ use Rattle.hera_bind.specs.Having.{AllHas}
 use Rattle.hera_volume.specs.Time.{IsImageOf, IsImageAmid}
 use Rattle.hera_volume.specs.declared.file_id.FileId.{FileId}
 use Rattle.hera_volume.specs.declared.file_id.FileId.TheVariants.{Select, Left, Right}
-use Rattle.rel_format.specs.Pages.{format_one}
+use Rattle.rel_format.specs.Pages.{format_one, format_two}
+use Rattle.rel_format.specs.Journal.{IsHalf, half_limit}
 use Rattle.commit_journal.specs.Halves.{IsHalfTo}
 use Rattle.hera_store.specs.Databases.{Database, Names, Found, IsFound, absent, spoilt, held}
+use Rattle.hera_store.specs.Faults.{half_with}
 use Rattle.hera_run.specs.Cut.{IsCut, with_state}
 use Rattle.hera_run.specs.Fitting.{all_fit, fitting}
 use Rattle.hera_run.specs.Passages.{Passage, ReadsAsBefore, Stores}
@@ -25,7 +27,7 @@ use Rattle.hera_run.specs.declared.status.RunStatus.TheVariants.{Done, Trapped, 
 -- ---- outcomes
 
 -- the folder or the binding is refused; or a run from a database; or the events of a run from a database up to a store
--- for which the half is too full
+-- for which the half is too full, none where the half of format 1 has no room in format 2
 pub data RunOutcome : Type 0 where
   barred : FolderRefusal → RunOutcome
   ran_in : Database → Report → RunOutcome
@@ -63,20 +65,41 @@ outcome_from db gate report = cond (all_fit gate report.events) (ran_in db repor
 
 -- ---- what a run comes to
 
--- the half that is selected has this database, and its journal ends at this gate
-pub record EndsAt (files : FileId → List ℕ) (db : Database) (gate : ℕ) : Type 0 where
+-- the half is of format 1, and the half of format 2 that replaces it is within the limit, its only gate at this place
+pub record IsReplaced (bytes : List ℕ) (db : Database) (gate : ℕ) : Type 0 where
+  pub old : IsHalf format_one bytes db.catalogue db.state
+  pub place : suc gate ≡ length (half_with db)
+  pub fits : length (half_with db) ≤ half_limit
+
+-- The half that is selected has this database, and the records of a run stand behind this gate: that at the end of its
+-- journal, or the only one of the half that replaces it.
+pub record StartsAt (files : FileId → List ℕ) (db : Database) (gate : ℕ) : Type 0 where
   pub half : FileId
   pub named : Names (files Select) half
-  pub ends : IsHalfTo format_one (files half) db.catalogue db.state gate
+  pub starts : IsHalfTo format_two (files half) db.catalogue db.state gate ⊎ IsReplaced (files half) db gate
 
--- The outcome for a program, where `there` says what was found in the folder and `ends` where the journal ends: the
--- folder is refused, then the binding, and else the bound program runs.
-pub data RunsTo (hosts : List Host) (turns : ℕ) (p : Program_tree) (there : Found → Type 0) (ends : Database → ℕ → Type 0) : RunOutcome → Type 0 where
-  finds_none : there absent → RunsTo hosts turns p there ends (barred NoDatabase)
-  finds_damage : {file : FileId} {at : ℕ} → there (spoilt file at) → RunsTo hosts turns p there ends (barred (Damaged file at))
-  differs : {db : Database} {name : List ℕ} → there (held db) → Differs db.catalogue p.relations name → RunsTo hosts turns p there ends (barred (Differing name))
-  runs : {db : Database} {gate : ℕ} → there (held db) → ends db gate → AllHas db.catalogue p.relations
-      → RunsTo hosts turns p there ends (outcome_from db gate (run_of (bound p db.catalogue) db.state (specs_of hosts) turns))
+-- the half that is selected is of format 1, and the half of format 2 with its database passes the limit
+pub record Overfills (files : FileId → List ℕ) (db : Database) : Type 0 where
+  pub half : FileId
+  pub named : Names (files Select) half
+  pub old : IsHalf format_one (files half) db.catalogue db.state
+  pub past : half_limit < length (half_with db)
+
+-- The outcome for a program, where `there` says what was found in the folder, `starts` behind which gate its records
+-- stand, and `over` that its half cannot be replaced: the folder is refused, then the binding, and else the bound
+-- program runs.
+pub data RunsTo (hosts : List Host) (turns : ℕ) (p : Program_tree) (there : Found → Type 0) (starts : Database → ℕ → Type 0) (over : Database → Type 0) : RunOutcome → Type 0 where
+  finds_none : there absent → RunsTo hosts turns p there starts over (barred NoDatabase)
+  finds_damage : {file : FileId} {at : ℕ} → there (spoilt file at) → RunsTo hosts turns p there starts over (barred (Damaged file at))
+  differs : {db : Database} {name : List ℕ} → there (held db) → Differs db.catalogue p.relations name → RunsTo hosts turns p there starts over (barred (Differing name))
+  overflows : {db : Database} → there (held db) → over db → AllHas db.catalogue p.relations → RunsTo hosts turns p there starts over (filled db [])
+  runs : {db : Database} {gate : ℕ} → there (held db) → starts db gate → AllHas db.catalogue p.relations
+      → RunsTo hosts turns p there starts over (outcome_from db gate (run_of (bound p db.catalogue) db.state (specs_of hosts) turns))
+
+-- the outcome for what the files, where they are told, were when the call began
+abbrev pub ComesTo : List Host → (turns : ℕ) → Program_tree → Passage → RunOutcome → Type 0
+ComesTo hosts turns p v outcome =
+    RunsTo hosts turns p (λ found. v.told → IsFound (λ f. (v.disks_before f).bytes) found) (λ db gate. v.told → StartsAt (λ f. (v.disks_before f).bytes) db gate) (λ db. v.told → Overfills (λ f. (v.disks_before f).bytes) db) outcome
 
 -- ---- every exit
 
@@ -121,8 +144,7 @@ Leaves (filled db events) v = v.leaves_once_opened (IsCut events db v.emitted_be
 -- how a run over a folder answers
 pub data Answers (hosts : List Host) (turns : ℕ) (p : Program_tree) (status : RunStatus) (v : Passage) : Type 0 where
   -- the folder was read, and its outcome carried out
-  answers : (outcome : RunOutcome) → RunsTo hosts turns p (λ found. v.told → IsFound (λ f. (v.disks_before f).bytes) found) (λ db gate. v.told → EndsAt (λ f. (v.disks_before f).bytes) db gate) outcome
-      → IsSaid outcome status v → (v.told → Leaves outcome v) → Answers hosts turns p status v
+  answers : (outcome : RunOutcome) → ComesTo hosts turns p v outcome → IsSaid outcome status v → (v.told → Leaves outcome v) → Answers hosts turns p status v
   -- before that the device failed or there was no memory: nothing was emitted or changed
   fails : (status ≡ Device) ⊎ (status ≡ Memory) → Keeps v.emitted_before v.emitted_now → (v.told → ReadsAsBefore v)
       → (v.told → v.leaves_only (IsImageOf v.disks_before v.emitted_before)) → Answers hosts turns p status v

@@ -13,9 +13,7 @@ use hera_causes::Failed;
 use hera_meaning::Line;
 use hera_store::{CommitFault, Store};
 use hera_volume::{Outside, say};
-
-/// The most bytes of a half.
-const LIMIT: u64 = 268_435_456;
+use rel_format::HALF_LIMIT;
 
 /// What a run does outside.
 #[derive(Drop)]
@@ -63,7 +61,7 @@ fn keep<W: Outside>(outside: &mut W, store: &mut Store, delta: Delta) -> Result<
     ensures output_still { W.output_faults outside.new ≡ W.output_faults outside.old }
     ensures silent { result ≢ Err RunFault.Output }
 {
-    match store.commit(outside, delta, LIMIT) {
+    match store.commit(outside, delta, HALF_LIMIT) {
         Ok(()) => Ok(()),
         Err(CommitFault::Full { need: _, limit: _ }) => Err(RunFault::Full),
         Err(CommitFault::Device) => Err(RunFault::Device),

@@ -16,6 +16,7 @@ ghost use Rattle.hera_run.specs.Action.{event_of, commits_with, action_fits, gat
 use crate::carry::{Action, carry_out};
 use crate::fault::RunFault;
 use crate::lines::{commit_line, last_line};
+use commit_levels::Levels;
 use delta_atoms::Delta;
 use hera_code::Code;
 use hera_host::HostTable;
@@ -121,13 +122,15 @@ pub fn run_code<W: Outside>(
     ensures output_later { W.output_faults outside.old ≤ W.output_faults outside.new }
 {
     let mut machine = Machine::new(alloc, code, relations, turns)?;
+    let mut levels = Levels::of(alloc, store.commits())?;
     let opened = store.commits().len();
     'steps: loop {
-        match machine.advance(store.base(), store.commits(), hosts)? {
+        match machine.advance(store.base(), levels.deltas(), hosts)? {
             Event::Quiet => {}
             Event::Out(line) => carry_out(outside, store, Action::Say(line))?,
             Event::Commit => {
                 let delta = machine.take_pending();
+                levels.push(&delta)?;
                 let number = store.commits().len() - opened + 1;
                 commit(alloc, outside, store, delta, number)?;
             }

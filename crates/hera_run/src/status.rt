@@ -15,6 +15,6 @@ pub enum RunStatus {
     Output,
     /// There was no memory.
     Memory,
-    /// A commit does not fit into the half.
+    /// A commit, or the half that replaces one of format 1, does not fit.
     Full,
 }

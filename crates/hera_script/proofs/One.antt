@@ -1,5 +1,5 @@
 -- A script is refused in one way at most, and then it is not accepted.
-use Rattle.std.proofs.Common.{◌≡◌, ℕ, ◌<◌, ◌≤◌, ◌⊎◌, inl, inr, ⊎_elim, List, [], length, Ok, Err, None, refl, sym, ap, ◌∙◌, subst, arith}
+use Rattle.std.proofs.Common.{◌≡◌, ℕ, ◌<◌, ◌≤◌, ◌⊎◌, ⊎_elim, List, [], length, Ok, Err, refl, sym, ap, ◌∙◌, subst, arith}
 use Rattle.std.specs.Prelude.{slice_get, Result}
 use Rattle.hera_meaning.specs.Trees.{Program_tree}
 use Rattle.hera_syntax.specs.declared.token.Token.{Token}
@@ -10,10 +10,9 @@ use Rattle.hera_lexer.specs.declared.script.LexFault.TheVariants as lexing
 use Rattle.hera_lexer.specs.Answers as lexer
 use Rattle.hera_host.specs.Tables.{Host}
 use Rattle.hera_rules.specs.declared.fault.TypeFault.{TypeFault}
-use Rattle.hera_rules.specs.declared.fault.TypeFault.TheVariants as typing
 use Rattle.hera_rules.specs.ReadActs.{script_of}
 use Rattle.hera_rules.specs.Phrases.{Script}
-use Rattle.hera_rules.specs.Programs.{ElabScript, FirstFault}
+use Rattle.hera_rules.specs.Programs.{FirstFault}
 use Rattle.hera_rules.specs.Accepted.{Accepted}
 use Rattle.hera_rules.specs.Exactness.{ScriptsAreDecided}
 use Rattle.hera_script.specs.declared.cause.Cause.{Cause}

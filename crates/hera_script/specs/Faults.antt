@@ -1,5 +1,5 @@
 -- What the faults of the crates below are for a script.
-use Rattle.std.specs.Prelude.{◌≡◌, ℕ, List, slice_get}
+use Rattle.std.specs.Prelude.{ℕ, List, slice_get}
 use Rattle.hera_syntax.specs.declared.token.Token.{Token}
 use Rattle.hera_syntax.specs.Trees.{IsFaultAt}
 use Rattle.hera_lexer.specs.declared.script.LexFault.{LexFault}

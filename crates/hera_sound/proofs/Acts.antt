@@ -380,8 +380,8 @@ mutual
       let f = fine x env rs e m (all_visible x rs inside n ls vis) st in
       act_moved x rs seen inside (walk_places n (slots e)) (walk_places n (slots e)) (10 * nodes p + 1) (10 * (1 + nodes p)) (n + slots_of p) (done ls c) refl (omega arith)
       (value_fine x rs seen inside (walk_places n (slots e)) (10 * nodes p) (n + slots_of p) at ls r v c fits row (settable_later x rs inside n (n + slots_of p) ls (omega arith) vis) f)
-  act_fine x env r fits rs seen inside (commit_is {ls = ls} {n = n} {at = at} {c = c} row) m vis below st =
-      effect_fine x rs seen inside (n + 0) at ls (is_some r) commit c fits.func row (λ k. record { sound = k; walks = refl; small = omega arith; sets = tt; locals = settable_later x rs inside n (n + 0) ls (omega arith) vis })
+  act_fine x env r fits rs seen inside (commit_is {ls = ls} {n = n} {at = at} {label = label} {c = c} row) m vis below st =
+      effect_fine x rs seen inside (n + 0) at ls (is_some r) (commit label) c fits.func row (λ k. record { sound = (m, k); walks = refl; small = omega arith; sets = tt; locals = settable_later x rs inside n (n + 0) ls (omega arith) vis })
   act_fine x env r fits rs seen inside (rollback_is {ls = ls} {n = n} {at = at} {c = c} row) m vis below st =
       effect_fine x rs seen inside (n + 0) at ls (is_some r) rollback c fits.func row (λ k. record { sound = k; walks = refl; small = omega arith; sets = tt; locals = settable_later x rs inside n (n + 0) ls (omega arith) vis })
   act_fine x env r fits rs seen inside (return_is {ls = ls} {n = n} {at = at} {c = c} row) m vis below st =

@@ -24,7 +24,7 @@ use Rattle.hera_syntax.specs.declared.expr.Line.{Line, Line'}
 use Rattle.hera_syntax.specs.declared.expr.Prime.{Prime, Int, Text, True, False, Fail, Name, Call', Paren', Row', Delta', Rows', Walk', Project', Rename', Pair', Group', Measure', Fold', Bulk', Part', Held-Prime-Call-2, Prime-Call-2-None', Prime-Call-2-Some', Held-Prime-Delta-1, Prime-Delta-1-None', Prime-Delta-1-Some', Held-Prime-Rows-4, Prime-Rows-4-None', Prime-Rows-4-Some'}
 use Rattle.hera_syntax.specs.Grammar as phrases
 use Rattle.hera_syntax.specs.Grammar.{Production}
-use Rattle.hera_syntax.specs.Outline.{Mark, at_node, kept, left_out, production_of, more_of, alternative_of, chain_end, tails_outline, name_row, names_outline, renaming_outline, renaming_row, renamings_outline, agg_outline, named_agg_outline, agg_row, aggs_outline, prefix_start, field_outline}
+use Rattle.hera_syntax.specs.Outline.{Entry, at_node, kept, left_out, production_of, more_of, alternative_of, chain_end, tails_outline, name_row, names_outline, renaming_outline, renaming_row, renamings_outline, agg_outline, named_agg_outline, agg_row, aggs_outline, prefix_start, field_outline}
 use Rattle.hera_rules.specs.declared.words.Word.{Word}
 use Rattle.hera_rules.specs.declared.words.Renamed.{Renamed}
 use Rattle.hera_rules.specs.declared.words.Measured.{Measured}
@@ -37,85 +37,85 @@ use Rattle.hera_rules.specs.Read.{word_of, int_of, text_of, joint_at, sign_of, p
 use Rattle.hera_sound.proofs.Out.{expr_out, tails_out, operand_out, args_out, args_more, bindings_out, bindings_more, atoms_out, atoms_more, lines_out, lines_more, atom_out, line_out, call_out, delta_out, rows_out, prime_out}
 
 -- two readings from one list of marks: what was read is one, and what is left is one
-pub record Same {A : Type 0} (a b : A) (r s : List Mark) : Type 0 where
+pub record Same {A : Type 0} (a b : A) (r s : List Entry) : Type 0 where
   pub same : a ≡ b
   pub rest : r ≡ s
 
-pub record SameRow (a b : List Word) (p q : Phrases) (r s : List Mark) : Type 0 where
+pub record SameRow (a b : List Word) (p q : Phrases) (r s : List Entry) : Type 0 where
   pub words : a ≡ b
   pub values : p ≡ q
   pub rest : r ≡ s
 
-pub tail_same : {x y : Mark} {xs ys : List Mark} → x ∷ xs ≡ y ∷ ys → xs ≡ ys
+pub tail_same : {x y : Entry} {xs ys : List Entry} → x ∷ xs ≡ y ∷ ys → xs ≡ ys
 tail_same h = cc
 
 -- two nodes that begin one list are by one alternative
-pub numbers_same : {s t : Production} {k j : ℕ} {xs ys : List Mark} → at_node s k ∷ xs ≡ at_node t j ∷ ys → k ≡ j
+pub numbers_same : {s t : Production} {k j : ℕ} {xs ys : List Entry} → at_node s k ∷ xs ≡ at_node t j ∷ ys → k ≡ j
 numbers_same h = cc
 
-pub kept_same : {t u : Token} {xs ys : List Mark} → kept t ∷ xs ≡ kept u ∷ ys → Same t u xs ys
+pub kept_same : {t u : Token} {xs ys : List Entry} → kept t ∷ xs ≡ kept u ∷ ys → Same t u xs ys
 kept_same h = record { same = cc; rest = cc }
 
 -- ---- prefixes, attributes, lists of names
 
-prefix_fixed : (p q : Option Token) (r s : List Mark) → prefix_start p ++ r ≡ prefix_start q ++ s → Same p q r s
+prefix_fixed : (p q : Option Token) (r s : List Entry) → prefix_start p ++ r ≡ prefix_start q ++ s → Same p q r s
 prefix_fixed None None r s h = record { same = refl; rest = tail_same h }
 prefix_fixed (Some t) (Some u) r s h = let k = kept_same (tail_same h) in record { same = ap (λ (t : Token). Some t) k.same; rest = k.rest }
 prefix_fixed None (Some u) r s h = absurd cc
 prefix_fixed (Some t) None r s h = absurd cc
 
-field_fixed : (p q : Option Token) (r s : List Mark) → field_outline p ++ r ≡ field_outline q ++ s → Same p q r s
+field_fixed : (p q : Option Token) (r s : List Entry) → field_outline p ++ r ≡ field_outline q ++ s → Same p q r s
 field_fixed None None r s h = record { same = refl; rest = tail_same h }
 field_fixed (Some t) (Some u) r s h = let k = kept_same (tail_same (tail_same h)) in record { same = ap (λ (t : Token). Some t) k.same; rest = k.rest }
 field_fixed None (Some u) r s h = absurd cc
 field_fixed (Some t) None r s h = absurd cc
 
 -- rows of a list, each behind a mark that is not the one behind the last
-module _ {A B : Type 0} (one : A → List Mark) (read : A → B) (end : Mark) (each : (a b : A) (r s : List Mark) → one a ++ r ≡ one b ++ s → Same (read a) (read b) r s)
-    (apart : (a : A) (r s : List Mark) → one a ++ r ≡ end ∷ s → ⊥) where
-  pub rows_fixed : (xs ys : List A) (r s : List Mark) → (flat_map one xs ++ end ∷ []) ++ r ≡ (flat_map one ys ++ end ∷ []) ++ s → Same (map read xs) (map read ys) r s
+module _ {A B : Type 0} (one : A → List Entry) (read : A → B) (end : Entry) (each : (a b : A) (r s : List Entry) → one a ++ r ≡ one b ++ s → Same (read a) (read b) r s)
+    (apart : (a : A) (r s : List Entry) → one a ++ r ≡ end ∷ s → ⊥) where
+  pub rows_fixed : (xs ys : List A) (r s : List Entry) → (flat_map one xs ++ end ∷ []) ++ r ≡ (flat_map one ys ++ end ∷ []) ++ s → Same (map read xs) (map read ys) r s
   rows_fixed [] [] r s h = record { same = refl; rest = tail_same h }
   rows_fixed [] (y ∷ ys) r s h = absurd (apart y ((flat_map one ys ++ end ∷ []) ++ s) r (sym (h ∙ regroup y ys s)))
     where
-      regroup : (a : A) (xs : List A) (r : List Mark) → ((one a ++ flat_map one xs) ++ end ∷ []) ++ r ≡ one a ++ ((flat_map one xs ++ end ∷ []) ++ r)
+      regroup : (a : A) (xs : List A) (r : List Entry) → ((one a ++ flat_map one xs) ++ end ∷ []) ++ r ≡ one a ++ ((flat_map one xs ++ end ∷ []) ++ r)
       regroup a xs r = simp append_assoc
   rows_fixed (x ∷ xs) [] r s h = absurd (apart x ((flat_map one xs ++ end ∷ []) ++ r) s (sym (regroup x xs r) ∙ h))
     where
-      regroup : (a : A) (xs : List A) (r : List Mark) → ((one a ++ flat_map one xs) ++ end ∷ []) ++ r ≡ one a ++ ((flat_map one xs ++ end ∷ []) ++ r)
+      regroup : (a : A) (xs : List A) (r : List Entry) → ((one a ++ flat_map one xs) ++ end ∷ []) ++ r ≡ one a ++ ((flat_map one xs ++ end ∷ []) ++ r)
       regroup a xs r = simp append_assoc
   rows_fixed (x ∷ xs) (y ∷ ys) r s h =
       let k = each x y ((flat_map one xs ++ end ∷ []) ++ r) ((flat_map one ys ++ end ∷ []) ++ s) (sym (regroup x xs r) ∙ h ∙ regroup y ys s) in
       let j = rows_fixed xs ys r s k.rest in
       record { same = ap (λ b. b ∷ map read xs) k.same ∙ ap (λ bs. read y ∷ bs) j.same; rest = j.rest }
     where
-      regroup : (a : A) (xs : List A) (r : List Mark) → ((one a ++ flat_map one xs) ++ end ∷ []) ++ r ≡ one a ++ ((flat_map one xs ++ end ∷ []) ++ r)
+      regroup : (a : A) (xs : List A) (r : List Entry) → ((one a ++ flat_map one xs) ++ end ∷ []) ++ r ≡ one a ++ ((flat_map one xs ++ end ∷ []) ++ r)
       regroup a xs r = simp append_assoc
 
-name_row_fixed : (t u : Token) (r s : List Mark) → name_row t ++ r ≡ name_row u ++ s → Same (word_of t) (word_of u) r s
+name_row_fixed : (t u : Token) (r s : List Entry) → name_row t ++ r ≡ name_row u ++ s → Same (word_of t) (word_of u) r s
 name_row_fixed t u r s h = let k = kept_same (tail_same (tail_same h)) in record { same = ap word_of k.same; rest = k.rest }
 
-names_fixed : (a b : Names) (r s : List Mark) → names_outline a ++ r ≡ names_outline b ++ s → Same (words_of a) (words_of b) r s
+names_fixed : (a b : Names) (r s : List Entry) → names_outline a ++ r ≡ names_outline b ++ s → Same (words_of a) (words_of b) r s
 names_fixed a b r s h =
     let k = kept_same (tail_same h) in
     let j = rows_fixed name_row word_of (at_node phrases.more_names 1) name_row_fixed (λ t r s e. absurd cc) a.rest.items b.rest.items r s k.rest in
     record { same = ap (λ (t : Token). word_of t ∷ map word_of a.rest.items) k.same ∙ ap (λ ws. word_of b.first ∷ ws) j.same; rest = j.rest }
 
-renaming_fixed : (a b : Renaming) (r s : List Mark) → renaming_outline a ++ r ≡ renaming_outline b ++ s → Same (renamed_of a) (renamed_of b) r s
+renaming_fixed : (a b : Renaming) (r s : List Entry) → renaming_outline a ++ r ≡ renaming_outline b ++ s → Same (renamed_of a) (renamed_of b) r s
 renaming_fixed a b r s h =
     let k = kept_same (tail_same h) in
     let j = kept_same (tail_same k.rest) in
     record { same = ap (λ (t : Token). let x : Renamed = record { new = word_of t; old = word_of a.old } in x) k.same ∙ ap (λ (t : Token). let x : Renamed = record { new = word_of b.new; old = word_of t } in x) j.same; rest = j.rest }
 
-renaming_row_fixed : (a b : Renaming) (r s : List Mark) → renaming_row a ++ r ≡ renaming_row b ++ s → Same (renamed_of a) (renamed_of b) r s
+renaming_row_fixed : (a b : Renaming) (r s : List Entry) → renaming_row a ++ r ≡ renaming_row b ++ s → Same (renamed_of a) (renamed_of b) r s
 renaming_row_fixed a b r s h = renaming_fixed a b r s (tail_same (tail_same h))
 
-renamings_fixed : (a b : Renamings) (r s : List Mark) → renamings_outline a ++ r ≡ renamings_outline b ++ s → Same (renamed_all a) (renamed_all b) r s
+renamings_fixed : (a b : Renamings) (r s : List Entry) → renamings_outline a ++ r ≡ renamings_outline b ++ s → Same (renamed_all a) (renamed_all b) r s
 renamings_fixed a b r s h =
     let k = renaming_fixed a.first b.first ((flat_map renaming_row a.rest.items ++ at_node phrases.more_renamings 1 ∷ []) ++ r) ((flat_map renaming_row b.rest.items ++ at_node phrases.more_renamings 1 ∷ []) ++ s) (tail_same h) in
     let j = rows_fixed renaming_row renamed_of (at_node phrases.more_renamings 1) renaming_row_fixed (λ t r s e. absurd cc) a.rest.items b.rest.items r s k.rest in
     record { same = ap (λ (x : Renamed). x ∷ map renamed_of a.rest.items) k.same ∙ ap (λ ws. renamed_of b.first ∷ ws) j.same; rest = j.rest }
 
-agg_fixed : (a b : AggTree) (r s : List Mark) → agg_outline a ++ r ≡ agg_outline b ++ s → Same (measured_of a) (measured_of b) r s
+agg_fixed : (a b : AggTree) (r s : List Entry) → agg_outline a ++ r ≡ agg_outline b ++ s → Same (measured_of a) (measured_of b) r s
 agg_fixed (Count t) (Count u) r s h = record { same = refl; rest = (kept_same (tail_same h)).rest }
 agg_fixed (Of w x n) (Of v y m) r s h =
     let k = kept_same (tail_same h) in
@@ -125,23 +125,23 @@ agg_fixed (Of w x n) (Of v y m) r s h =
 agg_fixed (Count t) (Of v y m) r s h = absurd cc
 agg_fixed (Of w x n) (Count u) r s h = absurd cc
 
-named_agg_fixed : (a b : NamedAgg) (r s : List Mark) → named_agg_outline a ++ r ≡ named_agg_outline b ++ s → Same (aggregate_of a) (aggregate_of b) r s
+named_agg_fixed : (a b : NamedAgg) (r s : List Entry) → named_agg_outline a ++ r ≡ named_agg_outline b ++ s → Same (aggregate_of a) (aggregate_of b) r s
 named_agg_fixed a b r s h =
     let k = kept_same (tail_same h) in
     let j = agg_fixed a.agg b.agg r s (tail_same k.rest) in
     record { same = ap (λ (t : Token). let x : Aggregate = record { name = word_of t; of = measured_of a.agg } in x) k.same ∙ ap (λ (m : Measured). let x : Aggregate = record { name = word_of b.name; of = m } in x) j.same; rest = j.rest }
 
-agg_row_fixed : (a b : NamedAgg) (r s : List Mark) → agg_row a ++ r ≡ agg_row b ++ s → Same (aggregate_of a) (aggregate_of b) r s
+agg_row_fixed : (a b : NamedAgg) (r s : List Entry) → agg_row a ++ r ≡ agg_row b ++ s → Same (aggregate_of a) (aggregate_of b) r s
 agg_row_fixed a b r s h = named_agg_fixed a b r s (tail_same (tail_same h))
 
-aggs_fixed : (a b : NamedAggs) (r s : List Mark) → aggs_outline a ++ r ≡ aggs_outline b ++ s → Same (aggregates_of a) (aggregates_of b) r s
+aggs_fixed : (a b : NamedAggs) (r s : List Entry) → aggs_outline a ++ r ≡ aggs_outline b ++ s → Same (aggregates_of a) (aggregates_of b) r s
 aggs_fixed a b r s h =
     let k = named_agg_fixed a.first b.first ((flat_map agg_row a.rest.items ++ at_node phrases.more_aggs 1 ∷ []) ++ r) ((flat_map agg_row b.rest.items ++ at_node phrases.more_aggs 1 ∷ []) ++ s)
     (sym (regroup (named_agg_outline a.first) (flat_map agg_row a.rest.items) r) ∙ tail_same h ∙ regroup (named_agg_outline b.first) (flat_map agg_row b.rest.items) s) in
     let j = rows_fixed agg_row aggregate_of (at_node phrases.more_aggs 1) agg_row_fixed (λ t r s e. absurd cc) a.rest.items b.rest.items r s k.rest in
     record { same = ap (λ (x : Aggregate). x ∷ map aggregate_of a.rest.items) k.same ∙ ap (λ ws. aggregate_of b.first ∷ ws) j.same; rest = j.rest }
   where
-    regroup : (xs ys : List Mark) (r : List Mark) → ((xs ++ ys) ++ at_node phrases.more_aggs 1 ∷ []) ++ r ≡ xs ++ ((ys ++ at_node phrases.more_aggs 1 ∷ []) ++ r)
+    regroup : (xs ys : List Entry) (r : List Entry) → ((xs ++ ys) ++ at_node phrases.more_aggs 1 ∷ []) ++ r ≡ xs ++ ((ys ++ at_node phrases.more_aggs 1 ∷ []) ++ r)
     regroup xs ys r = simp append_assoc
 
 -- ---- expressions
@@ -168,11 +168,11 @@ told levels.Smashes = refl
 told levels.Merges = refl
 told levels.Comparisons = refl
 
-productions_same : {s t : Production} {k j : ℕ} {xs ys : List Mark} → at_node s k ∷ xs ≡ at_node t j ∷ ys → s ≡ t
+productions_same : {s t : Production} {k j : ℕ} {xs ys : List Entry} → at_node s k ∷ xs ≡ at_node t j ∷ ys → s ≡ t
 productions_same h = cc
 
 -- a chain is no prefix
-no_prefix : (level : Level) {k j : ℕ} {xs ys : List Mark} → at_node (production_of level) k ∷ xs ≡ at_node phrases.prefix j ∷ ys → ⊥
+no_prefix : (level : Level) {k j : ℕ} {xs ys : List Entry} → at_node (production_of level) k ∷ xs ≡ at_node phrases.prefix j ∷ ys → ⊥
 no_prefix levels.Whens h = absurd cc
 no_prefix levels.Ors h = absurd cc
 no_prefix levels.Ands h = absurd cc
@@ -188,25 +188,25 @@ many end_of-Tail = 0
 many (more_of-Tail op operand rest) = 1 + many rest
 
 -- the end of a chain with what stands behind it
-abbrev end_out : {m : _} → Level → Row_of-Tail m → List Mark → List Mark
+abbrev end_out : {m : _} → Level → Row_of-Tail m → List Entry → List Entry
 end_out level rest r = chain_end level (tails_outline rest) ++ r
 
 -- no further tail begins the marks
-abbrev Closed : Production → List Mark → Type 0
-Closed t xs = (ys : List Mark) → xs ≡ at_node t 0 ∷ ys → ⊥
+abbrev Closed : Production → List Entry → Type 0
+Closed t xs = (ys : List Entry) → xs ≡ at_node t 0 ∷ ys → ⊥
 
 -- where one chain has fewer tails, its end is not the beginning of a further one
-record Fit (t : Production) (a b : ℕ) (x y : List Mark) : Type 0 where
+record Fit (t : Production) (a b : ℕ) (x y : List Entry) : Type 0 where
   left : a < b → Closed t x
   right : b < a → Closed t y
 
-end_closed : (t : Production) (r : List Mark) → Closed t (at_node t 1 ∷ r)
+end_closed : (t : Production) (r : List Entry) → Closed t (at_node t 1 ∷ r)
 end_closed t r ys h = let e = numbers_same h in absurd (omega (arith, e))
 
-fit_closed : (t : Production) {a b : ℕ} (r s : List Mark) → Fit t a b (at_node t 1 ∷ r) (at_node t 1 ∷ s)
+fit_closed : (t : Production) {a b : ℕ} (r s : List Entry) → Fit t a b (at_node t 1 ∷ r) (at_node t 1 ∷ s)
 fit_closed t r s = record { left = λ h. end_closed t r; right = λ h. end_closed t s }
 
-fits : (l : Level) {m : _} {m' : _} (k : Row_of-Tail m) (j : Row_of-Tail m') (r s : List Mark) → alternative_of l (tails_outline k) ≡ alternative_of l (tails_outline j) → Fit (more_of l) (many k) (many j) (end_out l k r) (end_out l j s)
+fits : (l : Level) {m : _} {m' : _} (k : Row_of-Tail m) (j : Row_of-Tail m') (r s : List Entry) → alternative_of l (tails_outline k) ≡ alternative_of l (tails_outline j) → Fit (more_of l) (many k) (many j) (end_out l k r) (end_out l j s)
 fits levels.Whens k j r s n = fit_closed (phrases.more phrases.whens) r s
 fits levels.Ors k j r s n = fit_closed (phrases.more phrases.ors) r s
 fits levels.Ands k j r s n = fit_closed (phrases.more phrases.ands) r s
@@ -224,7 +224,7 @@ fits levels.Comparisons (more_of-Tail w p (more_of-Tail w2 p2 k)) end_of-Tail r 
 fits levels.Comparisons (more_of-Tail w p (more_of-Tail w2 p2 k)) (more_of-Tail v q end_of-Tail) r s n = absurd (omega (arith, n))
 fits levels.Comparisons (more_of-Tail w p (more_of-Tail w2 p2 k)) (more_of-Tail v q (more_of-Tail v2 q2 j)) r s n = fit_closed phrases.more_cmp r s
 
-ends_same : (l : Level) {m : _} {m' : _} (k : Row_of-Tail m) (j : Row_of-Tail m') (r s : List Mark) → many k ≡ many j → end_out l k r ≡ end_out l j s → r ≡ s
+ends_same : (l : Level) {m : _} {m' : _} (k : Row_of-Tail m) (j : Row_of-Tail m') (r s : List Entry) → many k ≡ many j → end_out l k r ≡ end_out l j s → r ≡ s
 ends_same levels.Whens k j r s n h = tail_same h
 ends_same levels.Ors k j r s n h = tail_same h
 ends_same levels.Ands k j r s n h = tail_same h
@@ -240,7 +240,7 @@ ends_same levels.Comparisons (more_of-Tail w p end_of-Tail) (more_of-Tail v q (m
 ends_same levels.Comparisons (more_of-Tail w p (more_of-Tail w2 p2 k)) (more_of-Tail v q end_of-Tail) r s n h = absurd (omega (arith, n))
 ends_same levels.Comparisons (more_of-Tail w p (more_of-Tail w2 p2 k)) (more_of-Tail v q (more_of-Tail v2 q2 j)) r s n h = tail_same h
 
-record SameTails (us vs : Uses) (a b : ℕ) (r s : List Mark) : Type 0 where
+record SameTails (us vs : Uses) (a b : ℕ) (r s : List Entry) : Type 0 where
   same : us ≡ vs
   number : a ≡ b
   rest : r ≡ s
@@ -248,7 +248,7 @@ record SameTails (us vs : Uses) (a b : ℕ) (r s : List Mark) : Type 0 where
 mutual
   unfolding expr_phrase
 
-  pub expr_fixed : (a b : Expr) (r s : List Mark) → expr_out a r ≡ expr_out b s → Same (expr_phrase a) (expr_phrase b) r s
+  pub expr_fixed : (a b : Expr) (r s : List Entry) → expr_out a r ≡ expr_out b s → Same (expr_phrase a) (expr_phrase b) r s
   expr_fixed (Expr' l f shape k) (Expr' l' g shape' j) r s h =
       let e : l ≡ l' = sym (told l) ∙ ap level_told (productions_same h) ∙ told l' in
       let a = operand_fixed f g (tails_out (more_of l) k (end_out l k r)) (tails_out (more_of l') j (end_out l' j s)) (tail_same h) in
@@ -256,7 +256,7 @@ mutual
       let b = tails_fixed l (more_of l) k j (end_out l k r) (end_out l j s) (fits l k j r s n) (subst (λ x. tails_out (more_of l) k (end_out l k r) ≡ tails_out (more_of x) j (end_out x j s)) (sym e) a.rest) in
       record { same = ap (λ p. chain_phrase p (expr_uses l k)) a.same ∙ ap (λ us. chain_phrase (operand_phrase g) us) b.same ∙ ap (λ x. chain_phrase (operand_phrase g) (expr_uses x j)) e; rest = ends_same l k j r s b.number b.rest }
 
-  tails_fixed : (l : Level) (t : Production) {m : _} {m' : _} (k : Row_of-Tail m) (j : Row_of-Tail m') (x y : List Mark) → Fit t (many k) (many j) x y → tails_out t k x ≡ tails_out t j y → SameTails (expr_uses l k) (expr_uses l j) (many k) (many j) x y
+  tails_fixed : (l : Level) (t : Production) {m : _} {m' : _} (k : Row_of-Tail m) (j : Row_of-Tail m') (x y : List Entry) → Fit t (many k) (many j) x y → tails_out t k x ≡ tails_out t j y → SameTails (expr_uses l k) (expr_uses l j) (many k) (many j) x y
   tails_fixed l t end_of-Tail end_of-Tail x y c h = record { same = refl; number = refl; rest = h }
   tails_fixed l t end_of-Tail (more_of-Tail v q j) x y c h = absurd (c.left (omega arith) _ h)
   tails_fixed l t (more_of-Tail w p k) end_of-Tail x y c h = absurd (c.right (omega arith) _ (sym h))
@@ -270,7 +270,7 @@ mutual
         rest = b.rest;
       }
 
-  pub operand_fixed : (a b : Operand) (r s : List Mark) → operand_out a r ≡ operand_out b s → Same (operand_phrase a) (operand_phrase b) r s
+  pub operand_fixed : (a b : Operand) (r s : List Entry) → operand_out a r ≡ operand_out b s → Same (operand_phrase a) (operand_phrase b) r s
   operand_fixed (Inner' p e) (Inner' q f) r s h = expr_fixed e f r s h
   operand_fixed (Inner' p (Expr' l f shape k)) (Prefix' None q g field) r s h = absurd (no_prefix l h)
   operand_fixed (Inner' p (Expr' l f shape k)) (Prefix' (Some t) q g field) r s h = absurd (no_prefix l h)
@@ -286,13 +286,13 @@ mutual
         rest = i.rest;
       }
 
-  pub args_fixed : (a b : Args) (r s : List Mark) → args_out a r ≡ args_out b s → Same (args_phrases a) (args_phrases b) r s
+  pub args_fixed : (a b : Args) (r s : List Entry) → args_out a r ≡ args_out b s → Same (args_phrases a) (args_phrases b) r s
   args_fixed (Args' f shape k) (Args' g shape' j) r s h =
       let a = expr_fixed f g (args_more k (at_node phrases.more_args 1 ∷ r)) (args_more j (at_node phrases.more_args 1 ∷ s)) (tail_same h) in
       let b = args_more_fixed k j r s a.rest in
       record { same = ap (λ p. phrase p (args_rest k)) a.same ∙ ap (λ ps. phrase (expr_phrase g) ps) b.same; rest = b.rest }
 
-  args_more_fixed : {m : _} {m' : _} (k : Row_of-Expr m) (j : Row_of-Expr m') (r s : List Mark) → args_more k (at_node phrases.more_args 1 ∷ r) ≡ args_more j (at_node phrases.more_args 1 ∷ s) → Same (args_rest k) (args_rest j) r s
+  args_more_fixed : {m : _} {m' : _} (k : Row_of-Expr m) (j : Row_of-Expr m') (r s : List Entry) → args_more k (at_node phrases.more_args 1 ∷ r) ≡ args_more j (at_node phrases.more_args 1 ∷ s) → Same (args_rest k) (args_rest j) r s
   args_more_fixed end_of-Expr end_of-Expr r s h = record { same = refl; rest = tail_same h }
   args_more_fixed end_of-Expr (more_of-Expr g j) r s h = absurd cc
   args_more_fixed (more_of-Expr f k) end_of-Expr r s h = absurd cc
@@ -301,13 +301,13 @@ mutual
       let b = args_more_fixed k j r s a.rest in
       record { same = ap (λ p. phrase p (args_rest k)) a.same ∙ ap (λ ps. phrase (expr_phrase g) ps) b.same; rest = b.rest }
 
-  atoms_fixed : (a b : Atoms) (r s : List Mark) → atoms_out a r ≡ atoms_out b s → Same (atoms_phrases a) (atoms_phrases b) r s
+  atoms_fixed : (a b : Atoms) (r s : List Entry) → atoms_out a r ≡ atoms_out b s → Same (atoms_phrases a) (atoms_phrases b) r s
   atoms_fixed (Atoms' f shape k) (Atoms' g shape' j) r s h =
       let a = atom_fixed f g (atoms_more k (at_node phrases.more_atoms 1 ∷ r)) (atoms_more j (at_node phrases.more_atoms 1 ∷ s)) (tail_same h) in
       let b = atoms_more_fixed k j r s a.rest in
       record { same = ap (λ p. phrase p (atoms_rest k)) a.same ∙ ap (λ ps. phrase (atom_phrase g) ps) b.same; rest = b.rest }
 
-  atoms_more_fixed : {m : _} {m' : _} (k : Row_of-Atom m) (j : Row_of-Atom m') (r s : List Mark) → atoms_more k (at_node phrases.more_atoms 1 ∷ r) ≡ atoms_more j (at_node phrases.more_atoms 1 ∷ s) → Same (atoms_rest k) (atoms_rest j) r s
+  atoms_more_fixed : {m : _} {m' : _} (k : Row_of-Atom m) (j : Row_of-Atom m') (r s : List Entry) → atoms_more k (at_node phrases.more_atoms 1 ∷ r) ≡ atoms_more j (at_node phrases.more_atoms 1 ∷ s) → Same (atoms_rest k) (atoms_rest j) r s
   atoms_more_fixed end_of-Atom end_of-Atom r s h = record { same = refl; rest = tail_same h }
   atoms_more_fixed end_of-Atom (more_of-Atom g j) r s h = absurd cc
   atoms_more_fixed (more_of-Atom f k) end_of-Atom r s h = absurd cc
@@ -316,13 +316,13 @@ mutual
       let b = atoms_more_fixed k j r s a.rest in
       record { same = ap (λ p. phrase p (atoms_rest k)) a.same ∙ ap (λ ps. phrase (atom_phrase g) ps) b.same; rest = b.rest }
 
-  lines_fixed : (w : Word) (a b : Lines) (r s : List Mark) → lines_out a r ≡ lines_out b s → Same (lines_phrases w a) (lines_phrases w b) r s
+  lines_fixed : (w : Word) (a b : Lines) (r s : List Entry) → lines_out a r ≡ lines_out b s → Same (lines_phrases w a) (lines_phrases w b) r s
   lines_fixed w (Lines' f shape k) (Lines' g shape' j) r s h =
       let a = line_fixed w f g (lines_more k (at_node phrases.more_lines 1 ∷ r)) (lines_more j (at_node phrases.more_lines 1 ∷ s)) (tail_same h) in
       let b = lines_more_fixed w k j r s a.rest in
       record { same = ap (λ p. phrase p (lines_rest w k)) a.same ∙ ap (λ ps. phrase (line_phrase w g) ps) b.same; rest = b.rest }
 
-  lines_more_fixed : (w : Word) {m : _} {m' : _} (k : Row_of-Line m) (j : Row_of-Line m') (r s : List Mark) → lines_more k (at_node phrases.more_lines 1 ∷ r) ≡ lines_more j (at_node phrases.more_lines 1 ∷ s) → Same (lines_rest w k) (lines_rest w j) r s
+  lines_more_fixed : (w : Word) {m : _} {m' : _} (k : Row_of-Line m) (j : Row_of-Line m') (r s : List Entry) → lines_more k (at_node phrases.more_lines 1 ∷ r) ≡ lines_more j (at_node phrases.more_lines 1 ∷ s) → Same (lines_rest w k) (lines_rest w j) r s
   lines_more_fixed w end_of-Line end_of-Line r s h = record { same = refl; rest = tail_same h }
   lines_more_fixed w end_of-Line (more_of-Line g j) r s h = absurd cc
   lines_more_fixed w (more_of-Line f k) end_of-Line r s h = absurd cc
@@ -331,7 +331,7 @@ mutual
       let b = lines_more_fixed w k j r s a.rest in
       record { same = ap (λ p. phrase p (lines_rest w k)) a.same ∙ ap (λ ps. phrase (line_phrase w g) ps) b.same; rest = b.rest }
 
-  bindings_fixed : (a b : Bindings) (r s : List Mark) → bindings_out a r ≡ bindings_out b s → SameRow (bindings_words a) (bindings_words b) (bindings_phrases a) (bindings_phrases b) r s
+  bindings_fixed : (a b : Bindings) (r s : List Entry) → bindings_out a r ≡ bindings_out b s → SameRow (bindings_words a) (bindings_words b) (bindings_phrases a) (bindings_phrases b) r s
   bindings_fixed (Bindings' (Binding' t f) shape k) (Bindings' (Binding' u g) shape' j) r s h =
       let o = kept_same (tail_same (tail_same h)) in
       let a = expr_fixed f g (bindings_more k (at_node phrases.more_bindings 1 ∷ r)) (bindings_more j (at_node phrases.more_bindings 1 ∷ s)) (tail_same o.rest) in
@@ -342,7 +342,7 @@ mutual
         rest = b.rest;
       }
 
-  bindings_more_fixed : {m : _} {m' : _} (k : Row_of-Binding m) (j : Row_of-Binding m') (r s : List Mark) → bindings_more k (at_node phrases.more_bindings 1 ∷ r) ≡ bindings_more j (at_node phrases.more_bindings 1 ∷ s) → SameRow (binding_words k) (binding_words j) (bindings_rest k) (bindings_rest j) r s
+  bindings_more_fixed : {m : _} {m' : _} (k : Row_of-Binding m) (j : Row_of-Binding m') (r s : List Entry) → bindings_more k (at_node phrases.more_bindings 1 ∷ r) ≡ bindings_more j (at_node phrases.more_bindings 1 ∷ s) → SameRow (binding_words k) (binding_words j) (bindings_rest k) (bindings_rest j) r s
   bindings_more_fixed end_of-Binding end_of-Binding r s h = record { words = refl; values = refl; rest = tail_same h }
   bindings_more_fixed end_of-Binding (more_of-Binding (Binding' u g) j) r s h = absurd cc
   bindings_more_fixed (more_of-Binding (Binding' t f) k) end_of-Binding r s h = absurd cc
@@ -356,7 +356,7 @@ mutual
         rest = b.rest;
       }
 
-  atom_fixed : (a b : Atom) (r s : List Mark) → atom_out a r ≡ atom_out b s → Same (atom_phrase a) (atom_phrase b) r s
+  atom_fixed : (a b : Atom) (r s : List Entry) → atom_out a r ≡ atom_out b s → Same (atom_phrase a) (atom_phrase b) r s
   atom_fixed (Atom' w t x f) (Atom' v u y g) r s h =
       let o = kept_same (tail_same h) in
       let i = kept_same o.rest in
@@ -367,31 +367,31 @@ mutual
         rest = tail_same a.rest;
       }
 
-  line_fixed : (w : Word) (a b : Line) (r s : List Mark) → line_out a r ≡ line_out b s → Same (line_phrase w a) (line_phrase w b) r s
+  line_fixed : (w : Word) (a b : Line) (r s : List Entry) → line_out a r ≡ line_out b s → Same (line_phrase w a) (line_phrase w b) r s
   line_fixed w (Line' x f) (Line' y g) r s h =
       let o = kept_same (tail_same h) in
       let a = args_fixed f g (left_out phrases.close_paren ∷ r) (left_out phrases.close_paren ∷ s) o.rest in
       record { same = ap (λ (t : Token). line w t.at (args_phrases f)) o.same ∙ ap (λ ps. line w y.at ps) a.same; rest = tail_same a.rest }
 
-  call_fixed : (k j : Held-Prime-Call-2) (r s : List Mark) → call_out k r ≡ call_out j s → Same (call_args k) (call_args j) r s
+  call_fixed : (k j : Held-Prime-Call-2) (r s : List Entry) → call_out k r ≡ call_out j s → Same (call_args k) (call_args j) r s
   call_fixed Prime-Call-2-None' Prime-Call-2-None' r s h = record { same = refl; rest = tail_same h }
   call_fixed Prime-Call-2-None' (Prime-Call-2-Some' q g) r s h = absurd cc
   call_fixed (Prime-Call-2-Some' p f) Prime-Call-2-None' r s h = absurd cc
   call_fixed (Prime-Call-2-Some' p f) (Prime-Call-2-Some' q g) r s h = args_fixed f g r s (tail_same h)
 
-  delta_fixed : (k j : Held-Prime-Delta-1) (r s : List Mark) → delta_out k r ≡ delta_out j s → Same (delta_atoms k) (delta_atoms j) r s
+  delta_fixed : (k j : Held-Prime-Delta-1) (r s : List Entry) → delta_out k r ≡ delta_out j s → Same (delta_atoms k) (delta_atoms j) r s
   delta_fixed Prime-Delta-1-None' Prime-Delta-1-None' r s h = record { same = refl; rest = tail_same h }
   delta_fixed Prime-Delta-1-None' (Prime-Delta-1-Some' q g) r s h = absurd cc
   delta_fixed (Prime-Delta-1-Some' p f) Prime-Delta-1-None' r s h = absurd cc
   delta_fixed (Prime-Delta-1-Some' p f) (Prime-Delta-1-Some' q g) r s h = atoms_fixed f g r s (tail_same h)
 
-  rows_lines_fixed : (w : Word) (k j : Held-Prime-Rows-4) (r s : List Mark) → rows_out k r ≡ rows_out j s → Same (rows_lines w k) (rows_lines w j) r s
+  rows_lines_fixed : (w : Word) (k j : Held-Prime-Rows-4) (r s : List Entry) → rows_out k r ≡ rows_out j s → Same (rows_lines w k) (rows_lines w j) r s
   rows_lines_fixed w Prime-Rows-4-None' Prime-Rows-4-None' r s h = record { same = refl; rest = tail_same h }
   rows_lines_fixed w Prime-Rows-4-None' (Prime-Rows-4-Some' q g) r s h = absurd cc
   rows_lines_fixed w (Prime-Rows-4-Some' p f) Prime-Rows-4-None' r s h = absurd cc
   rows_lines_fixed w (Prime-Rows-4-Some' p f) (Prime-Rows-4-Some' q g) r s h = lines_fixed w f g r s (tail_same h)
 
-  prime_fixed : (a b : Prime) (r s : List Mark) → prime_out a r ≡ prime_out b s → Same (prime_phrase a) (prime_phrase b) r s
+  prime_fixed : (a b : Prime) (r s : List Entry) → prime_out a r ≡ prime_out b s → Same (prime_phrase a) (prime_phrase b) r s
   prime_fixed (Int t) (Int t') r s h =
       let z0 = kept_same (tail_same h) in
       record { same = ap (λ (q : Token). literal (scalar (int_scalar (int_of q.kind)))) z0.same; rest = z0.rest }

@@ -3,7 +3,7 @@ use Rattle.std.specs.Prelude.{◌≡◌, ◌≤◌, ℕ, ◌+◌, Bool, true, fa
 use Rattle.hera_meaning.specs.declared.trees.Op.{Op}
 use Rattle.hera_meaning.specs.declared.trees.Op.TheVariants.{Add, Sub, Mul, Div, Rem, Eq, Ne, Lt, Le, Gt, Ge, Union, Minus, Inter, Smash, Merge}
 use Rattle.hera_meaning.specs.Identifiers.{IsIdentifier}
-use Rattle.hera_meaning.specs.Sound.{is_const}
+use Rattle.hera_meaning.specs.Sound.{is_const, is_label}
 use Rattle.hera_syntax.specs.Tokens.{script_limit}
 use Rattle.hera_rules.specs.declared.words.Word.{Word}
 use Rattle.hera_rules.specs.declared.words.Pair.{Pair}
@@ -184,7 +184,7 @@ abbrev mutual
   ActIsMade (printing at p) = IsMade p
   ActIsMade (applying at p) = IsMade p
   ActIsMade (asserting at p) = IsMade p
-  ActIsMade (committing at) = Unit {0}
+  ActIsMade (committing at label) = is_label label ≡ true
   ActIsMade (rolling_back at) = Unit {0}
   ActIsMade (returning at) = Unit {0}
   ActIsMade (returning_value at p) = IsMade p
@@ -208,7 +208,7 @@ abbrev mutual
   act_nodes (printing at p) = 1 + nodes p
   act_nodes (applying at p) = 1 + nodes p
   act_nodes (asserting at p) = 1 + nodes p
-  act_nodes (committing at) = 1
+  act_nodes (committing at label) = 1
   act_nodes (rolling_back at) = 1
   act_nodes (returning at) = 1
   act_nodes (returning_value at p) = 1 + nodes p

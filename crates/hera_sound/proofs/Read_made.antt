@@ -1,6 +1,6 @@
 -- The phrases of a tree whose tokens have their values are made as the grammar asks: expressions.
-use Rattle.std.proofs.Common.{◌≡◌, ◌≢◌, ℕ, ◌≤◌, ◌+◌, List, [], ◌∷◌, ◌++◌, length, refl, sym, subst, arith, Bool, true, false}
-use Rattle.std.specs.Prelude.{Option, Some, None, cond, nat_eq, nat_lt, All}
+use Rattle.std.proofs.Common.{◌≡◌, ◌≢◌, ℕ, ◌≤◌, ◌+◌, List, [], ◌∷◌, ◌++◌, length, refl, sym, subst, arith, true}
+use Rattle.std.specs.Prelude.{Option, Some, None, nat_lt, All}
 use Rattle.std.specs.List.{list_all}
 use Rattle.std.proofs.lemmas.Bool.{le-leb, lt-ltb, and_from}
 use Rattle.std.proofs.lemmas.List.Elements.{All-nil, All-head, All-tail}
@@ -9,7 +9,8 @@ use Rattle.hera_meaning.specs.Texts.{IsText, is_text, text_limit}
 use Rattle.hera_meaning.specs.Sound.{is_const}
 use Rattle.hera_meaning.specs.declared.scalars.Scalar.TheVariants.{Int as int_scalar, Text as text_scalar}
 use Rattle.hera_meaning.specs.declared.trees.Const.TheVariants.{Scalar as scalar}
-use Rattle.hera_meaning.specs.declared.trees.Op.TheVariants.{Add as add_op, Sub as sub_op, Mul as mul_op, Div as div_op, Rem as rem_op, Eq as eq_op, Ne as ne_op, Lt as lt_op, Le as le_op, Gt as gt_op, Ge as ge_op, Union as union_op, Minus as minus_op, Inter as inter_op, Smash as smash_op, Merge as merge_op}
+use Rattle.hera_syntax.specs.declared.words.Keyword.TheVariants as keys
+use Rattle.hera_syntax.specs.declared.words.Mark.TheVariants as puncts
 use Rattle.hera_syntax.specs.declared.token.TokenKind.{TokenKind}
 use Rattle.hera_syntax.specs.declared.token.TokenKind.TheVariants.{Ident as ident_token, Int as int_token, Text as text_token, Key as key_token, Punct as punct_token}
 use Rattle.hera_syntax.specs.declared.token.Token.{Token}
@@ -29,51 +30,48 @@ use Rattle.hera_syntax.specs.Grammar as phrases
 use Rattle.hera_syntax.specs.Grammar.{Production}
 use Rattle.hera_syntax.specs.Tokens.{HasValue, HaveValues}
 use Rattle.hera_syntax.specs.Trees.{printed, Agree, at_end, one_more}
-use Rattle.hera_syntax.specs.Outline.{Mark, at_node, kept, left_out, more_of, chain_end, tails_outline, names_outline, renamings_outline, aggs_outline, prefix_start, field_outline}
+use Rattle.hera_syntax.specs.Outline.{Entry, at_node, kept, left_out, more_of, chain_end, tails_outline, names_outline, renamings_outline, aggs_outline, prefix_start, field_outline}
 use Rattle.hera_rules.specs.declared.words.Word.{Word}
-use Rattle.hera_rules.specs.declared.words.Pair.{Pair}
-use Rattle.hera_rules.specs.declared.words.Pair.TheVariants.{Sets, Join as as_join}
 use Rattle.hera_rules.specs.declared.words.Joint.{Joint}
-use Rattle.hera_rules.specs.declared.words.Joint.TheVariants.{Arithmetic, Equality, Order, Deltas}
 use Rattle.hera_rules.specs.Phrases.{Phrase, Phrases, Uses, no_use, uses}
-use Rattle.hera_rules.specs.Read.{word_of, int_of, text_of, key_of, joint_numbered, joint_of, joint_at, pair_of, chain_phrase, prefix_phrase, post_phrase, expr_phrase, expr_uses, operand_phrase, args_phrases, args_rest, bindings_phrases, bindings_rest, bindings_words, binding_words, atoms_phrases, atoms_rest, atom_phrase, lines_phrases, lines_rest, line_phrase, call_args, delta_atoms, rows_lines, prime_phrase}
+use Rattle.hera_rules.specs.Read.{word_of, int_of, text_of, joint_of, joint_at, pair_of, chain_phrase, prefix_phrase, post_phrase, expr_phrase, expr_uses, operand_phrase, args_phrases, args_rest, bindings_phrases, bindings_rest, bindings_words, binding_words, atoms_phrases, atoms_rest, atom_phrase, lines_phrases, lines_rest, line_phrase, call_args, delta_atoms, rows_lines, prime_phrase}
 use Rattle.hera_sound.proofs.Made.{IsJoint, IsPair, Level, whens, ands, ors, chains, level_of, IsMade, AreMade, UsesAreMade, AreOfLevel, IsAtom, AreAtoms, IsLine, AreLines, count_of, nodes, nodes_all, nodes_uses}
 use Rattle.hera_sound.proofs.Out.{expr_out, tails_out, operand_out, args_out, args_more, bindings_out, bindings_more, atoms_out, atoms_more, lines_out, lines_more, atom_out, line_out, call_out, delta_out, rows_out, prime_out}
 
 -- ---- marks of a text
 
 -- the tokens kept have their values
-abbrev pub GoodMarks : List Mark → Type 0
+abbrev pub GoodMarks : List Entry → Type 0
 GoodMarks [] = Unit {0}
 GoodMarks (at_node s k ∷ ms) = GoodMarks ms
 GoodMarks (left_out t ∷ ms) = GoodMarks ms
 GoodMarks (kept t ∷ ms) = HasValue t.kind × GoodMarks ms
 
-abbrev pub tokens_in : List Mark → ℕ
+abbrev pub tokens_in : List Entry → ℕ
 tokens_in [] = 0
 tokens_in (at_node s k ∷ ms) = tokens_in ms
 tokens_in (left_out t ∷ ms) = 1 + tokens_in ms
 tokens_in (kept t ∷ ms) = 1 + tokens_in ms
 
-pub good_marks : (ms : List Mark) (ts : List Token) → Agree (printed ms) ts → HaveValues ts → GoodMarks ms
+pub good_marks : (ms : List Entry) (ts : List Token) → Agree (printed ms) ts → HaveValues ts → GoodMarks ms
 good_marks [] ts a v = tt
 good_marks (at_node s k ∷ ms) ts a v = good_marks ms ts a v
 good_marks (left_out t ∷ ms) _ (one_more {ts = us} a more) v = good_marks ms us more v.1
 good_marks (kept t ∷ ms) _ (one_more {ts = us} a more) v = (subst (λ (u : Token). HasValue u.kind) (sym a) v.0, good_marks ms us more v.1)
 
-pub many_tokens : (ms : List Mark) (ts : List Token) → Agree (printed ms) ts → tokens_in ms ≡ length ts
+pub many_tokens : (ms : List Entry) (ts : List Token) → Agree (printed ms) ts → tokens_in ms ≡ length ts
 many_tokens [] _ at_end = refl
 many_tokens (at_node s k ∷ ms) ts a = many_tokens ms ts a
 many_tokens (left_out t ∷ ms) _ (one_more {ts = us} a more) = let h = many_tokens ms us more in omega (arith, h)
 many_tokens (kept t ∷ ms) _ (one_more {ts = us} a more) = let h = many_tokens ms us more in omega (arith, h)
 
-pub marks_back : (xs r : List Mark) → GoodMarks (xs ++ r) → GoodMarks r
+pub marks_back : (xs r : List Entry) → GoodMarks (xs ++ r) → GoodMarks r
 marks_back [] r h = h
 marks_back (at_node s k ∷ xs) r h = marks_back xs r h
 marks_back (left_out t ∷ xs) r h = marks_back xs r h
 marks_back (kept t ∷ xs) r h = marks_back xs r h.1
 
-pub tokens_back : (xs r : List Mark) → tokens_in r ≤ tokens_in (xs ++ r)
+pub tokens_back : (xs r : List Entry) → tokens_in r ≤ tokens_in (xs ++ r)
 tokens_back [] r = omega arith
 tokens_back (at_node s k ∷ xs) r = tokens_back xs r
 tokens_back (left_out t ∷ xs) r = let h = tokens_back xs r in omega (arith, h)
@@ -98,7 +96,7 @@ int_made (punct_token i) h = refl
 empty_text : is_text [] ≡ true
 empty_text = text_tested [] (record { utf8 = ([], (refl, refl)); nonzero = All-nil (λ b. b ≢ 0); short = omega arith })
 
-text_made : (k : TokenKind) → HasValue k → is_const (scalar (text_scalar (text_of k))) ≡ true
+pub text_made : (k : TokenKind) → HasValue k → is_const (scalar (text_scalar (text_of k))) ≡ true
 text_made (text_token t) h = text_tested t h
 text_made (ident_token n) h = empty_text
 text_made (int_token z) h = empty_text
@@ -108,18 +106,33 @@ text_made (punct_token i) h = empty_text
 abbrev IsOperator : Joint → Type 0
 IsOperator j = IsJoint j × (level_of j ≡ chains)
 
-either_is : (b : Bool) (x y : Joint) → IsOperator x → IsOperator y → IsOperator (cond b x y)
-either_is true x y h k = h
-either_is false x y h k = k
-
-numbered : (k : ℕ) → IsOperator (joint_numbered k)
-numbered k =
-    either_is (nat_eq k 11) (Equality eq_op) _ (refl, refl) (either_is (nat_eq k 12) (Equality ne_op) _ (refl, refl) (either_is (nat_eq k 13) (Order lt_op) _ (refl, refl) (either_is (nat_eq k 14) (Order le_op) _ (refl, refl)
-    (either_is (nat_eq k 15) (Order gt_op) _ (refl, refl) (either_is (nat_eq k 16) (Order ge_op) _ (refl, refl) (either_is (nat_eq k 17) (Arithmetic add_op) _ (refl, refl) (either_is (nat_eq k 18) (Arithmetic sub_op) _ (refl, refl)
-    (either_is (nat_eq k 19) (Arithmetic mul_op) _ (refl, refl) (either_is (nat_eq k 20) (Arithmetic div_op) _ (refl, refl) (either_is (nat_eq k 21) (Arithmetic rem_op) _ (refl, refl) (either_is (nat_eq k 22) (Deltas smash_op) (Deltas merge_op) (refl, refl) (refl, refl))))))))))))
-
 operator : (k : TokenKind) → IsOperator (joint_of k)
-operator (punct_token k) = numbered k
+operator (punct_token puncts.OpenParen) = (refl, refl)
+operator (punct_token puncts.CloseParen) = (refl, refl)
+operator (punct_token puncts.OpenSquare) = (refl, refl)
+operator (punct_token puncts.CloseSquare) = (refl, refl)
+operator (punct_token puncts.OpenBrace) = (refl, refl)
+operator (punct_token puncts.CloseBrace) = (refl, refl)
+operator (punct_token puncts.Comma) = (refl, refl)
+operator (punct_token puncts.Semicolon) = (refl, refl)
+operator (punct_token puncts.Colon) = (refl, refl)
+operator (punct_token puncts.Dot) = (refl, refl)
+operator (punct_token puncts.Equals) = (refl, refl)
+operator (punct_token puncts.EqualEqual) = (refl, refl)
+operator (punct_token puncts.NotEqual) = (refl, refl)
+operator (punct_token puncts.Less) = (refl, refl)
+operator (punct_token puncts.LessEqual) = (refl, refl)
+operator (punct_token puncts.Greater) = (refl, refl)
+operator (punct_token puncts.GreaterEqual) = (refl, refl)
+operator (punct_token puncts.Plus) = (refl, refl)
+operator (punct_token puncts.Minus) = (refl, refl)
+operator (punct_token puncts.Star) = (refl, refl)
+operator (punct_token puncts.Slash) = (refl, refl)
+operator (punct_token puncts.Percent) = (refl, refl)
+operator (punct_token puncts.Bang) = (refl, refl)
+operator (punct_token puncts.And) = (refl, refl)
+operator (punct_token puncts.AndAnd) = (refl, refl)
+operator (punct_token puncts.OrOr) = (refl, refl)
 operator (ident_token n) = (tt, refl)
 operator (int_token z) = (tt, refl)
 operator (text_token t) = (tt, refl)
@@ -145,56 +158,55 @@ operator_at levels.Terms k = operator k
 operator_at levels.Smashes k = operator k
 operator_at levels.Merges k = operator k
 
-pair_is : (b : Bool) (x y : Pair) → IsPair x → IsPair y → IsPair (cond b x y)
-pair_is true x y h k = h
-pair_is false x y h k = k
-
 pair_made : (k : TokenKind) → IsPair (pair_of k)
-pair_made k = pair_is (nat_eq (key_of k) 30) (Sets union_op) _ refl (pair_is (nat_eq (key_of k) 31) (Sets minus_op) _ refl (pair_is (nat_eq (key_of k) 32) (Sets inter_op) as_join refl tt))
+pair_made (key_token keys.Union) = refl
+pair_made (key_token keys.Minus) = refl
+pair_made (key_token keys.Inter) = refl
+pair_made _ = tt
 
 -- ---- what is read from marks
 
-pub record ReadPhrase (p : Phrase) (r out : List Mark) : Type 0 where
+pub record ReadPhrase (p : Phrase) (r out : List Entry) : Type 0 where
   pub made : IsMade p
   pub rest : GoodMarks r
   pub few : nodes p + tokens_in r ≤ tokens_in out
 
-pub record ReadAll (ps : Phrases) (r out : List Mark) : Type 0 where
+pub record ReadAll (ps : Phrases) (r out : List Entry) : Type 0 where
   pub made : AreMade ps
   pub rest : GoodMarks r
   pub few : nodes_all ps + tokens_in r ≤ tokens_in out
 
-pub record ReadUses (l : Level) (us : Uses) (r out : List Mark) : Type 0 where
+pub record ReadUses (l : Level) (us : Uses) (r out : List Entry) : Type 0 where
   pub made : UsesAreMade us
   pub level : AreOfLevel l us
   pub rest : GoodMarks r
   pub few : nodes_uses us + tokens_in r ≤ tokens_in out
 
-pub record ReadRow (ws : List Word) (ps : Phrases) (r out : List Mark) : Type 0 where
+pub record ReadRow (ws : List Word) (ps : Phrases) (r out : List Entry) : Type 0 where
   pub made : AreMade ps
   pub many : length ws ≡ count_of ps
   pub rest : GoodMarks r
   pub few : nodes_all ps + tokens_in r ≤ tokens_in out
 
-pub record ReadAtoms (ps : Phrases) (r out : List Mark) : Type 0 where
+pub record ReadAtoms (ps : Phrases) (r out : List Entry) : Type 0 where
   pub made : AreMade ps
   pub atoms : AreAtoms ps
   pub rest : GoodMarks r
   pub few : nodes_all ps + tokens_in r ≤ tokens_in out
 
-pub record ReadLines (w : Word) (ps : Phrases) (r out : List Mark) : Type 0 where
+pub record ReadLines (w : Word) (ps : Phrases) (r out : List Entry) : Type 0 where
   pub made : AreMade ps
   pub lines : AreLines w ps
   pub rest : GoodMarks r
   pub few : nodes_all ps + tokens_in r ≤ tokens_in out
 
-pub record ReadAtom (p : Phrase) (r out : List Mark) : Type 0 where
+pub record ReadAtom (p : Phrase) (r out : List Entry) : Type 0 where
   pub made : IsMade p
   pub is : IsAtom p
   pub rest : GoodMarks r
   pub few : nodes p + tokens_in r ≤ tokens_in out
 
-pub record ReadLine (w : Word) (p : Phrase) (r out : List Mark) : Type 0 where
+pub record ReadLine (w : Word) (p : Phrase) (r out : List Entry) : Type 0 where
   pub made : IsMade p
   pub is : IsLine w p
   pub rest : GoodMarks r
@@ -217,7 +229,7 @@ prefix_made : (op : Option Token) (p : Phrase) → IsMade p → IsMade (prefix_p
 prefix_made None p m = m
 prefix_made (Some t) p m = m
 
-prefix_few : (op : Option Token) (p : Phrase) (r : List Mark) → nodes (prefix_phrase op p) + tokens_in r ≤ nodes p + tokens_in (prefix_start op ++ r)
+prefix_few : (op : Option Token) (p : Phrase) (r : List Entry) → nodes (prefix_phrase op p) + tokens_in r ≤ nodes p + tokens_in (prefix_start op ++ r)
 prefix_few None p r = omega arith
 prefix_few (Some t) p r = omega arith
 
@@ -225,17 +237,17 @@ post_made : (p : Phrase) (f : Option Token) → IsMade p → IsMade (post_phrase
 post_made p None m = m
 post_made p (Some t) m = m
 
-post_few : (p : Phrase) (f : Option Token) (r : List Mark) → nodes (post_phrase p f) + tokens_in r ≤ nodes p + tokens_in (field_outline f ++ r)
+post_few : (p : Phrase) (f : Option Token) (r : List Entry) → nodes (post_phrase p f) + tokens_in r ≤ nodes p + tokens_in (field_outline f ++ r)
 post_few p None r = omega arith
 post_few p (Some t) r = omega arith
 
 mutual
   unfolding expr_phrase
 
-  pub expr_read : (e : Expr) (r : List Mark) → GoodMarks (expr_out e r) → ReadPhrase (expr_phrase e) r (expr_out e r)
+  pub expr_read : (e : Expr) (r : List Entry) → GoodMarks (expr_out e r) → ReadPhrase (expr_phrase e) r (expr_out e r)
   expr_read (Expr' l f shape k) r g =
-      let close : List Mark = chain_end l (tails_outline k) in
-      let last : List Mark = close ++ r in
+      let close : List Entry = chain_end l (tails_outline k) in
+      let last : List Entry = close ++ r in
       let a = operand_read f (tails_out (more_of l) k last) g in
       let b = tails_read l (more_of l) k last a.rest in
       let x = a.few in
@@ -244,7 +256,7 @@ mutual
       let n = tokens_back close r in
       record { made = chain_made (joints_of l) (operand_phrase f) (expr_uses l k) a.made b.made b.level; rest = marks_back close r b.rest; few = omega (arith, x, y, z, n) }
 
-  tails_read : (l : Chain_level) (s : Production) {m : _} (k : Row_of-Tail m) (r : List Mark) → GoodMarks (tails_out s k r) → ReadUses (joints_of l) (expr_uses l k) r (tails_out s k r)
+  tails_read : (l : Chain_level) (s : Production) {m : _} (k : Row_of-Tail m) (r : List Entry) → GoodMarks (tails_out s k r) → ReadUses (joints_of l) (expr_uses l k) r (tails_out s k r)
   tails_read l s end_of-Tail r g = record { made = tt; level = tt; rest = g; few = omega arith }
   tails_read l s (more_of-Tail w p k) r g =
       let a = operand_read p (tails_out s k r) g.1 in
@@ -254,7 +266,7 @@ mutual
       let o = operator_at l w.kind in
       record { made = (o.0, a.made, b.made); level = (o.1, b.level); rest = b.rest; few = omega (arith, x, y) }
 
-  pub operand_read : (e : Operand) (r : List Mark) → GoodMarks (operand_out e r) → ReadPhrase (operand_phrase e) r (operand_out e r)
+  pub operand_read : (e : Operand) (r : List Entry) → GoodMarks (operand_out e r) → ReadPhrase (operand_phrase e) r (operand_out e r)
   operand_read (Inner' p e) r g = expr_read e r g
   operand_read (Prefix' op held f field) r g =
       let a = prime_read f (field_outline field ++ r) (marks_back (prefix_start op) (at_node phrases.post 0 ∷ prime_out f (field_outline field ++ r)) g) in
@@ -264,7 +276,7 @@ mutual
       let x = a.few in
       record { made = prefix_made op p (post_made (prime_phrase f) field a.made); rest = marks_back (field_outline field) r a.rest; few = omega (arith, u, v, x) }
 
-  pub args_read : (e : Args) (r : List Mark) → GoodMarks (args_out e r) → ReadAll (args_phrases e) r (args_out e r)
+  pub args_read : (e : Args) (r : List Entry) → GoodMarks (args_out e r) → ReadAll (args_phrases e) r (args_out e r)
   args_read (Args' f shape k) r g =
       let a = expr_read f (args_more k (at_node phrases.more_args 1 ∷ r)) g in
       let b = args_more_read k (at_node phrases.more_args 1 ∷ r) a.rest in
@@ -272,7 +284,7 @@ mutual
       let y = b.few in
       record { made = (a.made, b.made); rest = b.rest; few = omega (arith, x, y) }
 
-  args_more_read : {m : _} (k : Row_of-Expr m) (r : List Mark) → GoodMarks (args_more k r) → ReadAll (args_rest k) r (args_more k r)
+  args_more_read : {m : _} (k : Row_of-Expr m) (r : List Entry) → GoodMarks (args_more k r) → ReadAll (args_rest k) r (args_more k r)
   args_more_read end_of-Expr r g = record { made = tt; rest = g; few = omega arith }
   args_more_read (more_of-Expr f k) r g =
       let a = expr_read f (args_more k r) g in
@@ -281,7 +293,7 @@ mutual
       let y = b.few in
       record { made = (a.made, b.made); rest = b.rest; few = omega (arith, x, y) }
 
-  atoms_read : (e : Atoms) (r : List Mark) → GoodMarks (atoms_out e r) → ReadAtoms (atoms_phrases e) r (atoms_out e r)
+  atoms_read : (e : Atoms) (r : List Entry) → GoodMarks (atoms_out e r) → ReadAtoms (atoms_phrases e) r (atoms_out e r)
   atoms_read (Atoms' f shape k) r g =
       let a = atom_read f (atoms_more k (at_node phrases.more_atoms 1 ∷ r)) g in
       let b = atoms_more_read k (at_node phrases.more_atoms 1 ∷ r) a.rest in
@@ -289,7 +301,7 @@ mutual
       let y = b.few in
       record { made = (a.made, b.made); atoms = (a.is, b.atoms); rest = b.rest; few = omega (arith, x, y) }
 
-  atoms_more_read : {m : _} (k : Row_of-Atom m) (r : List Mark) → GoodMarks (atoms_more k r) → ReadAtoms (atoms_rest k) r (atoms_more k r)
+  atoms_more_read : {m : _} (k : Row_of-Atom m) (r : List Entry) → GoodMarks (atoms_more k r) → ReadAtoms (atoms_rest k) r (atoms_more k r)
   atoms_more_read end_of-Atom r g = record { made = tt; atoms = tt; rest = g; few = omega arith }
   atoms_more_read (more_of-Atom f k) r g =
       let a = atom_read f (atoms_more k r) g in
@@ -298,7 +310,7 @@ mutual
       let y = b.few in
       record { made = (a.made, b.made); atoms = (a.is, b.atoms); rest = b.rest; few = omega (arith, x, y) }
 
-  lines_read : (w : Word) (e : Lines) (r : List Mark) → GoodMarks (lines_out e r) → ReadLines w (lines_phrases w e) r (lines_out e r)
+  lines_read : (w : Word) (e : Lines) (r : List Entry) → GoodMarks (lines_out e r) → ReadLines w (lines_phrases w e) r (lines_out e r)
   lines_read w (Lines' f shape k) r g =
       let a = line_read w f (lines_more k (at_node phrases.more_lines 1 ∷ r)) g in
       let b = lines_more_read w k (at_node phrases.more_lines 1 ∷ r) a.rest in
@@ -306,7 +318,7 @@ mutual
       let y = b.few in
       record { made = (a.made, b.made); lines = (a.is, b.lines); rest = b.rest; few = omega (arith, x, y) }
 
-  lines_more_read : (w : Word) {m : _} (k : Row_of-Line m) (r : List Mark) → GoodMarks (lines_more k r) → ReadLines w (lines_rest w k) r (lines_more k r)
+  lines_more_read : (w : Word) {m : _} (k : Row_of-Line m) (r : List Entry) → GoodMarks (lines_more k r) → ReadLines w (lines_rest w k) r (lines_more k r)
   lines_more_read w end_of-Line r g = record { made = tt; lines = tt; rest = g; few = omega arith }
   lines_more_read w (more_of-Line f k) r g =
       let a = line_read w f (lines_more k r) g in
@@ -315,7 +327,7 @@ mutual
       let y = b.few in
       record { made = (a.made, b.made); lines = (a.is, b.lines); rest = b.rest; few = omega (arith, x, y) }
 
-  bindings_read : (e : Bindings) (r : List Mark) → GoodMarks (bindings_out e r) → ReadRow (bindings_words e) (bindings_phrases e) r (bindings_out e r)
+  bindings_read : (e : Bindings) (r : List Entry) → GoodMarks (bindings_out e r) → ReadRow (bindings_words e) (bindings_phrases e) r (bindings_out e r)
   bindings_read (Bindings' (Binding' t f) shape k) r g =
       let a = expr_read f (bindings_more k (at_node phrases.more_bindings 1 ∷ r)) g.1 in
       let b = bindings_more_read k (at_node phrases.more_bindings 1 ∷ r) a.rest in
@@ -324,7 +336,7 @@ mutual
       let z = b.many in
       record { made = (a.made, b.made); many = omega (arith, z); rest = b.rest; few = omega (arith, x, y) }
 
-  bindings_more_read : {m : _} (k : Row_of-Binding m) (r : List Mark) → GoodMarks (bindings_more k r) → ReadRow (binding_words k) (bindings_rest k) r (bindings_more k r)
+  bindings_more_read : {m : _} (k : Row_of-Binding m) (r : List Entry) → GoodMarks (bindings_more k r) → ReadRow (binding_words k) (bindings_rest k) r (bindings_more k r)
   bindings_more_read end_of-Binding r g = record { made = tt; many = refl; rest = g; few = omega arith }
   bindings_more_read (more_of-Binding (Binding' t f) k) r g =
       let a = expr_read f (bindings_more k r) g.1 in
@@ -334,31 +346,31 @@ mutual
       let z = b.many in
       record { made = (a.made, b.made); many = omega (arith, z); rest = b.rest; few = omega (arith, x, y) }
 
-  atom_read : (e : Atom) (r : List Mark) → GoodMarks (atom_out e r) → ReadAtom (atom_phrase e) r (atom_out e r)
+  atom_read : (e : Atom) (r : List Entry) → GoodMarks (atom_out e r) → ReadAtom (atom_phrase e) r (atom_out e r)
   atom_read (Atom' w t x f) r g =
       let a = args_read f (left_out phrases.close_paren ∷ r) g.1.1.1 in
       let y = a.few in
       record { made = a.made; is = tt; rest = a.rest; few = omega (arith, y) }
 
-  line_read : (w : Word) (e : Line) (r : List Mark) → GoodMarks (line_out e r) → ReadLine w (line_phrase w e) r (line_out e r)
+  line_read : (w : Word) (e : Line) (r : List Entry) → GoodMarks (line_out e r) → ReadLine w (line_phrase w e) r (line_out e r)
   line_read w (Line' x f) r g =
       let a = args_read f (left_out phrases.close_paren ∷ r) g.1 in
       let y = a.few in
       record { made = a.made; is = refl; rest = a.rest; few = omega (arith, y) }
 
-  call_read : (k : Held-Prime-Call-2) (r : List Mark) → GoodMarks (call_out k r) → ReadAll (call_args k) r (call_out k r)
+  call_read : (k : Held-Prime-Call-2) (r : List Entry) → GoodMarks (call_out k r) → ReadAll (call_args k) r (call_out k r)
   call_read Prime-Call-2-None' r g = record { made = tt; rest = g; few = omega arith }
   call_read (Prime-Call-2-Some' p f) r g = let a = args_read f r g in record { made = a.made; rest = a.rest; few = a.few }
 
-  delta_read : (k : Held-Prime-Delta-1) (r : List Mark) → GoodMarks (delta_out k r) → ReadAtoms (delta_atoms k) r (delta_out k r)
+  delta_read : (k : Held-Prime-Delta-1) (r : List Entry) → GoodMarks (delta_out k r) → ReadAtoms (delta_atoms k) r (delta_out k r)
   delta_read Prime-Delta-1-None' r g = record { made = tt; atoms = tt; rest = g; few = omega arith }
   delta_read (Prime-Delta-1-Some' p f) r g = let a = atoms_read f r g in record { made = a.made; atoms = a.atoms; rest = a.rest; few = a.few }
 
-  rows_read : (w : Word) (k : Held-Prime-Rows-4) (r : List Mark) → GoodMarks (rows_out k r) → ReadLines w (rows_lines w k) r (rows_out k r)
+  rows_read : (w : Word) (k : Held-Prime-Rows-4) (r : List Entry) → GoodMarks (rows_out k r) → ReadLines w (rows_lines w k) r (rows_out k r)
   rows_read w Prime-Rows-4-None' r g = record { made = tt; lines = tt; rest = g; few = omega arith }
   rows_read w (Prime-Rows-4-Some' p f) r g = let a = lines_read w f r g in record { made = a.made; lines = a.lines; rest = a.rest; few = a.few }
 
-  prime_read : (e : Prime) (r : List Mark) → GoodMarks (prime_out e r) → ReadPhrase (prime_phrase e) r (prime_out e r)
+  prime_read : (e : Prime) (r : List Entry) → GoodMarks (prime_out e r) → ReadPhrase (prime_phrase e) r (prime_out e r)
   prime_read (Int t) r g =
       record { made = int_made t.kind g.0; rest = g.1; few = omega arith }
   prime_read (Text t) r g =

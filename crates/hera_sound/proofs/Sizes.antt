@@ -1,5 +1,5 @@
 -- How long code is: a bound that does not depend on where it begins.
-use Rattle.std.proofs.Common.{ℕ, ◌≤◌, ◌+◌, List, [], ◌∷◌, arith, Bool, true, false}
+use Rattle.std.proofs.Common.{ℕ, ◌≤◌, ◌+◌, List, [], ◌∷◌, Some, None, arith, Bool, true, false}
 use Rattle.hera_meaning.specs.Trees.{Expr, constant, local, relation, prim, chain, and_all, or_any, when, select, map_each, call, host, Exprs, no_more, then_expr, Links, no_link, link, Hypos, no_hypo, hypo, Command, set_slot, if_arms, while, foreach, print, apply, commit, rollback, assert, return, return_value, call_proc, Block, no_stmt, then_stmt, Arms, no_arm, arm, Body_tree}
 use Rattle.hera_meaning.specs.Addresses.{expr_end, exprs_end, every_last, some_end, links_end, hypos_end, hypos_count, command_end, block_end, arms_end, body_end, bodies_end}
 
@@ -38,7 +38,7 @@ abbrev mutual
   bound_command (foreach i of block) = 4 + bound of + bound_block block
   bound_command (print e shape) = 1 + bound e
   bound_command (apply d at) = 1 + bound d
-  bound_command commit = 1
+  bound_command (commit label) = 3
   bound_command rollback = 1
   bound_command (assert c at) = 1 + bound c
   bound_command return = 1
@@ -99,7 +99,8 @@ mutual
   command_bound (foreach i of block) a = let h = end_bound of a in let k = block_bound block (expr_end of a + 1 + 1) in omega (arith, h, k)
   command_bound (print e shape) a = let h = end_bound e a in omega (arith, h)
   command_bound (apply d at) a = let h = end_bound d a in omega (arith, h)
-  command_bound commit a = omega arith
+  command_bound (commit None) a = omega arith
+  command_bound (commit (Some label)) a = omega arith
   command_bound rollback a = omega arith
   command_bound (assert c at) a = let h = end_bound c a in omega (arith, h)
   command_bound return a = omega arith

@@ -1,21 +1,22 @@
 -- A commit: what a crash leaves while its record is sealed, and for what the store stands afterwards.
 use Rattle.std.proofs.Common.{◌≡◌, ◌≢◌, ◌≤◌, ◌⊎◌, inl, inr, max, ℕ, ◌+◌, false, List, [], ◌∷◌, ◌++◌, Option, Some, length, take, refl, sym, ap, subst, ◌∙◌, arith}
+use Rattle.hera_meaning.specs.Commits.{after_all, IsCommitOf}
 use Rattle.hera_meaning.specs.Deltas.{Delta, State, fail, atoms, IsDelta, IsDeltaOf, is_fail, apply_of}
 use Rattle.delta_atoms.specs.Atoms.{atoms_in}
 use Rattle.hera_volume.specs.Disk.{Disk, IsImage, IsSettled}
 use Rattle.hera_volume.specs.Time.{Image}
 use Rattle.hera_volume.specs.declared.file_id.FileId.{FileId}
 use Rattle.hera_volume.specs.declared.file_id.FileId.TheVariants.{Select, Left, Right}
-use Rattle.rel_format.specs.Pages.{format_one}
-use Rattle.rel_format.specs.Journal.{IsHalf, IsRecordOf, record_of, half_limit}
+use Rattle.rel_format.specs.Versions.{format_of, IsHalfOf}
+use Rattle.rel_format.specs.Journal.{IsRecordOf, record_of, half_limit}
 use Rattle.commit_journal.specs.Gate.{IsReady, IsWith, IsBeforeOrAfter}
 use Rattle.commit_journal.specs.Prepare.{need_of}
-use Rattle.commit_journal.specs.Halves.{state_with, IsHalfTo}
+use Rattle.commit_journal.specs.Halves.{IsHalfTo}
 use Rattle.commit_journal.proofs.Halves.{half_either, half_with, half_ready, has_record}
 use Rattle.hera_store.specs.Databases.{Database, half_named, Holds}
-use Rattle.hera_store.specs.Standing.{Standing, StandsFor, IsCommitOf, database_of, database_after}
+use Rattle.hera_store.specs.Standing.{Standing, StandsFor, database_of, database_after}
 use Rattle.hera_store.specs.Moments.{IsEither}
-use Rattle.hera_store.proofs.States.{state_push}
+use Rattle.hera_meaning.proofs.CommitLaws.{state_push}
 use Rattle.hera_store.proofs.Selections.{not_select, left_as}
 use Rattle.hera_store.proofs.Untouched.{each}
 
@@ -28,7 +29,7 @@ pub stands_holds : (disks : FileId → Disk) (store : Standing) → StandsFor di
 stands_holds disks store stands = record {
   byte = stands.named.0;
   selects = stands.named.1;
-  half = subst (λ (f : FileId). IsHalf format_one (disks f).bytes store.base.catalogue (state_with store.base.state store.commits)) (sym stands.named.2) stands.half.half;
+  half = subst (λ (f : FileId). IsHalfOf (disks f).bytes store.base.catalogue (after_all store.base.state store.commits)) (sym stands.named.2) (store.base.version, stands.half.half);
 }
 
 -- it still does where the files stay as they are
@@ -36,24 +37,24 @@ pub stands_still : (before now : FileId → Disk) (store : Standing) → ((f : F
 stands_still before now store same stands = record {
   settled = λ f. subst IsSettled (sym (same f)) (stands.settled f);
   named = (stands.named.0, ap (λ (d : Disk). d.bytes) (same Select) ∙ stands.named.1, stands.named.2);
-  half = subst (λ (d : Disk). IsHalfTo format_one d.bytes store.base.catalogue (state_with store.base.state store.commits) store.end) (sym (same store.half)) stands.half;
+  half = subst (λ (d : Disk). IsHalfTo (format_of store.base.version) d.bytes store.base.catalogue (after_all store.base.state store.commits) store.end) (sym (same store.half)) stands.half;
 }
 
 module _ (disks : FileId → Disk) (store : Standing) (delta : Delta) (stands : StandsFor disks store) (proper : is_fail delta ≡ false) (valid : IsDelta delta) (known : IsDeltaOf store.base.catalogue delta) (fits : need_of (atoms_in delta) store.end ≤ half_limit) where
   pub is_ready : IsReady (disks store.half) store.end
-  is_ready = half_ready format_one (disks store.half) store.base.catalogue (state_with store.base.state store.commits) store.end stands.half (stands.settled store.half)
+  is_ready = half_ready (format_of store.base.version) (disks store.half) store.base.catalogue (after_all store.base.state store.commits) store.end stands.half (stands.settled store.half)
 
   record_is : IsRecordOf store.base.catalogue (atoms_in delta)
   record_is = has_record store.base.catalogue delta store.end proper valid known fits
 
-  state_is : apply_of (state_with store.base.state store.commits) (atoms (atoms_in delta)) ≡ state_with store.base.state (store.commits ++ delta ∷ [])
-  state_is = ap (apply_of (state_with store.base.state store.commits)) (told_atoms delta proper) ∙ sym (state_push store.base.state store.commits delta)
+  state_is : apply_of (after_all store.base.state store.commits) (atoms (atoms_in delta)) ≡ after_all store.base.state (store.commits ++ delta ∷ [])
+  state_is = ap (apply_of (after_all store.base.state store.commits)) (told_atoms delta proper) ∙ sym (state_push store.base.state store.commits delta)
 
-  holds_as : (c : Image) (state : State) → c.files Select ≡ stands.named.0 ∷ [] → IsHalf format_one (c.files store.half) store.base.catalogue state → Holds c.files (record { catalogue = store.base.catalogue; state = state })
+  holds_as : (c : Image) (state : State) → c.files Select ≡ stands.named.0 ∷ [] → IsHalfOf (c.files store.half) store.base.catalogue state → Holds c.files (record { catalogue = store.base.catalogue; state = state })
   holds_as c state selects half = record {
     byte = stands.named.0;
     selects = selects;
-    half = subst (λ (f : FileId). IsHalf format_one (c.files f) store.base.catalogue state) (sym stands.named.2) half;
+    half = subst (λ (f : FileId). IsHalfOf (c.files f) store.base.catalogue state) (sym stands.named.2) half;
   }
 
   -- while the record is sealed
@@ -61,9 +62,9 @@ module _ (disks : FileId → Disk) (store : Standing) (delta : Delta) (stands : 
   is_either so_far c image =
       let selects : c.files Select ≡ stands.named.0 ∷ [] = left_as disks c Select (stands.named.0 ∷ []) (stands.settled Select) stands.named.1 (image.others Select (not_select store.half (disks Select).bytes stands.named)) in
       record {
-        found = elim (half_either format_one (disks store.half).bytes (c.files store.half) store.base.catalogue (state_with store.base.state store.commits) store.end (atoms_in delta) stands.half record_is image.file fits) [
-          | inl before ↦ inl (holds_as c (state_with store.base.state store.commits) selects before.half)
-          | inr after ↦ inr (holds_as c (state_with store.base.state (store.commits ++ delta ∷ [])) selects (subst (λ (s : State). IsHalf format_one (c.files store.half) store.base.catalogue s) state_is after.half))
+        found = elim (half_either (format_of store.base.version) (disks store.half).bytes (c.files store.half) store.base.catalogue (after_all store.base.state store.commits) store.end (atoms_in delta) stands.half record_is image.file fits) [
+          | inl before ↦ inl (holds_as c (after_all store.base.state store.commits) selects (store.base.version, before.half))
+          | inr after ↦ inr (holds_as c (after_all store.base.state (store.commits ++ delta ∷ [])) selects (subst (λ (s : State). IsHalfOf (c.files store.half) store.base.catalogue s) state_is (store.base.version, after.half)))
         ];
         emitted = image.emitted;
       }
@@ -76,10 +77,10 @@ module _ (disks : FileId → Disk) (store : Standing) (delta : Delta) (stands : 
       let front_short = stands.half.half.short in
       let short : length (now store.half).bytes ≤ half_limit = omega (arith, no_longer, front_short, fits) in
       let select : now Select ≡ disks Select = others Select (not_select store.half (disks Select).bytes stands.named) in
-      let half = half_with format_one (disks store.half).bytes (now store.half).bytes store.base.catalogue (state_with store.base.state store.commits) store.end (atoms_in delta) stands.half record_is sealed short in
+      let half = half_with (format_of store.base.version) (disks store.half).bytes (now store.half).bytes store.base.catalogue (after_all store.base.state store.commits) store.end (atoms_in delta) stands.half record_is sealed short in
       record {
         settled = each (λ f. IsSettled (now f)) store.half settled (λ f ne. subst IsSettled (sym (others f ne)) (stands.settled f));
         named = (stands.named.0, ap (λ (d : Disk). d.bytes) select ∙ stands.named.1, stands.named.2);
-        half = subst (λ (n : ℕ). IsHalfTo format_one (now store.half).bytes store.base.catalogue (state_with store.base.state (store.commits ++ delta ∷ [])) n) (sym next_is)
-            (subst (λ (s : State). IsHalfTo format_one (now store.half).bytes store.base.catalogue s (store.end + length (record_of (atoms_in delta)) + 1)) state_is half);
+        half = subst (λ (n : ℕ). IsHalfTo (format_of store.base.version) (now store.half).bytes store.base.catalogue (after_all store.base.state (store.commits ++ delta ∷ [])) n) (sym next_is)
+            (subst (λ (s : State). IsHalfTo (format_of store.base.version) (now store.half).bytes store.base.catalogue s (store.end + length (record_of (atoms_in delta)) + 1)) state_is half);
       }

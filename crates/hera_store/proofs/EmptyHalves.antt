@@ -11,28 +11,15 @@ use Rattle.hera_meaning.specs.Identifiers.{IsIdentifier}
 use Rattle.hera_meaning.specs.Schemas.{names_of}
 use Rattle.hera_meaning.specs.Catalogues.{IsCatalogue, IsDecl}
 use Rattle.hera_meaning.specs.Deltas.{State, IsState}
-use Rattle.rel_format.specs.Pages.{Format, format_one, kind_byte, attr_bytes, decl_bytes, header_of, pages_of, half_of}
-use Rattle.rel_format.specs.Journal.{IsHalf, IsRecordOf, half_limit}
+use Rattle.rel_format.specs.Pages.{Format, format_two, kind_byte, attr_bytes, decl_bytes, header_of, pages_of, half_of}
+use Rattle.rel_format.specs.Journal.{half_limit}
+use Rattle.rel_format.specs.Versions.{IsHalfOf}
+use Rattle.rel_format.specs.declared.version.Version.TheVariants.{Two}
+use Rattle.half_laws.proofs.Halves.{half_of_is}
 use Rattle.rel_pages.specs.declared.parts.Part.{Part}
 use Rattle.rel_pages.specs.Stored.{empty_state}
 use Rattle.rel_pages.proofs.States.{empty_is_state}
 use Rattle.rel_pages.proofs.Bases.{empty_is}
-
--- what is printed with a closed gate is a half
-pub half_printed : (f : Format) (rels : List RelDecl) (state : State) → IsCatalogue rels → IsState rels state → length (half_of f rels state) ≤ half_limit → IsHalf f (half_of f rels state) rels state
-half_printed f rels state catalogue valid short = record {
-  short = short;
-  catalogue = catalogue;
-  paged = state;
-  valid = valid;
-  deltas = [];
-  records = All-nil (IsRecordOf rels);
-  gate = 0;
-  closed = λ (e : 0 ≡ 1). absurd (omega (arith, e));
-  rest = [];
-  printed = ap (λ (l : List ℕ). l ++ 0 ∷ []) (sym (append-nil (pages_of f rels state)));
-  behind = refl;
-}
 
 -- ---- it is short
 
@@ -58,22 +45,22 @@ decls_length (d ∷ rels) all =
 length_two : (n : ℕ) → length (to_be_bytes w16 n) ≡ 2
 length_two n = refl
 
-header_length : (rels : List RelDecl) → IsCatalogue rels → length (header_of format_one rels) ≤ 1118474
+header_length : (rels : List RelDecl) → IsCatalogue rels → length (header_of format_two rels) ≤ 1118474
 header_length rels valid =
     let decls = decls_length rels valid.decls in
-    let front = format_one.magic ++ to_be_bytes w16 (length rels) in
-    omega (arith, decls, valid.few, length_two (length rels), length-append front (flat_map decl_bytes rels), length-append format_one.magic (to_be_bytes w16 (length rels)))
+    let front = format_two.magic ++ to_be_bytes w16 (length rels) in
+    omega (arith, decls, valid.few, length_two (length rels), length-append front (flat_map decl_bytes rels), length-append format_two.magic (to_be_bytes w16 (length rels)))
 
-pub empty_half_is : (rels : List RelDecl) (header bytes : List ℕ) → IsCatalogue rels → header ≡ header_of format_one rels → bytes ≡ header ++ 0 ∷ 0 ∷ 0 ∷ 0 ∷ 0 ∷ [] → bytes ≡ half_of format_one rels (empty_state rels)
+pub empty_half_is : (rels : List RelDecl) (header bytes : List ℕ) → IsCatalogue rels → header ≡ header_of format_two rels → bytes ≡ header ++ 0 ∷ 0 ∷ 0 ∷ 0 ∷ 0 ∷ [] → bytes ≡ half_of format_two rels (empty_state rels)
 empty_half_is rels header bytes valid head is =
     let front : List ℕ = header ++ 0 ∷ 0 ∷ 0 ∷ 0 ∷ [] in
     let none : Part = record { at = length front; len = 0 } in
     (empty_is rels (replicate (length rels) none) header front bytes (length front) (length rels) valid head refl refl (is ∙ sym (append_assoc header (0 ∷ 0 ∷ 0 ∷ 0 ∷ []) (0 ∷ []))) refl refl).printed
 
-pub empty_half_valid : (rels : List RelDecl) (header bytes : List ℕ) → IsCatalogue rels → header ≡ header_of format_one rels → bytes ≡ header ++ 0 ∷ 0 ∷ 0 ∷ 0 ∷ 0 ∷ [] → IsHalf format_one bytes rels (empty_state rels)
+pub empty_half_valid : (rels : List RelDecl) (header bytes : List ℕ) → IsCatalogue rels → header ≡ header_of format_two rels → bytes ≡ header ++ 0 ∷ 0 ∷ 0 ∷ 0 ∷ 0 ∷ [] → IsHalfOf bytes rels (empty_state rels)
 empty_half_valid rels header bytes valid head is =
-    let printed : bytes ≡ half_of format_one rels (empty_state rels) = empty_half_is rels header bytes valid head is in
+    let printed : bytes ≡ half_of format_two rels (empty_state rels) = empty_half_is rels header bytes valid head is in
     let size : length bytes ≡ length header + 5 = ap length is ∙ length-append header (0 ∷ 0 ∷ 0 ∷ 0 ∷ 0 ∷ []) in
-    let long : length (header_of format_one rels) ≤ 1118474 = header_length rels valid in
-    let short : length (half_of format_one rels (empty_state rels)) ≤ half_limit = omega (arith, size, long, ap length head, ap length printed) in
-    subst (λ (l : List ℕ). IsHalf format_one l rels (empty_state rels)) (sym printed) (half_printed format_one rels (empty_state rels) valid (empty_is_state rels) short)
+    let long : length (header_of format_two rels) ≤ 1118474 = header_length rels valid in
+    let short : length (half_of format_two rels (empty_state rels)) ≤ half_limit = omega (arith, size, long, ap length head, ap length printed) in
+    subst (λ (l : List ℕ). IsHalfOf l rels (empty_state rels)) (sym printed) (Two, (half_of_is rels (empty_state rels) valid (empty_is_state rels) short).half)

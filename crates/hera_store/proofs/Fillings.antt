@@ -5,8 +5,7 @@ use Rattle.hera_volume.specs.Time.{Image, IsImageIn, IsImageBut, LeavesOnly}
 use Rattle.hera_volume.specs.declared.file_id.FileId.{FileId}
 use Rattle.hera_volume.specs.declared.file_id.FileId.TheVariants.{Select, Left, Right}
 use Rattle.hera_volume.proofs.Moments.{leaves-on, leaves-weaker}
-use Rattle.rel_format.specs.Pages.{format_one}
-use Rattle.rel_format.specs.Journal.{IsHalf}
+use Rattle.rel_format.specs.Versions.{IsHalfOf}
 use Rattle.hera_store.specs.Databases.{Database, Names}
 use Rattle.hera_store.specs.Standing.{other_half}
 use Rattle.hera_store.specs.Moments.{IsStill, IsNoneOr}
@@ -39,7 +38,7 @@ module _ {D : Type 0} (disk : D → FileId → Disk) (emitted : D → Option (Li
   pub right_written : (c : D) → LeavesOnly moment left_since a b (IsNoneOr db (emitted a)) → emitted b ≡ emitted a → IsSettled (disk b Select) → (disk b Select).bytes ≡ [] → LeavesOnly moment left_since b c (IsImageBut (disk b) (emitted b) Right) → LeavesOnly moment left_since a c (IsNoneOr db (emitted a))
   right_written c first same settled vacant run = leaves-on moment left_since first run (λ i image. still_none (disk b) (emitted a) (emitted b) db same settled Right i vacant (λ e. cc) image)
 
-  pub made_selected : (c : D) (byte : ℕ) (bytes : List ℕ) → IsHalf format_one bytes db.catalogue db.state → LeavesOnly moment left_since a b (IsNoneOr db (emitted a)) → emitted b ≡ emitted a → IsSettled (disk b Select) → (disk b Select).bytes ≡ []
+  pub made_selected : (c : D) (byte : ℕ) (bytes : List ℕ) → IsHalfOf bytes db.catalogue db.state → LeavesOnly moment left_since a b (IsNoneOr db (emitted a)) → emitted b ≡ emitted a → IsSettled (disk b Select) → (disk b Select).bytes ≡ []
       → IsSettled (disk b Left) → IsSettled (disk b Right) → (disk b Left).bytes ≡ bytes → (disk b Right).bytes ≡ bytes
       → LeavesOnly moment left_since b c (IsImageIn (disk b) (emitted b) Select (after_write (disk b Select) 0 (byte ∷ []))) → LeavesOnly moment left_since a c (IsNoneOr db (emitted a))
   made_selected c byte bytes half first same settled vacant settled_left settled_right left right run =
@@ -47,14 +46,14 @@ module _ {D : Type 0} (disk : D → FileId → Disk) (emitted : D → Option (Li
 
   -- ---- a database is moved to the other half
 
-  pub other_written : (which : FileId) → ((f : FileId) → IsSettled (disk a f)) → Names (disk a Select).bytes (other_half which) → IsHalf format_one (disk a (other_half which)).bytes db.catalogue db.state
+  pub other_written : (which : FileId) → ((f : FileId) → IsSettled (disk a f)) → Names (disk a Select).bytes (other_half which) → IsHalfOf (disk a (other_half which)).bytes db.catalogue db.state
       → LeavesOnly moment left_since a b (IsImageBut (disk a) (emitted a) which) → LeavesOnly moment left_since a b (IsStill db (emitted a))
   other_written Select settled named half run = absurd (not_select Select (disk a Select).bytes named refl)
   other_written Left settled named half run = leaves-weaker moment left_since run (λ i image. still_there (disk a) (emitted a) (emitted a) db refl (settled Select) Right Left (disk a Right).bytes i named (λ e. cc) (λ e. cc) (settled Right) refl half image)
   other_written Right settled named half run = leaves-weaker moment left_since run (λ i image. still_there (disk a) (emitted a) (emitted a) db refl (settled Select) Left Right (disk a Left).bytes i named (λ e. cc) (λ e. cc) (settled Left) refl half image)
 
   pub other_selected : (c : D) (which : FileId) (byte : ℕ) → LeavesOnly moment left_since a b (IsStill db (emitted a)) → emitted b ≡ emitted a → ((f : FileId) → IsSettled (disk b f)) → Names (disk b Select).bytes (other_half which)
-      → IsHalf format_one (disk b (other_half which)).bytes db.catalogue db.state → IsHalf format_one (disk b which).bytes db.catalogue db.state
+      → IsHalfOf (disk b (other_half which)).bytes db.catalogue db.state → IsHalfOf (disk b which).bytes db.catalogue db.state
       → LeavesOnly moment left_since b c (IsImageIn (disk b) (emitted b) Select (after_write (disk b Select) 0 (byte ∷ []))) → LeavesOnly moment left_since a c (IsStill db (emitted a))
   other_selected c Select byte first same settled named former half run = absurd (not_select Select (disk b Select).bytes named refl)
   other_selected c Left byte first same settled named former half run =

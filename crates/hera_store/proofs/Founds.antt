@@ -2,14 +2,10 @@
 use Rattle.std.proofs.Common.{◌≡◌, ◌≢◌, ◌≤◌, ◌<◌, ◌⊎◌, inl, inr, ℕ, List, [], ◌∷◌, length, refl, sym, ap, subst, ◌∙◌, arith}
 use Rattle.hera_volume.specs.declared.file_id.FileId.{FileId}
 use Rattle.hera_volume.specs.declared.file_id.FileId.TheVariants.{Select}
-use Rattle.rel_format.specs.Pages.{format_one}
-use Rattle.rel_format.specs.Journal.{IsHalf, half_limit}
-use Rattle.half_laws.specs.Formats.{IsFormat}
-use Rattle.half_laws.proofs.Halves.{one_content, damaged_is_none}
+use Rattle.rel_format.specs.Versions.{IsHalfOf}
+use Rattle.rel_format.specs.Journal.{half_limit}
+use Rattle.half_laws.proofs.Halves.{one_content_of, damaged_is_none_of}
 use Rattle.hera_store.specs.Databases.{Database, half_named, Names, Holds, IsDamagedHalf, IsDamaged, Found, absent, spoilt, held, IsFound}
-
-is_format : IsFormat format_one
-is_format = record { magic = refl; roomy = omega arith; counted = omega arith }
 
 -- one half is named
 named_one : (bytes : List ℕ) (x : ℕ) (half : FileId) → bytes ≡ x ∷ [] → Names bytes half → half_named x ≡ half
@@ -23,8 +19,8 @@ names_one bytes a b first second = sym first.2 ∙ named_one bytes first.0 b fir
 holds_same : (files : FileId → List ℕ) (a b : Database) (h : Holds files a) (g : Holds files b) → a ≡ b
 holds_same files a b h g =
     let half : half_named g.byte ≡ half_named h.byte = named_one (files Select) g.byte (half_named h.byte) g.selects (h.byte, h.selects, refl) in
-    let other = subst (λ (f : FileId). IsHalf format_one (files f) b.catalogue b.state) half g.half in
-    let same = one_content format_one is_format (files (half_named h.byte)) a.catalogue b.catalogue a.state b.state h.half other in
+    let other = subst (λ (f : FileId). IsHalfOf (files f) b.catalogue b.state) half g.half in
+    let same = one_content_of (files (half_named h.byte)) a.catalogue b.catalogue a.state b.state h.half other in
     let catalogue = same.0 in
     let state = same.1 in
     λ i. record { catalogue = catalogue i; state = state i }
@@ -41,14 +37,14 @@ absent_damaged files file at none (inr half) = absent_named (files Select) file 
 absent_held : (files : FileId → List ℕ) (db : Database) → files Select ≡ [] → Holds files db → ⊥
 absent_held files db none h = absurd (omega (arith, ap length none, ap length h.selects))
 
-no_half : (bytes : List ℕ) (db : Database) (at : ℕ) → IsDamagedHalf bytes at → IsHalf format_one bytes db.catalogue db.state → ⊥
-no_half bytes db at (inl long) half = absurd (omega (arith, long.0, half.short))
-no_half bytes db at (inr damage) half = damaged_is_none format_one is_format bytes db.catalogue db.state at damage.1 half
+no_half : (bytes : List ℕ) (db : Database) (at : ℕ) → IsDamagedHalf bytes at → IsHalfOf bytes db.catalogue db.state → ⊥
+no_half bytes db at (inl long) half = absurd (omega (arith, long.0, half.1.short))
+no_half bytes db at (inr damage) half = damaged_is_none_of bytes db.catalogue db.state at damage.1 half
 
 pub damaged_held : (files : FileId → List ℕ) (file : FileId) (at : ℕ) (db : Database) → IsDamaged files file at → Holds files db → ⊥
 damaged_held files file at db (inl long) h = absurd (omega (arith, long.0, ap length h.selects))
 damaged_held files file at db (inr half) h =
-    no_half (files file) db at half.1 (subst (λ (f : FileId). IsHalf format_one (files f) db.catalogue db.state) (named_one (files Select) h.byte file h.selects half.0) h.half)
+    no_half (files file) db at half.1 (subst (λ (f : FileId). IsHalfOf (files f) db.catalogue db.state) (named_one (files Select) h.byte file h.selects half.0) h.half)
 
 damaged_half_one : (bytes : List ℕ) (a b : ℕ) → IsDamagedHalf bytes a → IsDamagedHalf bytes b → a ≡ b
 damaged_half_one bytes a b (inl x) (inl y) = x.1 ∙ sym y.1

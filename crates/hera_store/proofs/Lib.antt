@@ -1,4 +1,3 @@
-pub mod States
 pub mod Untouched
 pub mod Selections
 pub mod Commits

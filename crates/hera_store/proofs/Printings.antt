@@ -5,22 +5,23 @@ use Rattle.std.specs.List.{flat_map}
 use Rattle.std.specs.Int.{to_be_bytes, w32}
 use Rattle.std.proofs.lemmas.List.{length-append, take_all}
 use Rattle.std.proofs.lemmas.List.Elements.{All-head, All-tail, All-weaker}
+use Rattle.hera_meaning.specs.Commits.{after_all}
 use Rattle.hera_sets.specs.Rows.{Row}
 use Rattle.hera_meaning.specs.declared.schemas.RelDecl.{RelDecl}
 use Rattle.hera_meaning.specs.Rows.{IsRow}
 use Rattle.hera_meaning.specs.Catalogues.{IsDecl}
 use Rattle.hera_meaning.specs.Deltas.{Delta, State, IsState, apply_of}
-use Rattle.rel_format.specs.Pages.{format_one, joined, page_head, paged, page_bytes, rel_bytes, rels_bytes, page_count, header_of}
+use Rattle.rel_format.specs.declared.version.TheConstants.{PAGE_TWO}
+use Rattle.rel_format.specs.Pages.{format_two, Fit, joined, page_head, paged, page_bytes, rel_bytes, rels_bytes, page_count, header_of}
 use Rattle.rel_format.specs.Greedy.{Follow, ArePages}
 use Rattle.rel_pages.proofs.Prints.{page_size}
-use Rattle.commit_journal.specs.Halves.{state_with}
 use Rattle.half_writer.specs.declared.pages.HalfFault.{HalfFault}
 use Rattle.half_writer.specs.declared.pages.HalfFault.TheVariants.{Full, Memory}
 use Rattle.half_writer.specs.Written.{Written, AreRows, IsFullAt, IsFirstFull, written_of, with_rel, need_of, pages_size}
-use Rattle.half_writer.proofs.RowSizes.{FitsPage, fits_page}
 use Rattle.half_writer.proofs.Wholes.{one_more_written}
 use Rattle.half_laws.proofs.Pagings.{paged_pages}
-use Rattle.when_overlay.specs.Changed.{after_all}
+use Rattle.half_laws.proofs.Halves.{fit_of}
+use Rattle.when_overlay.specs.Changed.{after_all as seen_after}
 use Rattle.hera_store.specs.Databases.{Database}
 use Rattle.hera_store.specs.Faults.{IsFirstNeed, IsPrintRefusal, check_fault, half_with}
 
@@ -47,64 +48,51 @@ take_one (x ∷ s) (suc i) rows e =
     let next : suc i + 1 ≡ suc (i + 1) = omega arith in
     ap (λ (k : ℕ). take k (x ∷ s)) next ∙ ap (λ (t : State). x ∷ t) (take_one s i rows e)
 
-same_after : (s : State) (ds : List Delta) → after_all s ds ≡ state_with s ds
+same_after : (s : State) (ds : List Delta) → seen_after s ds ≡ after_all s ds
 same_after s [] = refl
 same_after s (d ∷ ds) = same_after (apply_of s d) ds
 
 -- a view without layers
-pub seen : (s : State) (ds : List Delta) (i : ℕ) (rows : List Row) → slice_get (after_all s (ds ++ [])) i ≡ Some rows → slice_get (state_with s ds) i ≡ Some rows
-seen s ds i rows e = subst (λ (t : State). slice_get t i ≡ Some rows) (ap (after_all s) (append-nil ds) ∙ same_after s ds) e
+pub seen : (s : State) (ds : List Delta) (i : ℕ) (rows : List Row) → slice_get (seen_after s (ds ++ [])) i ≡ Some rows → slice_get (after_all s ds) i ≡ Some rows
+seen s ds i rows e = subst (λ (t : State). slice_get t i ≡ Some rows) (ap (seen_after s) (append-nil ds) ∙ same_after s ds) e
 
-pub one_more : (rels : List RelDecl) (limit i : ℕ) (s : State) (rows : List Row) (old new : Written) → old ≡ written_of format_one rels limit (take i s) → slice_get s i ≡ Some rows → new ≡ with_rel 8192 old rows → new ≡ written_of format_one rels limit (take (i + 1) s)
+pub one_more : (rels : List RelDecl) (limit i : ℕ) (s : State) (rows : List Row) (old new : Written) → old ≡ written_of format_two rels limit (take i s) → slice_get s i ≡ Some rows → new ≡ with_rel PAGE_TWO old rows → new ≡ written_of format_two rels limit (take (i + 1) s)
 one_more rels limit i s rows old new is e next =
-    next ∙ ap (λ (w : Written). with_rel 8192 w rows) is ∙ one_more_written format_one rels limit (take i s) rows ∙ ap (written_of format_one rels limit) (sym (take_one s i rows e))
+    next ∙ ap (λ (w : Written). with_rel PAGE_TWO w rows) is ∙ one_more_written format_two rels limit (take i s) rows ∙ ap (written_of format_two rels limit) (sym (take_one s i rows e))
 
 -- ---- how many bytes there are
 
-abbrev Fit : State → Type 0
-Fit [] = Unit {0}
-Fit (rows ∷ s) = All FitsPage rows × Fit s
-
-fit_of : (rels : List RelDecl) (s : State) → All IsDecl rels → IsState rels s → Fit s
-fit_of [] [] all valid = tt
-fit_of [] (x ∷ s) all valid = absurd valid
-fit_of (d ∷ rels) [] all valid = absurd valid
-fit_of (d ∷ rels) (rows ∷ s) all valid =
-    let schema = (All-head IsDecl d rels all).schema in
-    (All-weaker (IsRow d.schema) FitsPage (λ row h. fits_page d.schema row schema h) rows valid.0.1, fit_of rels s (All-tail IsDecl d rels all) valid.1)
-
-fit_take : (i : ℕ) (s : State) → Fit s → Fit (take i s)
+fit_take : (i : ℕ) (s : State) → Fit PAGE_TWO s → Fit PAGE_TWO (take i s)
 fit_take zero s fit = tt
 fit_take (suc i) [] fit = tt
 fit_take (suc i) (rows ∷ s) fit = (fit.0, fit_take i s fit.1)
 
-follow_length : (rel used : ℕ) (pages : List (List Row)) → Follow 8192 used pages → length (flat_map (page_bytes 8192 rel) pages) ≡ 8192 * length pages
+follow_length : (rel used : ℕ) (pages : List (List Row)) → Follow PAGE_TWO used pages → length (flat_map (page_bytes PAGE_TWO rel) pages) ≡ PAGE_TWO * length pages
 follow_length rel used [] follow = refl
 follow_length rel used ([] ∷ pages) follow = absurd follow
 follow_length rel used ((r ∷ rows) ∷ pages) follow =
-    omega (arith, page_size 8192 rel (r ∷ rows) follow.1, follow_length rel (page_head + length (joined (r ∷ rows))) pages follow.2, length-append (page_bytes 8192 rel (r ∷ rows)) (flat_map (page_bytes 8192 rel) pages))
+    omega (arith, page_size PAGE_TWO rel (r ∷ rows) follow.1, follow_length rel (page_head + length (joined (r ∷ rows))) pages follow.2, length-append (page_bytes PAGE_TWO rel (r ∷ rows)) (flat_map (page_bytes PAGE_TWO rel) pages))
 
-pages_length : (rel : ℕ) (pages : List (List Row)) → ArePages 8192 pages → length (flat_map (page_bytes 8192 rel) pages) ≡ 8192 * length pages
+pages_length : (rel : ℕ) (pages : List (List Row)) → ArePages PAGE_TWO pages → length (flat_map (page_bytes PAGE_TWO rel) pages) ≡ PAGE_TWO * length pages
 pages_length rel [] are = refl
 pages_length rel ([] ∷ pages) are = absurd are
 pages_length rel ((r ∷ rows) ∷ pages) are =
-    omega (arith, page_size 8192 rel (r ∷ rows) are.0, follow_length rel (page_head + length (joined (r ∷ rows))) pages are.1, length-append (page_bytes 8192 rel (r ∷ rows)) (flat_map (page_bytes 8192 rel) pages))
+    omega (arith, page_size PAGE_TWO rel (r ∷ rows) are.0, follow_length rel (page_head + length (joined (r ∷ rows))) pages are.1, length-append (page_bytes PAGE_TWO rel (r ∷ rows)) (flat_map (page_bytes PAGE_TWO rel) pages))
 
-state_bytes : (n : ℕ) (s : State) → Fit s → length (rels_bytes 8192 n s) ≡ 8192 * page_count 8192 s
+state_bytes : (n : ℕ) (s : State) → Fit PAGE_TWO s → length (rels_bytes PAGE_TWO n s) ≡ PAGE_TWO * page_count PAGE_TWO s
 state_bytes n [] fit = refl
 state_bytes n (rows ∷ s) fit =
-    let roomy : 4100 ≤ 8192 = omega arith in
-    omega (arith, pages_length n (paged 8192 rows) (paged_pages 8192 rows roomy fit.0), state_bytes (suc n) s fit.1, length-append (rel_bytes 8192 n rows) (rels_bytes 8192 (suc n) s))
+    omega (arith, pages_length n (paged PAGE_TWO rows) (paged_pages PAGE_TWO rows fit.0), state_bytes (suc n) s fit.1, length-append (rel_bytes PAGE_TWO n rows) (rels_bytes PAGE_TWO (suc n) s))
 
-count_take : (s : State) (i : ℕ) (rows : List Row) → slice_get s i ≡ Some rows → page_count 8192 (take i s) + length (paged 8192 rows) ≤ page_count 8192 s
+count_take : (s : State) (i : ℕ) (rows : List Row) → slice_get s i ≡ Some rows → page_count PAGE_TWO (take i s) + length (paged PAGE_TWO rows) ≤ page_count PAGE_TWO s
 count_take [] i rows e = absurd (none_is_not rows e)
 count_take (x ∷ s) zero rows e =
     let same : x ≡ rows = cc in
-    let size = ap (λ (r : List Row). length (paged 8192 r)) same in
+    let size = ap (λ (r : List Row). length (paged PAGE_TWO r)) same in
     omega (arith, size)
 count_take (x ∷ s) (suc i) rows e = omega (arith, count_take s i rows e)
 
-size_of_pages : (k : ℕ) → pages_size 8192 k ≡ 8192 * k
+size_of_pages : (k : ℕ) → pages_size PAGE_TWO k ≡ PAGE_TWO * k
 size_of_pages zero = refl
 size_of_pages (suc k) = let more = size_of_pages k in omega (arith, more)
 
@@ -116,28 +104,28 @@ module _ (rels : List RelDecl) (s : State) (limit : ℕ) (decls : All IsDecl rel
   db = record { catalogue = rels; state = s }
 
   abbrev pub head : ℕ
-  head = length (header_of format_one rels)
+  head = length (header_of format_two rels)
 
-  need_is : (i : ℕ) → need_of (written_of format_one rels limit (take i s)) ≡ head + 5 + 8192 * page_count 8192 (take i s)
+  need_is : (i : ℕ) → need_of (written_of format_two rels limit (take i s)) ≡ head + 5 + PAGE_TWO * page_count PAGE_TWO (take i s)
   need_is i = ap (λ (n : ℕ). head + 5 + n) (state_bytes 0 (take i s) (fit_take i s (fit_of rels s decls valid)))
 
-  half_length : length (half_with db) ≡ head + 5 + 8192 * page_count 8192 s
+  half_length : length (half_with db) ≡ head + 5 + PAGE_TWO * page_count PAGE_TWO s
   half_length =
-      let pages = rels_bytes 8192 0 s in
-      let number = to_be_bytes w32 (page_count 8192 s) in
-      let header = header_of format_one rels in
-      omega (arith, length_four (page_count 8192 s), state_bytes 0 s (fit_of rels s decls valid), length-append ((header ++ number) ++ pages) (0 ∷ []), length-append (header ++ number) pages, length-append header number)
+      let pages = rels_bytes PAGE_TWO 0 s in
+      let number = to_be_bytes w32 (page_count PAGE_TWO s) in
+      let header = header_of format_two rels in
+      omega (arith, length_four (page_count PAGE_TWO s), state_bytes 0 s (fit_of rels s decls valid), length-append ((header ++ number) ++ pages) (0 ∷ []), length-append (header ++ number) pages, length-append header number)
 
   -- while the pages of a relation are added
-  pub full_adding : (i : ℕ) (rows : List Row) (w : Written) (fault : HalfFault) → w ≡ written_of format_one rels limit (take i s) → slice_get s i ≡ Some rows → (i ≡ 0) ⊎ (need_of w ≤ limit)
-      → IsFirstFull 8192 (need_of w) (length (paged 8192 rows)) limit fault → IsPrintRefusal db limit (check_fault fault)
+  pub full_adding : (i : ℕ) (rows : List Row) (w : Written) (fault : HalfFault) → w ≡ written_of format_two rels limit (take i s) → slice_get s i ≡ Some rows → (i ≡ 0) ⊎ (need_of w ≤ limit)
+      → IsFirstFull PAGE_TWO (need_of w) (length (paged PAGE_TWO rows)) limit fault → IsPrintRefusal db limit (check_fault fault)
   full_adding i rows w Memory is e room full = tt
   full_adding i rows w (Full need most) is e room full =
-      let from : need_of w ≡ head + 5 + 8192 * page_count 8192 (take i s) = ap need_of is ∙ need_is i in
+      let from : need_of w ≡ head + 5 + PAGE_TWO * page_count PAGE_TWO (take i s) = ap need_of is ∙ need_is i in
       let count = count_take s i rows e in
       let pages = size_of_pages full.0.added in (
         record {
-          pages = page_count 8192 (take i s) + full.0.added;
+          pages = page_count PAGE_TWO (take i s) + full.0.added;
           few = omega (arith, full.0.few, count);
           sum = omega (arith, full.0.sum, from, pages);
           past = full.0.past;
@@ -147,21 +135,21 @@ module _ (rels : List RelDecl) (s : State) (limit : ℕ) (decls : All IsDecl rel
         omega (arith, half_length, full.0.past, full.0.sum, from, pages, full.0.few, count),
       )
     where
-      by : (i ≡ 0) ⊎ (need_of w ≤ limit) → (full.0.added ≡ 0) ⊎ (need ≤ limit + 8192) → (page_count 8192 (take i s) + full.0.added ≡ 0) ⊎ (need ≤ limit + 8192)
+      by : (i ≡ 0) ⊎ (need_of w ≤ limit) → (full.0.added ≡ 0) ⊎ (need ≤ limit + PAGE_TWO) → (page_count PAGE_TWO (take i s) + full.0.added ≡ 0) ⊎ (need ≤ limit + PAGE_TWO)
       by r (inr near) = inr near
       by (inl first) (inl none) =
-          let empty : page_count 8192 (take i s) ≡ 0 = ap (λ (k : ℕ). page_count 8192 (take k s)) first in
+          let empty : page_count PAGE_TWO (take i s) ≡ 0 = ap (λ (k : ℕ). page_count PAGE_TWO (take k s)) first in
           inl (omega (arith, empty, none))
-      by (inr fits) (inl none) = absurd (omega (arith, full.0.past, full.0.sum, fits, ap (pages_size 8192) none))
+      by (inr fits) (inl none) = absurd (omega (arith, full.0.past, full.0.sum, fits, ap (pages_size PAGE_TWO) none))
 
   -- once all are added
-  pub full_finished : (i : ℕ) (w : Written) (fault : HalfFault) → length s ≤ i → w ≡ written_of format_one rels limit (take i s) → (i ≡ 0) ⊎ (need_of w ≤ limit) → IsFullAt (need_of w) limit fault → IsPrintRefusal db limit (check_fault fault)
+  pub full_finished : (i : ℕ) (w : Written) (fault : HalfFault) → length s ≤ i → w ≡ written_of format_two rels limit (take i s) → (i ≡ 0) ⊎ (need_of w ≤ limit) → IsFullAt (need_of w) limit fault → IsPrintRefusal db limit (check_fault fault)
   full_finished i w Memory all is room full = tt
   full_finished i w (Full need most) all is (inr fits) full = absurd (omega (arith, full.0, full.2, fits))
   full_finished i w (Full need most) all is (inl first) full =
-      let none : page_count 8192 s ≡ 0 = ap (page_count 8192) (sym (take_all i s all)) ∙ ap (λ (k : ℕ). page_count 8192 (take k s)) first in
-      let from : need_of w ≡ head + 5 + 8192 * page_count 8192 (take i s) = ap need_of is ∙ need_is i in
-      let same : page_count 8192 (take i s) ≡ 0 = ap (λ (k : ℕ). page_count 8192 (take k s)) first in (
+      let none : page_count PAGE_TWO s ≡ 0 = ap (page_count PAGE_TWO) (sym (take_all i s all)) ∙ ap (λ (k : ℕ). page_count PAGE_TWO (take k s)) first in
+      let from : need_of w ≡ head + 5 + PAGE_TWO * page_count PAGE_TWO (take i s) = ap need_of is ∙ need_is i in
+      let same : page_count PAGE_TWO (take i s) ≡ 0 = ap (λ (k : ℕ). page_count PAGE_TWO (take k s)) first in (
         record {
           pages = 0;
           few = omega arith;
@@ -174,7 +162,7 @@ module _ (rels : List RelDecl) (s : State) (limit : ℕ) (decls : All IsDecl rel
       )
 
   -- what is finished is within the limit
-  pub finished_fits : (i : ℕ) (w : Written) → length s ≤ i → w ≡ written_of format_one rels limit (take i s) → need_of w ≤ limit → length (half_with db) ≤ limit
+  pub finished_fits : (i : ℕ) (w : Written) → length s ≤ i → w ≡ written_of format_two rels limit (take i s) → need_of w ≤ limit → length (half_with db) ≤ limit
   finished_fits i w all is fits =
       let whole : take i s ≡ s = take_all i s all in
-      omega (arith, half_length, need_is i, ap need_of is, fits, ap (page_count 8192) whole)
+      omega (arith, half_length, need_is i, ap need_of is, fits, ap (page_count PAGE_TWO) whole)

@@ -6,8 +6,7 @@ use Rattle.hera_volume.specs.Time.{Image, IsImageIn, IsImageBut}
 use Rattle.hera_volume.specs.declared.file_id.FileId.{FileId}
 use Rattle.hera_volume.specs.declared.file_id.FileId.TheVariants.{Select, Left, Right}
 use Rattle.hera_volume.proofs.Images.{image-settled}
-use Rattle.rel_format.specs.Pages.{format_one}
-use Rattle.rel_format.specs.Journal.{IsHalf}
+use Rattle.rel_format.specs.Versions.{IsHalfOf}
 use Rattle.hera_store.specs.Databases.{Database, half_named, Names, Holds}
 use Rattle.hera_store.specs.Standing.{other_half, select_byte}
 use Rattle.hera_store.specs.Moments.{IsStill, IsNoneOr}
@@ -52,7 +51,7 @@ module _ (disks : FileId → Disk) (so_far since : Option (List ℕ)) (db : Data
 
   -- while the byte of `select` is written, both halves being those of the database
   pub none_or_made : (byte : ℕ) (bytes : List ℕ) (c : Image) → (disks Select).bytes ≡ [] → IsSettled (disks Left) → IsSettled (disks Right) → (disks Left).bytes ≡ bytes → (disks Right).bytes ≡ bytes
-      → IsHalf format_one bytes db.catalogue db.state → IsImageIn disks since Select (after_write (disks Select) 0 (byte ∷ [])) c → IsNoneOr db so_far c
+      → IsHalfOf bytes db.catalogue db.state → IsImageIn disks since Select (after_write (disks Select) 0 (byte ∷ [])) c → IsNoneOr db so_far c
   none_or_made byte bytes c vacant settled_left settled_right left right half image = record {
     found = by (short_list (c.files Select) (omega (arith, image.file.no_longer, settled.ceiling, ap length vacant)));
     emitted = told_emitted c image.emitted;
@@ -64,8 +63,8 @@ module _ (disks : FileId → Disk) (so_far since : Option (List ℕ)) (db : Data
       right_is : c.files Right ≡ bytes
       right_is = left_as disks c Right bytes settled_right right (image.others Right (λ e. cc))
 
-      halves : (b : ℕ) → IsHalf format_one (c.files (half_named b)) db.catalogue db.state
-      halves b = named_by (λ f. IsHalf format_one (c.files f) db.catalogue db.state) b (subst (λ (l : List ℕ). IsHalf format_one l db.catalogue db.state) (sym left_is) half) (subst (λ (l : List ℕ). IsHalf format_one l db.catalogue db.state) (sym right_is) half)
+      halves : (b : ℕ) → IsHalfOf (c.files (half_named b)) db.catalogue db.state
+      halves b = named_by (λ f. IsHalfOf (c.files f) db.catalogue db.state) b (subst (λ (l : List ℕ). IsHalfOf l db.catalogue db.state) (sym left_is) half) (subst (λ (l : List ℕ). IsHalfOf l db.catalogue db.state) (sym right_is) half)
 
       by : (c.files Select ≡ []) ⊎ ((b : ℕ) × (c.files Select ≡ b ∷ [])) → (c.files Select ≡ []) ⊎ Holds c.files db
       by (inl e) = inl e
@@ -75,21 +74,21 @@ module _ (disks : FileId → Disk) (so_far since : Option (List ℕ)) (db : Data
 
   -- while the half that is not selected is written
   pub still_there : (half which : FileId) (bytes : List ℕ) (c : Image) → Names (disks Select).bytes half → half ≢ which → Select ≢ which → IsSettled (disks half) → (disks half).bytes ≡ bytes
-      → IsHalf format_one bytes db.catalogue db.state → IsImageBut disks since which c → IsStill db so_far c
+      → IsHalfOf bytes db.catalogue db.state → IsImageBut disks since which c → IsStill db so_far c
   still_there half which bytes c named other ne settled_half is stored image =
       let here : c.files half ≡ bytes = left_as disks c half bytes settled_half is (image.others half other) in
       record {
         found = record {
           byte = named.0;
           selects = left_as disks c Select (named.0 ∷ []) settled named.1 (image.others Select ne);
-          half = subst (λ (f : FileId). IsHalf format_one (c.files f) db.catalogue db.state) (sym named.2) (subst (λ (l : List ℕ). IsHalf format_one l db.catalogue db.state) (sym here) stored);
+          half = subst (λ (f : FileId). IsHalfOf (c.files f) db.catalogue db.state) (sym named.2) (subst (λ (l : List ℕ). IsHalfOf l db.catalogue db.state) (sym here) stored);
         };
         emitted = told_emitted c image.emitted;
       }
 
   -- while the byte of `select` is written, both halves having the database
   pub still_either : (byte old : ℕ) (left right : List ℕ) (c : Image) → (disks Select).bytes ≡ old ∷ [] → IsSettled (disks Left) → IsSettled (disks Right) → (disks Left).bytes ≡ left → (disks Right).bytes ≡ right
-      → IsHalf format_one left db.catalogue db.state → IsHalf format_one right db.catalogue db.state → IsImageIn disks since Select (after_write (disks Select) 0 (byte ∷ [])) c → IsStill db so_far c
+      → IsHalfOf left db.catalogue db.state → IsHalfOf right db.catalogue db.state → IsImageIn disks since Select (after_write (disks Select) 0 (byte ∷ [])) c → IsStill db so_far c
   still_either byte old left right c is settled_left settled_right left_is right_is half_left half_right image = record {
     found = by (short_list (c.files Select) (omega (arith, image.file.no_longer, settled.ceiling, size)));
     emitted = told_emitted c image.emitted;
@@ -104,8 +103,8 @@ module _ (disks : FileId → Disk) (so_far since : Option (List ℕ)) (db : Data
       there : c.files Right ≡ right
       there = left_as disks c Right right settled_right right_is (image.others Right (λ e. cc))
 
-      halves : (b : ℕ) → IsHalf format_one (c.files (half_named b)) db.catalogue db.state
-      halves b = named_by (λ f. IsHalf format_one (c.files f) db.catalogue db.state) b (subst (λ (l : List ℕ). IsHalf format_one l db.catalogue db.state) (sym here) half_left) (subst (λ (l : List ℕ). IsHalf format_one l db.catalogue db.state) (sym there) half_right)
+      halves : (b : ℕ) → IsHalfOf (c.files (half_named b)) db.catalogue db.state
+      halves b = named_by (λ f. IsHalfOf (c.files f) db.catalogue db.state) b (subst (λ (l : List ℕ). IsHalfOf l db.catalogue db.state) (sym here) half_left) (subst (λ (l : List ℕ). IsHalfOf l db.catalogue db.state) (sym there) half_right)
 
       by : (c.files Select ≡ []) ⊎ ((b : ℕ) × (c.files Select ≡ b ∷ [])) → Holds c.files db
       by (inl e) = absurd (omega (arith, ap length e, size, image.file.no_shorter, settled.floor))

@@ -2,20 +2,22 @@
 use Rattle.std.proofs.Common.{◌≡◌, ◌<◌, ◌≤◌, ◌⊎◌, inl, inr, ℕ, ◌+◌, false, List, [], ◌∷◌, ◌++◌, map, length, take, get_or, refl, sym, ap, subst, ◌∙◌, arith}
 use Rattle.std.specs.Prelude.{All}
 use Rattle.std.proofs.lemmas.List.Elements.{All-nil, All-cons, All-head, All-tail, All-get_or}
+use Rattle.hera_meaning.specs.Commits.{after_all, IsCommitOf, IsSmashOf}
 use Rattle.hera_meaning.specs.declared.schemas.RelDecl.{RelDecl}
 use Rattle.hera_meaning.specs.Deltas.{Atom, Delta, State, IsState, atoms, smash_of, apply_of}
 use Rattle.hera_meaning.proofs.DeltaLaws.{apply_of-smash_of}
 use Rattle.rel_format.specs.Journal.{IsRecordOf, half_limit}
-use Rattle.rel_format.specs.Pages.{format_one}
+use Rattle.rel_format.specs.Pages.{Format}
+use Rattle.rel_format.specs.Versions.{format_of, version_in}
 use Rattle.rel_pages.specs.Stored.{Stored}
 use Rattle.rel_pages.specs.Halves.{IsPages, IsDamagedAt}
-use Rattle.commit_journal.specs.Halves.{state_with, HasPages, IsHalfTo}
+use Rattle.commit_journal.specs.Halves.{HasPages, IsHalfTo}
 use Rattle.commit_journal.specs.Places.{IsJournal}
 use Rattle.commit_journal.proofs.Halves.{half_read}
 use Rattle.commit_journal.proofs.Wholes.{pages_damaged}
 use Rattle.hera_store.specs.Databases.{IsDamagedHalf}
-use Rattle.hera_store.specs.Standing.{IsCommitOf, IsSmashOf, AreAsGood}
-use Rattle.hera_store.proofs.States.{smash_is_commit, state_push, nothing_applied}
+use Rattle.hera_store.specs.Standing.{AreAsGood}
+use Rattle.hera_meaning.proofs.CommitLaws.{smash_is_commit, state_push, nothing_applied}
 
 -- the smash of none
 pub smash_none : (rels : List RelDecl) → IsSmashOf rels [] (atoms [])
@@ -28,19 +30,19 @@ smash_none rels = record {
 pub smash_on : (rels : List RelDecl) (done more : List Delta) (all d : Delta) → IsSmashOf rels done all → IsCommitOf rels d → more ≡ done ++ d ∷ [] → IsSmashOf rels more (smash_of all d)
 smash_on rels done more all d so_far one is = record {
   proper = smash_is_commit rels all d so_far.proper one;
-  same = λ s valid. apply_of-smash_of s all d so_far.proper.proper one.proper ∙ ap (λ (t : State). apply_of t d) (so_far.same s valid) ∙ sym (state_push s done d) ∙ ap (state_with s) (sym is);
+  same = λ s valid. apply_of-smash_of s all d so_far.proper.proper one.proper ∙ ap (λ (t : State). apply_of t d) (so_far.same s valid) ∙ sym (state_push s done d) ∙ ap (after_all s) (sym is);
 }
 
 pub as_good_none : (rels : List RelDecl) (deltas commits : List Delta) → deltas ≡ [] → commits ≡ [] → AreAsGood rels deltas commits
 as_good_none rels deltas commits none empty = record {
   proper = subst (All (IsCommitOf rels)) (sym empty) (All-nil (IsCommitOf rels));
-  same = λ s valid. ap (state_with s) (empty ∙ sym none);
+  same = λ s valid. ap (after_all s) (empty ∙ sym none);
 }
 
 pub as_good_one : (rels : List RelDecl) (deltas commits : List Delta) (all : Delta) → IsSmashOf rels deltas all → commits ≡ all ∷ [] → AreAsGood rels deltas commits
 as_good_one rels deltas commits all one is = record {
   proper = subst (All (IsCommitOf rels)) (sym is) (All-cons (IsCommitOf rels) all [] one.proper (All-nil (IsCommitOf rels)));
-  same = λ s valid. ap (state_with s) is ∙ one.same s valid;
+  same = λ s valid. ap (after_all s) is ∙ one.same s valid;
 }
 
 -- the deltas of a journal's records are commits
@@ -52,31 +54,32 @@ records_are_commits rels (xs ∷ records) all =
 
 -- ---- pages
 
-pub pages_are : (bytes : List ℕ) (base : Stored) → IsPages format_one bytes base → HasPages format_one bytes base.catalogue base.state base.journal
+pub pages_are : (bytes : List ℕ) (base : Stored) → IsPages bytes base → HasPages (format_of base.version) bytes base.catalogue base.state base.journal
 pages_are bytes base pages = record {
   short = pages.short;
   catalogue = pages.catalogue;
   valid = pages.state;
+  fit = pages.fit;
   within = pages.within;
   printed = pages.printed;
   ends = pages.ends;
 }
 
-pub half_is_damaged : (bytes : List ℕ) (at : ℕ) → IsDamagedAt format_one bytes at → IsDamagedHalf bytes at
+pub half_is_damaged : (bytes : List ℕ) (at : ℕ) → IsDamagedAt bytes at → IsDamagedHalf bytes at
 half_is_damaged bytes at (inl long) = inl long
-half_is_damaged bytes at (inr damage) = inr (damage.0, pages_damaged format_one bytes at damage.1.stops)
+half_is_damaged bytes at (inr damage) = inr (damage.0, pages_damaged (format_of (version_in bytes)) bytes at damage.1.stops)
 
 -- ---- the journal
 
 all_commits : (rels : List RelDecl) (bytes : List ℕ) (at end : ℕ) (deltas : List Delta) → IsJournal rels bytes at deltas end → All (IsCommitOf rels) deltas
 all_commits rels bytes at end deltas journal = subst (All (IsCommitOf rels)) (sym journal.told) (records_are_commits rels journal.records journal.valid)
 
-module _ (rels : List RelDecl) (bytes : List ℕ) (at end : ℕ) (deltas commits : List Delta) (journal : IsJournal rels bytes at deltas end) (as_good : All (IsCommitOf rels) deltas → AreAsGood rels deltas commits) where
+module _ (f : Format) (rels : List RelDecl) (bytes : List ℕ) (at end : ℕ) (deltas commits : List Delta) (journal : IsJournal rels bytes at deltas end) (as_good : All (IsCommitOf rels) deltas → AreAsGood rels deltas commits) where
   good : AreAsGood rels deltas commits
   good = as_good (all_commits rels bytes at end deltas journal)
 
   pub journal_proper : All (IsCommitOf rels) commits
   journal_proper = good.proper
 
-  pub journal_held : (state : State) → HasPages format_one bytes rels state at → IsHalfTo format_one bytes rels (state_with state commits) end
-  journal_held state pages = subst (λ (s : State). IsHalfTo format_one bytes rels s end) (sym (good.same state pages.valid)) (half_read format_one bytes rels state at deltas end pages journal)
+  pub journal_held : (state : State) → HasPages f bytes rels state at → IsHalfTo f bytes rels (after_all state commits) end
+  journal_held state pages = subst (λ (s : State). IsHalfTo f bytes rels s end) (sym (good.same state pages.valid)) (half_read f bytes rels state at deltas end pages journal)

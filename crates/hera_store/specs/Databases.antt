@@ -4,8 +4,8 @@ use Rattle.hera_meaning.specs.declared.schemas.RelDecl.{RelDecl}
 use Rattle.hera_meaning.specs.Deltas.{State}
 use Rattle.hera_volume.specs.declared.file_id.FileId.{FileId}
 use Rattle.hera_volume.specs.declared.file_id.FileId.TheVariants.{Select, Left, Right}
-use Rattle.rel_format.specs.Pages.{format_one}
-use Rattle.rel_format.specs.Journal.{IsHalf, half_limit}
+use Rattle.rel_format.specs.Journal.{half_limit}
+use Rattle.rel_format.specs.Versions.{format_of, version_in, IsHalfOf}
 use Rattle.rel_pages.specs.Stored.{empty_state}
 use Rattle.commit_journal.specs.Halves.{IsDamageOfHalf}
 
@@ -30,13 +30,14 @@ Names bytes half = (byte : ℕ) × (bytes ≡ byte ∷ []) × (half_named byte �
 pub record Holds (files : FileId → List ℕ) (db : Database) : Type 0 where
   pub byte : ℕ
   pub selects : files Select ≡ byte ∷ []
-  pub half : IsHalf format_one (files (half_named byte)) db.catalogue db.state
+  pub half : IsHalfOf (files (half_named byte)) db.catalogue db.state
 
 -- ---- what is damaged
 
--- a half is damaged at the limit where it has more bytes than that, and else where its longest good prefix ends
+-- a half is damaged at the limit where it has more bytes than that, and else where its longest good prefix ends, in
+-- the format that its first bytes tell
 abbrev pub IsDamagedHalf : List ℕ → ℕ → Type 0
-IsDamagedHalf bytes at = ((half_limit < length bytes) × (at ≡ half_limit)) ⊎ ((length bytes ≤ half_limit) × IsDamageOfHalf format_one bytes at)
+IsDamagedHalf bytes at = ((half_limit < length bytes) × (at ≡ half_limit)) ⊎ ((length bytes ≤ half_limit) × IsDamageOfHalf (format_of (version_in bytes)) bytes at)
 
 -- `select` is damaged at 1 where it has more than one byte; else the half that it names may be damaged
 abbrev pub IsDamaged : (FileId → List ℕ) → FileId → ℕ → Type 0

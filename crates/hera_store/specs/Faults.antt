@@ -3,7 +3,8 @@ use Rattle.std.specs.Prelude.{◌≡◌, ◌≤◌, ◌<◌, ◌⊎◌, ◌+◌,
 use Rattle.hera_meaning.specs.Deltas.{Atom, Delta}
 use Rattle.delta_atoms.specs.Atoms.{atoms_in}
 use Rattle.commit_journal.specs.Prepare.{need_of}
-use Rattle.rel_format.specs.Pages.{format_one, header_of, page_count, half_of}
+use Rattle.rel_format.specs.declared.version.TheConstants.{PAGE_TWO}
+use Rattle.rel_format.specs.Pages.{format_two, header_of, page_count, half_of}
 use Rattle.half_writer.specs.declared.pages.HalfFault.{HalfFault}
 use Rattle.half_writer.specs.declared.pages.HalfFault.TheVariants.{Full as HalfFull, Memory as HalfMemory}
 use Rattle.hera_store.specs.Databases.{Database}
@@ -31,18 +32,18 @@ IsCommitRefusal store delta limit Device = commit_need store delta ≤ limit
 IsCommitRefusal store delta limit Memory = Unit {0}
 IsCommitRefusal store delta limit Closed = Unit {0}
 
--- the bytes of the half with this database in its pages
+-- the bytes of the half with this database in its pages, in format 2
 abbrev pub half_with : Database → List ℕ
-half_with db = half_of format_one db.catalogue db.state
+half_with db = half_of format_two db.catalogue db.state
 
 -- the first number of bytes past the limit, as the pages of the database are put one by one between the header with
 -- the page count and a closed gate
 pub record IsFirstNeed (db : Database) (limit need : ℕ) : Type 0 where
   pub pages : ℕ
-  pub few : pages ≤ page_count 8192 db.state
-  pub sum : need ≡ length (header_of format_one db.catalogue) + 5 + 8192 * pages
+  pub few : pages ≤ page_count PAGE_TWO db.state
+  pub sum : need ≡ length (header_of format_two db.catalogue) + 5 + PAGE_TWO * pages
   pub past : limit < need
-  pub first : (pages ≡ 0) ⊎ (need ≤ limit + 8192)
+  pub first : (pages ≡ 0) ⊎ (need ≤ limit + PAGE_TWO)
 
 -- the same of a half that is not written yet, so the device is not asked
 abbrev pub IsPrintRefusal : Database → ℕ → CheckFault → Type 0

@@ -5,8 +5,7 @@ ghost use Rattle.hera_volume.specs.Disk.{IsSettled};
 ghost use Rattle.hera_volume.specs.Time.{LeavesOnly};
 ghost use Rattle.hera_volume.specs.declared.file_id.FileId.{FileId};
 ghost use Rattle.hera_volume.specs.declared.file_id.FileId.TheVariants.{Select, Left, Right};
-ghost use Rattle.rel_format.specs.Pages.{format_one};
-ghost use Rattle.rel_format.specs.Journal.{IsHalf};
+ghost use Rattle.rel_format.specs.Versions.{IsHalfOf};
 ghost use Rattle.rel_pages.specs.Stored.{empty_state};
 ghost use Rattle.hera_store.specs.Databases.{Database, empty_database, Holds};
 ghost use Rattle.hera_store.specs.Faults.{half_with};
@@ -17,7 +16,7 @@ use crate::files::{select_half, sync_file};
 use hera_causes::Failed;
 use hera_row::Catalogue;
 use hera_volume::{FileId, Outside, rewrite_and_sync};
-use rel_format::header_bytes;
+use rel_format::{Version, header_bytes};
 use std::alloc::{AllocError, Global};
 
 impl From<Failed> for InitFault {
@@ -99,9 +98,9 @@ fn find_none<W: Outside>(outside: &mut W) -> Result<(), InitFault>
 /// The half of the database of a catalogue without rows.
 fn empty_half(alloc: Global, catalogue: &Catalogue) -> Result<Vec<u8>, AllocError>
     ensures half { IfOk result (λ bytes. bytes.items ≡ half_with (empty_database catalogue.now)) }
-    ensures valid { IfOk result (λ bytes. IsHalf format_one bytes.items catalogue.now (empty_state catalogue.now)) }
+    ensures valid { IfOk result (λ bytes. IsHalfOf bytes.items catalogue.now (empty_state catalogue.now)) }
 {
-    let mut bytes = header_bytes(alloc, b"HERA0001", catalogue)?;
+    let mut bytes = header_bytes(alloc, Version::Two.magic(), catalogue)?;
     // no pages, and a closed gate
     bytes.extend_from_slice(&[0, 0, 0, 0, 0])?;
     let _count = catalogue.len();
@@ -116,7 +115,7 @@ fn fill_files<W: Outside>(outside: &mut W, bytes: &[u8]) -> Result<(), Failed>
     ensures select { W.told → OnOk result ((W.disk outside.new Select).bytes ≡ 0 ∷ []) }
     ensures left { W.told → OnOk result ((W.disk outside.new Left).bytes ≡ bytes.now) }
     ensures right { W.told → OnOk result ((W.disk outside.new Right).bytes ≡ bytes.now) }
-    ensures any_moment { W.told → (db : Database) → IsHalf format_one bytes.now db.catalogue db.state →
+    ensures any_moment { W.told → (db : Database) → IsHalfOf bytes.now db.catalogue db.state →
         LeavesOnly W.moment W.left_since outside.old outside.new (IsNoneOr db (W.emitted outside.old)) }
     ensures emitted { W.emitted outside.new ≡ W.emitted outside.old }
     ensures output { W.output_faults outside.new ≡ W.output_faults outside.old }

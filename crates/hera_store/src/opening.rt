@@ -1,5 +1,6 @@
 //! Databases opened.
 ghost use Rattle.std.specs.Prelude.{◌≡◌, ◌≢◌, ◌≤◌, ◌<◌, [], ℕ, List, false, Err, IfOk, length, All};
+ghost use Rattle.hera_meaning.specs.Commits.{after_all, IsCommitOf, IsSmashOf};
 ghost use Rattle.hera_causes.specs.Causes.{Rose};
 ghost use Rattle.hera_meaning.specs.declared.schemas.RelDecl.{RelDecl};
 ghost use Rattle.hera_meaning.specs.Deltas.{IsState};
@@ -7,12 +8,12 @@ ghost use Rattle.hera_volume.specs.Disk.{IsSettled, Within};
 ghost use Rattle.hera_volume.specs.Time.{IsImageOf, LeavesOnly};
 ghost use Rattle.hera_volume.specs.declared.file_id.FileId.{FileId};
 ghost use Rattle.hera_volume.specs.declared.file_id.FileId.TheVariants.{Select};
-ghost use Rattle.rel_format.specs.Pages.{format_one};
+ghost use Rattle.rel_format.specs.Versions.{format_of};
 ghost use Rattle.rel_format.specs.Journal.{half_limit};
 ghost use Rattle.rel_pages.specs.Halves.{IsPages};
-ghost use Rattle.commit_journal.specs.Halves.{state_with, HasPages, IsHalfTo, IsDamageOfHalf};
+ghost use Rattle.commit_journal.specs.Halves.{HasPages, IsHalfTo, IsDamageOfHalf};
 ghost use Rattle.hera_store.specs.Databases.{IsFound, absent, spoilt, held, half_named, Names, IsDamagedHalf};
-ghost use Rattle.hera_store.specs.Standing.{StandsFor, IsCommitOf, IsSmashOf, AreAsGood, database_of};
+ghost use Rattle.hera_store.specs.Standing.{StandsFor, AreAsGood, database_of};
 
 use crate::files::sync_files;
 use crate::{OpenFault, Store};
@@ -20,12 +21,10 @@ use commit_journal::{ScanFault, scan};
 use delta_atoms::Delta;
 use hera_causes::Failed;
 use hera_volume::{FileId, Outside};
+use rel_format::HALF_LIMIT;
 use rel_pages::{Base, PageFault, read_half};
 use smash_merge::smash_into;
 use std::alloc::{AllocError, Global};
-
-/// The most bytes of a half.
-const HALF_LIMIT: u64 = 268_435_456;
 
 impl From<Failed> for OpenFault {
     ghost use Rattle.std.specs.Prelude.{◌≡◌};
@@ -59,6 +58,7 @@ pub fn open_store<W: Outside>(alloc: Global, outside: &mut W) -> Result<Store, O
     // What the store is.
     ensures stands { W.told → IfOk result (λ store. StandsFor (W.disk outside.new) store) }
     ensures open { IfOk result (λ store. store.closed ≡ false) }
+    ensures one { IfOk result (λ store. length store.commits ≤ 1) }
     ensures state { IfOk result (λ store. IsState store.base.catalogue (database_of store).state) }
     // Only syncs change what a crash leaves, and all files were synced unless one failed.
     ensures synced { W.told → result ≢ Err OpenFault.Device → (f : FileId) → IsSettled (W.disk outside.new f) }
@@ -144,10 +144,11 @@ fn read_file<W: Outside>(alloc: Global, outside: &mut W, half: FileId) -> Result
 
 /// The store over the bytes of this half.
 fn store_of(alloc: Global, half: FileId, bytes: Vec<u8>) -> Result<Store, OpenFault>
-    ensures held { IfOk result (λ store. IsHalfTo format_one bytes.items store.base.catalogue (state_with store.base.state store.commits) store.end) }
+    ensures held { IfOk result (λ store. IsHalfTo (format_of store.base.version) bytes.items store.base.catalogue (after_all store.base.state store.commits) store.end) }
     ensures half { IfOk result (λ store. store.half ≡ half) }
     ensures open { IfOk result (λ store. store.closed ≡ false) }
-    ensures state { IfOk result (λ store. IsState store.base.catalogue (state_with store.base.state store.commits)) }
+    ensures one { IfOk result (λ store. length store.commits ≤ 1) }
+    ensures state { IfOk result (λ store. IsState store.base.catalogue (after_all store.base.state store.commits)) }
     ensures damaged { (file : FileId) (at : ℕ) → result ≡ Err (OpenFault.Damaged file at) → (file ≡ half) × IsDamagedHalf bytes.items at }
     ensures present { result ≢ Err OpenFault.NoDatabase }
     ensures device { result ≢ Err OpenFault.Device }
@@ -159,7 +160,7 @@ fn store_of(alloc: Global, half: FileId, bytes: Vec<u8>) -> Result<Store, OpenFa
 
 /// The half read up to its first gate.
 fn base_of(alloc: Global, half: FileId, bytes: Vec<u8>) -> Result<Base, OpenFault>
-    ensures pages { IfOk result (IsPages format_one bytes.items) }
+    ensures pages { IfOk result (IsPages bytes.items) }
     ensures damaged { (file : FileId) (at : ℕ) → result ≡ Err (OpenFault.Damaged file at) → (file ≡ half) × IsDamagedHalf bytes.items at }
     ensures present { result ≢ Err OpenFault.NoDatabase }
     ensures device { result ≢ Err OpenFault.Device }
@@ -173,11 +174,12 @@ fn base_of(alloc: Global, half: FileId, bytes: Vec<u8>) -> Result<Base, OpenFaul
 
 /// The commits of the half's journal, as one, and the place of its first gate that is not open.
 fn journal_of(alloc: Global, half: FileId, base: &Base) -> Result<(Vec<Delta>, u64), OpenFault>
-    ensures held { HasPages format_one base.now.bytes base.now.catalogue base.now.state base.now.journal →
-        IfOk result (λ x. IsHalfTo format_one base.now.bytes base.now.catalogue (state_with base.now.state x.0.items) x.1) }
+    ensures held { HasPages (format_of base.now.version) base.now.bytes base.now.catalogue base.now.state base.now.journal →
+        IfOk result (λ x. IsHalfTo (format_of base.now.version) base.now.bytes base.now.catalogue (after_all base.now.state x.0.items) x.1) }
     ensures proper { IfOk result (λ x. All (IsCommitOf base.now.catalogue) x.0.items) }
+    ensures one { IfOk result (λ x. length x.0.items ≤ 1) }
     ensures damaged { (file : FileId) (at : ℕ) → result ≡ Err (OpenFault.Damaged file at) →
-        (file ≡ half) × (HasPages format_one base.now.bytes base.now.catalogue base.now.state base.now.journal → IsDamageOfHalf format_one base.now.bytes at) }
+        (file ≡ half) × (HasPages (format_of base.now.version) base.now.bytes base.now.catalogue base.now.state base.now.journal → IsDamageOfHalf (format_of base.now.version) base.now.bytes at) }
     ensures present { result ≢ Err OpenFault.NoDatabase }
     ensures device { result ≢ Err OpenFault.Device }
 {
@@ -193,7 +195,8 @@ fn journal_of(alloc: Global, half: FileId, base: &Base) -> Result<(Vec<Delta>, u
 
 /// The smash of deltas in order, as the only commit, where there are any.
 fn as_one(alloc: Global, deltas: &[Delta]) -> Result<Vec<Delta>, AllocError>
-    ensures { (rels : List RelDecl) → All (IsCommitOf rels) deltas.now → IfOk result (λ commits. AreAsGood rels deltas.now commits.items) }
+    ensures one { IfOk result (λ commits. length commits.items ≤ 1) }
+    ensures good { (rels : List RelDecl) → All (IsCommitOf rels) deltas.now → IfOk result (λ commits. AreAsGood rels deltas.now commits.items) }
 {
     let mut commits = Vec::new(alloc);
     if deltas.is_empty() {

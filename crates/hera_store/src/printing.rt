@@ -1,5 +1,6 @@
 //! The half of a database, printed.
 ghost use Rattle.std.specs.Prelude.{◌≡◌, ◌≤◌, length, IfOk, IfErr, OnOk};
+ghost use Rattle.rel_format.specs.Journal.{half_limit};
 ghost use Rattle.hera_store.specs.Standing.{AreOver, database_over};
 ghost use Rattle.hera_store.specs.Faults.{IsPrintRefusal, half_with};
 
@@ -47,7 +48,7 @@ pub(crate) fn half_bytes(
     limit: u64,
 ) -> Result<Vec<u8>, CheckFault>
     requires over { AreOver base.now commits.now }
-    requires limit { limit ≤ 268435456 }
+    requires limit { limit ≤ half_limit }
     ensures half { IfOk result (λ bytes. bytes.items ≡ half_with (database_over base.now commits.now)) }
     ensures fits { OnOk result (length (half_with (database_over base.now commits.now)) ≤ limit) }
     ensures refusal { IfErr result (IsPrintRefusal (database_over base.now commits.now) limit) }

@@ -1,5 +1,6 @@
 //! Stores: databases that are open.
 ghost use Rattle.std.specs.Prelude.{◌≡◌, ◌≢◌, ◌≤◌, ◌++◌, [], ◌∷◌, false, true, Some, Err, OnOk, OnErr, IfOk, IfErr, IfSome, ◌+◌, take, length, All};
+ghost use Rattle.hera_meaning.specs.Commits.{IsCommitOf};
 ghost use Rattle.hera_causes.specs.Causes.{Rose};
 ghost use Rattle.hera_meaning.specs.Deltas.{is_fail, IsDelta, IsDeltaOf, IsState};
 ghost use Rattle.delta_atoms.specs.Atoms.{atoms_in};
@@ -7,11 +8,12 @@ ghost use Rattle.hera_volume.specs.Disk.{IsSettled};
 ghost use Rattle.hera_volume.specs.Time.{LeavesOnly};
 ghost use Rattle.hera_volume.specs.declared.file_id.FileId.{FileId};
 ghost use Rattle.hera_volume.specs.declared.file_id.FileId.TheVariants.{Select};
-ghost use Rattle.rel_format.specs.Journal.{record_of};
+ghost use Rattle.rel_format.specs.Journal.{record_of, half_limit};
+ghost use Rattle.rel_format.specs.Versions.{is_old};
 ghost use Rattle.commit_journal.specs.Gate.{IsWith};
 ghost use Rattle.commit_journal.specs.Prepare.{need_of};
 ghost use Rattle.hera_store.specs.Databases.{Holds};
-ghost use Rattle.hera_store.specs.Standing.{StandsFor, IsCommitOf, AreOver, database_of, database_after, end_with, other_half, select_byte};
+ghost use Rattle.hera_store.specs.Standing.{StandsFor, AreOver, database_of, database_after, end_with, other_half, select_byte};
 ghost use Rattle.hera_store.specs.Faults.{IsRecordRefusal, IsCommitRefusal, IsCheckRefusal, commit_need, half_with};
 ghost use Rattle.hera_store.specs.Moments.{IsEither, IsStill};
 
@@ -79,12 +81,19 @@ impl Store {
         }
     }
 
-    /// The half as it was read.
+    /// The base under the commits.
     pub fn base(&self) -> &Base
         ensures base { result.now ≡ self.now.base }
         ensures state { IsState self.now.base.catalogue (database_of self.now).state }
     {
         &self.base
+    }
+
+    /// Whether the selected half has format 1, which is read and never written. It takes no memory.
+    pub fn old_format(&self) -> bool
+        ensures { result ≡ is_old self.now.base.version }
+    {
+        self.base.version().is_old()
     }
 
     /// The commits since, in order. None is `fail`, and each names relations and rows of the base's
@@ -111,7 +120,7 @@ impl Store {
         requires stands { W.told → self.old.closed ≡ false → StandsFor (W.disk outside.old) self.old }
         requires proper { is_fail delta ≡ false }
         requires known { IsDeltaOf self.old.base.catalogue delta }
-        requires limit { limit ≤ 268435456 }
+        requires limit { limit ≤ half_limit }
         // The store afterwards.
         ensures base { self.new.base ≡ self.old.base }
         ensures half { self.new.half ≡ self.old.half }
@@ -166,7 +175,7 @@ impl Store {
     /// `Device`, no call on a file was made.
     pub fn checkpoint<W: Outside>(self, outside: &mut W, limit: u64) -> Result<(), CheckFault>
         requires stands { W.told → self.closed ≡ false → StandsFor (W.disk outside.old) self }
-        requires limit { limit ≤ 268435456 }
+        requires limit { limit ≤ half_limit }
         // The files: the other half is selected, and is printed anew; the former one stays.
         ensures settled { W.told → OnOk result ((f : FileId) → IsSettled (W.disk outside.new f)) }
         ensures selects { W.told → OnOk result ((W.disk outside.new Select).bytes ≡ select_byte (other_half self.half) ∷ []) }
@@ -218,7 +227,7 @@ fn record_behind(
     limit: u64,
 ) -> Result<(Prepared, u64), CommitFault>
     requires proper { is_fail delta.now ≡ false }
-    requires limit { limit ≤ 268435456 }
+    requires limit { limit ≤ half_limit }
     ensures body { IfOk result (λ x. x.0.body ≡ record_of (atoms_in delta.now)) }
     ensures end { IfOk result (λ x. x.0.end ≡ end) }
     ensures next { IfOk result (λ x. x.1 ≡ end + length (record_of (atoms_in delta.now)) + 1) }
@@ -226,27 +235,13 @@ fn record_behind(
     ensures delta { OnOk result (IsDelta delta.now) }
     ensures refusal { IfErr result (IsRecordRefusal (atoms_in delta.now) end limit) }
 {
-    let prepared = match prepare(alloc, delta, end, limit) {
-        Ok(prepared) => prepared,
-        Err(PrepareFault::Full { need, limit }) => return Err(CommitFault::Full { need, limit }),
-        Err(PrepareFault::Memory) => return Err(CommitFault::Memory),
-    };
-    match next_gate(alloc, delta, end) {
-        Some(next) => Ok((prepared, next)),
-        None => Err(CommitFault::Memory),
-    }
-}
-
-/// The place of the gate behind the delta's record, whose own gate is at `end`. The refusal of a
-/// record within no bytes tells it.
-fn next_gate(alloc: Global, delta: &Delta, end: u64) -> Option<u64>
-    requires { is_fail delta.now ≡ false }
-    ensures next { IfSome result (λ next. next ≡ end + length (record_of (atoms_in delta.now)) + 1) }
-    ensures delta { IsDelta delta.now }
-{
     let _fails = delta.is_fail();
-    match prepare(alloc, delta, end, 0) {
-        Err(PrepareFault::Full { need, .. }) => u64::try_from(need - 1).ok(),
-        _ => None,
+    match prepare(alloc, delta, end, limit) {
+        Ok(prepared) => {
+            let next = prepared.next_gate();
+            Ok((prepared, next))
+        }
+        Err(PrepareFault::Full { need, limit }) => Err(CommitFault::Full { need, limit }),
+        Err(PrepareFault::Memory) => Err(CommitFault::Memory),
     }
 }

@@ -5,8 +5,7 @@ ghost use Rattle.hera_volume.specs.Disk.{IsSettled};
 ghost use Rattle.hera_volume.specs.Time.{LeavesOnly};
 ghost use Rattle.hera_volume.specs.declared.file_id.FileId.{FileId};
 ghost use Rattle.hera_volume.specs.declared.file_id.FileId.TheVariants.{Select};
-ghost use Rattle.rel_format.specs.Pages.{format_one};
-ghost use Rattle.rel_format.specs.Journal.{IsHalf};
+ghost use Rattle.rel_format.specs.Versions.{IsHalfOf};
 ghost use Rattle.hera_store.specs.Databases.{Database, Names};
 ghost use Rattle.hera_store.specs.Standing.{other_half, select_byte};
 ghost use Rattle.hera_store.specs.Moments.{IsStill};
@@ -28,7 +27,7 @@ pub(crate) fn switch_to<W: Outside>(
     ensures written { W.told → OnOk result ((W.disk outside.new half).bytes ≡ bytes.now) }
     ensures former { W.told → W.disk outside.new (other_half half) ≡ W.disk outside.old (other_half half) }
     // A database that both halves hold is found at each moment.
-    ensures any_moment { W.told → (db : Database) → IsHalf format_one (W.disk outside.old (other_half half)).bytes db.catalogue db.state → IsHalf format_one bytes.now db.catalogue db.state →
+    ensures any_moment { W.told → (db : Database) → IsHalfOf (W.disk outside.old (other_half half)).bytes db.catalogue db.state → IsHalfOf bytes.now db.catalogue db.state →
         LeavesOnly W.moment W.left_since outside.old outside.new (IsStill db (W.emitted outside.old)) }
     ensures emitted { W.emitted outside.new ≡ W.emitted outside.old }
     ensures output { W.output_faults outside.new ≡ W.output_faults outside.old }

@@ -1,6 +1,6 @@
 //! What a stop at each call on a file leaves, and what refusals tell.
+ghost use Rattle.hera_meaning.specs.Commits.{IsCommitOf};
 ghost use Rattle.std.specs.Prelude.{IfOk, IfSome};
-ghost use Rattle.hera_store.specs.Standing.{IsCommitOf};
 
 use super::*;
 use delta_atoms::Delta;
@@ -9,13 +9,11 @@ use hera_meaning::{Attr, Kind, RelId, Schema, Sign, Text};
 use hera_row::{Catalogue, check_row, has_names, is_name};
 use hera_rows::Sorted;
 use hera_volume::{FileId, MemOutside, Outside, rewrite_and_sync};
+use rel_format::HALF_LIMIT;
 use std::alloc::{AllocError, Global};
 use std::process::Abort;
 use std::test::Fail;
 use when_overlay::{Layers, View};
-
-/// The most bytes of a half.
-const LIMIT: u64 = 268_435_456;
 
 /// The row of the tuple (1).
 const ROW: [u8; 8] = [128, 0, 0, 0, 0, 0, 0, 1];
@@ -82,13 +80,13 @@ fn run<W: Outside>(
     let Some(delta) = plus(alloc, store.base().catalogue())? else {
         return Ok(1);
     };
-    match store.commit(outside, delta, LIMIT) {
-        Ok(()) => match store.checkpoint(outside, LIMIT) {
+    match store.commit(outside, delta, HALF_LIMIT) {
+        Ok(()) => match store.checkpoint(outside, HALF_LIMIT) {
             Ok(()) => Ok(4),
             Err(_) => Ok(3),
         },
         Err(_) => {
-            let again = store.commit(outside, Delta::empty(alloc), LIMIT);
+            let again = store.commit(outside, Delta::empty(alloc), HALF_LIMIT);
             assert!(rt; matches!(again, Err(CommitFault::Closed)));
             Ok(2)
         }

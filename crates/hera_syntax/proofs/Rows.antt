@@ -12,7 +12,7 @@ use Rattle.std.proofs.Common.{Vec, Global, Option, Some, None}
 use Rattle.hera_syntax.specs.declared.tree.ElseIf.{ElseIf}
 use Rattle.hera_syntax.specs.declared.tree.Block.{Block}
 use Rattle.hera_syntax.specs.Programs.{stmt_outline, stmts_rest, stmt_row, elses_rest, else_if_row, last_outline, last_else}
-use Rattle.hera_syntax.specs.Outline.{Mark, args_rest, args_row, atom_outline, atoms_rest, atoms_row, binding_outline, bindings_rest, bindings_row, chain, comparison_rest, expr_outline, hold, line_outline, lines_rest, lines_row, more_of, node, operand_outline, production_of, skip, tail_row, tails_outline}
+use Rattle.hera_syntax.specs.Outline.{Entry, args_rest, args_row, atom_outline, atoms_rest, atoms_row, binding_outline, bindings_rest, bindings_row, chain, comparison_rest, expr_outline, hold, line_outline, lines_rest, lines_row, more_of, node, operand_outline, production_of, skip, tail_row, tails_outline}
 use Rattle.hera_syntax.specs.declared.expr.Level.{Level}
 use Rattle.hera_syntax.specs.declared.expr.Level.TheVariants as levels
 use Rattle.hera_syntax.specs.declared.expr.Operand.{Operand}
@@ -23,7 +23,7 @@ tail_rows level n end_of-Tail = refl
 tail_rows level n (more_of-Tail op operand rest) = ap (λ r. (node (more_of level) 0 ++ (hold op ++ operand_outline operand)) ++ r) (tail_rows level _ rest)
 
 -- a chain that is no comparison
-pub plain_chain : (level : Level) (first : List Mark) (tails : List (List Mark)) → ¬ (level ≡ levels.Comparisons) →
+pub plain_chain : (level : Level) (first : List Entry) (tails : List (List Entry)) → ¬ (level ≡ levels.Comparisons) →
     chain level first tails ≡ node (production_of level) 0 ++ first ++ flat_map (λ tail. node (more_of level) 0 ++ tail) tails ++ node (more_of level) 1
 plain_chain levels.Whens first tails h = refl
 plain_chain levels.Ors first tails h = refl
@@ -44,11 +44,11 @@ append_none : {A : Type 0} (xs : List A) → xs ++ [] ≡ xs
 append_none [] = refl
 append_none (x ∷ xs) = ap (λ r. x ∷ r) (append_none xs)
 
-pub comparison_rows : (first : List Mark) (n : _) (k : Row_of-Tail n) → length (items-the_row-Tail n k) ≤ 1 →
+pub comparison_rows : (first : List Entry) (n : _) (k : Row_of-Tail n) → length (items-the_row-Tail n k) ≤ 1 →
     chain levels.Comparisons first (tails_outline k) ≡ node phrases.cmp 0 ++ first ++ comparison_rest (items-the_row-Tail n k)
 comparison_rows first n end_of-Tail h = ap (λ r. r ++ node phrases.more_cmp 1) (append_none (node phrases.cmp 0 ++ first))
 comparison_rows first n (more_of-Tail op operand end_of-Tail) h =
-    let row : List Mark = node phrases.more_cmp 0 ++ (hold op ++ operand_outline operand) in
+    let row : List Entry = node phrases.more_cmp 0 ++ (hold op ++ operand_outline operand) in
     append_none (node phrases.cmp 0 ++ first ++ (row ++ [])) ∙ ap (λ r. node phrases.cmp 0 ++ first ++ r) (append_none row)
 comparison_rows first n (more_of-Tail op operand (more_of-Tail op' operand' rest)) h = absurd (omega (arith, h))
 
@@ -72,7 +72,7 @@ pub stmts_rows : (n : _) (k : Row_of-StmtTree n) → stmts_rest k ≡ flat_map s
 stmts_rows n end_of-StmtTree = refl
 stmts_rows n (more_of-StmtTree s rest) = ap (λ r. (node phrases.stmts 0 ++ stmt_outline s) ++ r) (stmts_rows _ rest)
 
-both : (f : List Mark → List Mark → List Mark) {a a' b b' : List Mark} → a ≡ a' → b ≡ b' → f a b ≡ f a' b'
+both : (f : List Entry → List Entry → List Entry) {a a' b b' : List Entry} → a ≡ a' → b ≡ b' → f a b ≡ f a' b'
 both f {a} {a'} {b} {b'} e h = ap (λ x. f x b) e ∙ ap (f a') h
 
 pub elses_rows : (n : _) (k : Row_of-ElseIf n) → elses_rest k ≡ flat_map else_if_row (items-the_row-ElseIf n k)
@@ -80,7 +80,7 @@ elses_rows n end_of-ElseIf = refl
 elses_rows n (more_of-ElseIf w b e c shape stmts rest) =
     let inner : stmts_rest stmts ≡ flat_map stmt_row _ = stmts_rows _ stmts ∙ ap (flat_map stmt_row) (sym (items_shown-the_row-StmtTree-0 shape stmts)) in
     both (λ x r.
-    (node phrases.else_part 0 ++ skip (phrases.word 11) ++ node phrases.after_else 0 ++ hold w ++ hold b ++ expr_outline e ++ skip phrases.close_paren
+    (node phrases.else_part 0 ++ skip phrases.else_word ++ node phrases.after_else 0 ++ hold w ++ hold b ++ expr_outline e ++ skip phrases.close_paren
     ++ (node phrases.block 0 ++ hold c ++ x ++ node phrases.stmts 1 ++ skip phrases.close_brace)) ++ r) inner (elses_rows _ rest)
 
 -- the statements of a block that lies in a statement
@@ -91,12 +91,12 @@ block_rows b = stmts_rows _ (hidden-the_row-StmtTree-0 b.stmts) ∙ ap (flat_map
 pub else_ifs_rows : (es : Vec ElseIf Global) → elses_rest (hidden-the_row-ElseIf-1 es) ≡ flat_map else_if_row es.items
 else_ifs_rows es = elses_rows _ (hidden-the_row-ElseIf-1 es) ∙ ap (flat_map else_if_row) (items_hidden-the_row-ElseIf-1 es)
 
-pub all_three : (f : List Mark → List Mark → List Mark → List Mark) {a a' b b' c c' : List Mark} → a ≡ a' → b ≡ b' → c ≡ c' → f a b c ≡ f a' b' c'
+pub all_three : (f : List Entry → List Entry → List Entry → List Entry) {a a' b b' c c' : List Entry} → a ≡ a' → b ≡ b' → c ≡ c' → f a b c ≡ f a' b' c'
 all_three f {a} {a'} {b} {b'} {c} {c'} e h k = ap (λ x. f x b c) e ∙ (ap (λ x. f a' x c) h ∙ ap (f a' b') k)
 
 -- the last `else` of an `if`
 pub last_rows : (last : Option Block) → last_outline (back-StmtTree-If-5 last) ≡ last_else last
 last_rows None = refl
 last_rows (Some b) =
-    ap (λ x. node phrases.else_part 0 ++ skip (phrases.word 11) ++ node phrases.after_else 1
+    ap (λ x. node phrases.else_part 0 ++ skip phrases.else_word ++ node phrases.after_else 1
     ++ (node phrases.block 0 ++ hold b.bracket ++ x ++ node phrases.stmts 1 ++ skip phrases.close_brace)) (block_rows b)

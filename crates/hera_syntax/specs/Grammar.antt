@@ -1,6 +1,11 @@
 -- The grammar, as data: each production's alternatives, as lists of parts.
-use Rattle.std.specs.Prelude.{ℕ, ◌+◌, ◌*◌, List, [], ◌∷◌, Bool, IsTrue, nat_eq, slice_index_or}
+use Rattle.std.specs.Prelude.{ℕ, List, [], ◌∷◌, Bool, true, false, IsTrue, nat_eq, slice_index_or}
 use Rattle.std.specs.List.{list_any}
+use Rattle.hera_syntax.specs.declared.words.Keyword.TheVariants as keys
+use Rattle.hera_syntax.specs.declared.words.Mark.TheVariants as puncts
+use Rattle.hera_syntax.specs.declared.words.Keyword.{Keyword}
+use Rattle.hera_syntax.specs.declared.words.Mark.{Mark}
+use Rattle.hera_syntax.specs.Words.{keyword_number, mark_number}
 use Rattle.hera_syntax.specs.declared.token.Terminal.{Terminal}
 use Rattle.hera_syntax.specs.declared.token.Terminal.TheVariants as terminals
 use Rattle.hera_syntax.specs.declared.token.TokenKind.{TokenKind}
@@ -15,26 +20,27 @@ terminal_of (kinds.Text text) = terminals.Text
 terminal_of (kinds.Key k) = terminals.Key k
 terminal_of (kinds.Punct p) = terminals.Punct p
 
--- one number for each terminal
-abbrev pub code : Terminal → ℕ
-code terminals.Name = 0
-code terminals.Int = 1
-code terminals.Text = 2
-code (terminals.Key k) = 3 + 2 * k
-code (terminals.Punct p) = 4 + 2 * p
+-- whether two terminals are one
+abbrev pub same_terminal : Terminal → Terminal → Bool
+same_terminal terminals.Name terminals.Name = true
+same_terminal terminals.Int terminals.Int = true
+same_terminal terminals.Text terminals.Text = true
+same_terminal (terminals.Key j) (terminals.Key k) = nat_eq (keyword_number j) (keyword_number k)
+same_terminal (terminals.Punct p) (terminals.Punct q) = nat_eq (mark_number p) (mark_number q)
+same_terminal _ _ = false
 
 -- whether a terminal is one of these
 abbrev pub is_one_of : List Terminal → Terminal → Bool
-is_one_of ts t = list_any (λ d. nat_eq (code d) (code t)) ts
+is_one_of ts t = list_any (λ d. same_terminal d t) ts
 
 -- the token's terminal is one of these
 abbrev pub Allows : List Terminal → Token → Type 0
 Allows ts t = IsTrue (is_one_of ts (terminal_of t.kind))
 
-abbrev pub word : ℕ → Terminal
+abbrev pub word : Keyword → Terminal
 word k = terminals.Key k
 
-abbrev pub mark : ℕ → Terminal
+abbrev pub mark : Mark → Terminal
 mark p = terminals.Punct p
 
 -- the brackets, the marks and the words that stand in many productions
@@ -42,79 +48,82 @@ abbrev pub name : List Terminal
 name = terminals.Name ∷ []
 
 abbrev pub paren : List Terminal
-paren = mark 0 ∷ []
+paren = mark puncts.OpenParen ∷ []
 
 abbrev pub close_paren : Terminal
-close_paren = mark 1
+close_paren = mark puncts.CloseParen
 
 abbrev pub square : List Terminal
-square = mark 2 ∷ []
+square = mark puncts.OpenSquare ∷ []
 
 abbrev pub close_square : Terminal
-close_square = mark 3
+close_square = mark puncts.CloseSquare
 
 abbrev pub brace : List Terminal
-brace = mark 4 ∷ []
+brace = mark puncts.OpenBrace ∷ []
 
 abbrev pub close_brace : Terminal
-close_brace = mark 5
+close_brace = mark puncts.CloseBrace
 
 abbrev pub comma : Terminal
-comma = mark 6
+comma = mark puncts.Comma
 
 abbrev pub semicolon : Terminal
-semicolon = mark 7
+semicolon = mark puncts.Semicolon
 
 abbrev pub colon : Terminal
-colon = mark 8
+colon = mark puncts.Colon
 
 abbrev pub dot : Terminal
-dot = mark 9
+dot = mark puncts.Dot
 
 abbrev pub equals : Terminal
-equals = mark 10
+equals = mark puncts.Equals
 
 abbrev pub in_word : Terminal
-in_word = word 14
+in_word = word keys.In
+
+abbrev pub else_word : Terminal
+else_word = word keys.Else
 
 abbrev pub by_word : Terminal
-by_word = word 35
+by_word = word keys.By
 
 -- `int`, `bool`, `text`
 abbrev pub kind_words : List Terminal
-kind_words = word 4 ∷ word 5 ∷ word 6 ∷ []
+kind_words = word keys.Int ∷ word keys.Bool ∷ word keys.Text ∷ []
 
 -- `==`, `!=`, `<`, `<=`, `>`, `>=`, `in`
 abbrev pub cmp_ops : List Terminal
-cmp_ops = mark 11 ∷ mark 12 ∷ mark 13 ∷ mark 14 ∷ mark 15 ∷ mark 16 ∷ word 14 ∷ []
+cmp_ops = mark puncts.EqualEqual ∷ mark puncts.NotEqual ∷ mark puncts.Less ∷ mark puncts.LessEqual ∷ mark puncts.Greater ∷ mark puncts.GreaterEqual ∷ word keys.In ∷ []
 
 -- `-`, `!`
 abbrev pub prefix_ops : List Terminal
-prefix_ops = mark 18 ∷ mark 22 ∷ []
+prefix_ops = mark puncts.Minus ∷ mark puncts.Bang ∷ []
 
 -- `+`, `-`
 abbrev pub signs : List Terminal
-signs = mark 17 ∷ mark 18 ∷ []
+signs = mark puncts.Plus ∷ mark puncts.Minus ∷ []
 
 -- `select`, `map`
 abbrev pub walk_words : List Terminal
-walk_words = word 26 ∷ word 27 ∷ []
+walk_words = word keys.Select ∷ word keys.Map ∷ []
 
 -- `union`, `minus`, `inter`, `join`
 abbrev pub pair_words : List Terminal
-pair_words = word 30 ∷ word 31 ∷ word 32 ∷ word 33 ∷ []
+pair_words = word keys.Union ∷ word keys.Minus ∷ word keys.Inter ∷ word keys.Join ∷ []
 
 -- `count`, `empty`, `isfail`
 abbrev pub measure_words : List Terminal
-measure_words = word 36 ∷ word 37 ∷ word 41 ∷ []
+measure_words = word keys.Count ∷ word keys.Empty ∷ word keys.IsFail ∷ []
 
 -- `sum`, `min`, `max`
 abbrev pub fold_words : List Terminal
-fold_words = word 38 ∷ word 39 ∷ word 40 ∷ []
+fold_words = word keys.Sum ∷ word keys.Min ∷ word keys.Max ∷ []
 
 -- `ins`, `del`
 abbrev pub part_words : List Terminal
-part_words = word 43 ∷ word 44 ∷ []
+part_words = word keys.Ins ∷ word keys.Del ∷ []
 
 -- the levels whose operators may stand in a row, from the loosest
 pub data Level : Type 0 where
@@ -128,13 +137,13 @@ pub data Level : Type 0 where
 
 -- `when`; `||`; `&&`; `+`, `-`; `*`, `/`, `%`; `!`; `&`
 abbrev pub ops : Level → List Terminal
-ops whens = word 24 ∷ []
-ops ors = mark 25 ∷ []
-ops ands = mark 24 ∷ []
-ops sums = mark 17 ∷ mark 18 ∷ []
-ops terms = mark 19 ∷ mark 20 ∷ mark 21 ∷ []
-ops smashes = mark 22 ∷ []
-ops merges = mark 23 ∷ []
+ops whens = word keys.When ∷ []
+ops ors = mark puncts.OrOr ∷ []
+ops ands = mark puncts.AndAnd ∷ []
+ops sums = mark puncts.Plus ∷ mark puncts.Minus ∷ []
+ops terms = mark puncts.Star ∷ mark puncts.Slash ∷ mark puncts.Percent ∷ []
+ops smashes = mark puncts.Bang ∷ []
+ops merges = mark puncts.And ∷ []
 
 -- The productions. A repetition, an option and the rest of a choice that begins with one token have
 -- one of their own, so that the next token always tells the alternative.
@@ -165,6 +174,7 @@ pub data Production : Type 0 where
   else_part : Production
   after_else : Production
   some_value : Production
+  some_text : Production
   some_args : Production
   args : Production
   more_args : Production
@@ -225,50 +235,51 @@ alternatives relations = (phrase relation ∷ phrase relations ∷ []) ∷ [] �
 alternatives funcs = (phrase func ∷ phrase funcs ∷ []) ∷ [] ∷ []
 alternatives procs = (phrase proc ∷ phrase procs ∷ []) ∷ [] ∷ []
 alternatives last_main = (phrase main ∷ []) ∷ [] ∷ []
-alternatives relation = (keep (word 0 ∷ []) ∷ keep name ∷ keep paren ∷ phrase attrs ∷ leave close_paren ∷ leave semicolon ∷ []) ∷ []
+alternatives relation = (keep (word keys.Relation ∷ []) ∷ keep name ∷ keep paren ∷ phrase attrs ∷ leave close_paren ∷ leave semicolon ∷ []) ∷ []
 alternatives attrs = (phrase attr ∷ phrase more_attrs ∷ []) ∷ []
 alternatives more_attrs = (leave comma ∷ phrase attr ∷ phrase more_attrs ∷ []) ∷ [] ∷ []
 alternatives attr = (keep name ∷ phrase kind ∷ []) ∷ []
 alternatives kind = (keep kind_words ∷ []) ∷ []
 alternatives type_tree =
     (phrase kind ∷ [])
-    ∷ (keep (word 7 ∷ []) ∷ [])
-    ∷ (keep (word 8 ∷ []) ∷ phrase schema ∷ [])
-    ∷ (keep (word 9 ∷ []) ∷ phrase schema ∷ [])
+    ∷ (keep (word keys.Delta ∷ []) ∷ [])
+    ∷ (keep (word keys.Rel ∷ []) ∷ phrase schema ∷ [])
+    ∷ (keep (word keys.Tuple ∷ []) ∷ phrase schema ∷ [])
     ∷ []
 alternatives schema = (keep name ∷ []) ∷ (keep paren ∷ phrase attrs ∷ leave close_paren ∷ []) ∷ []
-alternatives func = (keep (word 1 ∷ []) ∷ phrase type_tree ∷ keep name ∷ keep paren ∷ phrase some_params ∷ leave close_paren ∷ phrase block ∷ []) ∷ []
-alternatives proc = (keep (word 2 ∷ []) ∷ keep name ∷ keep paren ∷ phrase some_params ∷ leave close_paren ∷ phrase block ∷ []) ∷ []
+alternatives func = (keep (word keys.Func ∷ []) ∷ phrase type_tree ∷ keep name ∷ keep paren ∷ phrase some_params ∷ leave close_paren ∷ phrase block ∷ []) ∷ []
+alternatives proc = (keep (word keys.Proc ∷ []) ∷ keep name ∷ keep paren ∷ phrase some_params ∷ leave close_paren ∷ phrase block ∷ []) ∷ []
 alternatives some_params = (phrase params ∷ []) ∷ [] ∷ []
 alternatives params = (phrase param ∷ phrase more_params ∷ []) ∷ []
 alternatives more_params = (leave comma ∷ phrase param ∷ phrase more_params ∷ []) ∷ [] ∷ []
 alternatives param = (phrase type_tree ∷ keep name ∷ []) ∷ []
-alternatives main = (keep (word 3 ∷ []) ∷ phrase block ∷ []) ∷ []
+alternatives main = (keep (word keys.Main ∷ []) ∷ phrase block ∷ []) ∷ []
 alternatives block = (keep brace ∷ phrase stmts ∷ leave close_brace ∷ []) ∷ []
 alternatives stmts = (phrase stmt ∷ phrase stmts ∷ []) ∷ [] ∷ []
 alternatives stmt =
     (phrase type_tree ∷ keep name ∷ leave equals ∷ phrase expr ∷ leave semicolon ∷ [])
     ∷ (keep name ∷ phrase named ∷ [])
-    ∷ (keep (word 10 ∷ []) ∷ keep paren ∷ phrase expr ∷ leave close_paren ∷ phrase block ∷ phrase else_part ∷ [])
-    ∷ (keep (word 12 ∷ []) ∷ keep paren ∷ phrase expr ∷ leave close_paren ∷ phrase block ∷ [])
-    ∷ (keep (word 13 ∷ []) ∷ keep paren ∷ keep name ∷ leave in_word ∷ phrase expr ∷ leave close_paren ∷ phrase block ∷ [])
-    ∷ (keep (word 15 ∷ []) ∷ phrase expr ∷ leave semicolon ∷ [])
-    ∷ (keep (word 16 ∷ []) ∷ phrase expr ∷ leave semicolon ∷ [])
-    ∷ (keep (word 19 ∷ []) ∷ phrase expr ∷ leave semicolon ∷ [])
-    ∷ (keep (word 17 ∷ []) ∷ leave semicolon ∷ [])
-    ∷ (keep (word 18 ∷ []) ∷ leave semicolon ∷ [])
-    ∷ (keep (word 20 ∷ []) ∷ phrase some_value ∷ leave semicolon ∷ [])
+    ∷ (keep (word keys.If ∷ []) ∷ keep paren ∷ phrase expr ∷ leave close_paren ∷ phrase block ∷ phrase else_part ∷ [])
+    ∷ (keep (word keys.While ∷ []) ∷ keep paren ∷ phrase expr ∷ leave close_paren ∷ phrase block ∷ [])
+    ∷ (keep (word keys.Foreach ∷ []) ∷ keep paren ∷ keep name ∷ leave in_word ∷ phrase expr ∷ leave close_paren ∷ phrase block ∷ [])
+    ∷ (keep (word keys.Print ∷ []) ∷ phrase expr ∷ leave semicolon ∷ [])
+    ∷ (keep (word keys.Apply ∷ []) ∷ phrase expr ∷ leave semicolon ∷ [])
+    ∷ (keep (word keys.Assert ∷ []) ∷ phrase expr ∷ leave semicolon ∷ [])
+    ∷ (keep (word keys.Commit ∷ []) ∷ phrase some_text ∷ leave semicolon ∷ [])
+    ∷ (keep (word keys.Rollback ∷ []) ∷ leave semicolon ∷ [])
+    ∷ (keep (word keys.Return ∷ []) ∷ phrase some_value ∷ leave semicolon ∷ [])
     ∷ []
 alternatives named =
     (leave equals ∷ phrase expr ∷ leave semicolon ∷ [])
     ∷ (keep paren ∷ phrase some_args ∷ leave close_paren ∷ leave semicolon ∷ [])
     ∷ []
-alternatives else_part = (leave (word 11) ∷ phrase after_else ∷ []) ∷ [] ∷ []
+alternatives else_part = (leave else_word ∷ phrase after_else ∷ []) ∷ [] ∷ []
 alternatives after_else =
-    (keep (word 10 ∷ []) ∷ keep paren ∷ phrase expr ∷ leave close_paren ∷ phrase block ∷ phrase else_part ∷ [])
+    (keep (word keys.If ∷ []) ∷ keep paren ∷ phrase expr ∷ leave close_paren ∷ phrase block ∷ phrase else_part ∷ [])
     ∷ (phrase block ∷ [])
     ∷ []
 alternatives some_value = (phrase expr ∷ []) ∷ [] ∷ []
+alternatives some_text = (keep (terminals.Text ∷ []) ∷ []) ∷ [] ∷ []
 alternatives some_args = (phrase args ∷ []) ∷ [] ∷ []
 alternatives args = (phrase expr ∷ phrase more_args ∷ []) ∷ []
 alternatives more_args = (leave comma ∷ phrase expr ∷ phrase more_args ∷ []) ∷ [] ∷ []
@@ -282,22 +293,22 @@ alternatives field = (leave dot ∷ keep name ∷ []) ∷ [] ∷ []
 alternatives prime =
     (keep (terminals.Int ∷ []) ∷ [])
     ∷ (keep (terminals.Text ∷ []) ∷ [])
-    ∷ (keep (word 21 ∷ []) ∷ [])
-    ∷ (keep (word 22 ∷ []) ∷ [])
-    ∷ (keep (word 23 ∷ []) ∷ [])
+    ∷ (keep (word keys.True ∷ []) ∷ [])
+    ∷ (keep (word keys.False ∷ []) ∷ [])
+    ∷ (keep (word keys.Fail ∷ []) ∷ [])
     ∷ (keep name ∷ phrase call ∷ [])
     ∷ (keep paren ∷ phrase expr ∷ leave close_paren ∷ [])
     ∷ (keep square ∷ phrase bindings ∷ leave close_square ∷ [])
     ∷ (keep brace ∷ phrase some_atoms ∷ leave close_brace ∷ [])
-    ∷ (keep (word 25 ∷ []) ∷ keep paren ∷ keep name ∷ leave close_paren ∷ keep brace ∷ phrase some_lines ∷ leave close_brace ∷ [])
+    ∷ (keep (word keys.Rows ∷ []) ∷ keep paren ∷ keep name ∷ leave close_paren ∷ keep brace ∷ phrase some_lines ∷ leave close_brace ∷ [])
     ∷ (keep walk_words ∷ keep paren ∷ keep name ∷ leave in_word ∷ phrase expr ∷ leave colon ∷ phrase expr ∷ leave close_paren ∷ [])
-    ∷ (keep (word 28 ∷ []) ∷ keep paren ∷ phrase expr ∷ leave semicolon ∷ phrase names ∷ leave close_paren ∷ [])
-    ∷ (keep (word 29 ∷ []) ∷ keep paren ∷ phrase expr ∷ leave semicolon ∷ phrase renamings ∷ leave close_paren ∷ [])
+    ∷ (keep (word keys.Project ∷ []) ∷ keep paren ∷ phrase expr ∷ leave semicolon ∷ phrase names ∷ leave close_paren ∷ [])
+    ∷ (keep (word keys.Rename ∷ []) ∷ keep paren ∷ phrase expr ∷ leave semicolon ∷ phrase renamings ∷ leave close_paren ∷ [])
     ∷ (keep pair_words ∷ keep paren ∷ phrase expr ∷ leave comma ∷ phrase expr ∷ leave close_paren ∷ [])
-    ∷ (keep (word 34 ∷ []) ∷ keep paren ∷ phrase expr ∷ leave semicolon ∷ leave by_word ∷ phrase names ∷ leave semicolon ∷ phrase aggs ∷ leave close_paren ∷ [])
+    ∷ (keep (word keys.Group ∷ []) ∷ keep paren ∷ phrase expr ∷ leave semicolon ∷ leave by_word ∷ phrase names ∷ leave semicolon ∷ phrase aggs ∷ leave close_paren ∷ [])
     ∷ (keep measure_words ∷ keep paren ∷ phrase expr ∷ leave close_paren ∷ [])
     ∷ (keep fold_words ∷ keep paren ∷ phrase expr ∷ leave comma ∷ keep name ∷ leave close_paren ∷ [])
-    ∷ (keep (word 42 ∷ []) ∷ keep paren ∷ keep signs ∷ keep name ∷ leave comma ∷ phrase expr ∷ leave close_paren ∷ [])
+    ∷ (keep (word keys.Bulk ∷ []) ∷ keep paren ∷ keep signs ∷ keep name ∷ leave comma ∷ phrase expr ∷ leave close_paren ∷ [])
     ∷ (keep part_words ∷ keep paren ∷ keep name ∷ leave comma ∷ phrase expr ∷ leave close_paren ∷ [])
     ∷ []
 alternatives call = (keep paren ∷ phrase some_args ∷ leave close_paren ∷ []) ∷ [] ∷ []
@@ -320,7 +331,7 @@ alternatives renaming = (keep name ∷ leave equals ∷ keep name ∷ []) ∷ []
 alternatives aggs = (phrase named_agg ∷ phrase more_aggs ∷ []) ∷ []
 alternatives more_aggs = (leave comma ∷ phrase named_agg ∷ phrase more_aggs ∷ []) ∷ [] ∷ []
 alternatives named_agg = (keep name ∷ leave equals ∷ phrase agg ∷ []) ∷ []
-alternatives agg = (keep (word 36 ∷ []) ∷ []) ∷ (keep fold_words ∷ keep paren ∷ keep name ∷ leave close_paren ∷ []) ∷ []
+alternatives agg = (keep (word keys.Count ∷ []) ∷ []) ∷ (keep fold_words ∷ keep paren ∷ keep name ∷ leave close_paren ∷ []) ∷ []
 
 -- the alternative of this number
 abbrev pub alternative : Production → ℕ → List Part

@@ -1,11 +1,13 @@
 -- The pieces that a script is cut into, by their characters.
-use Rattle.std.specs.Prelude.{◌≡◌, ℕ, ◌+◌, ◌-◌, ◌*◌, ◌<◌, ◌≤◌, ◌^◌, List, [], ◌∷◌, ◌++◌, Option, Some, None, Bool, true, cond, not, ◌||◌, ◌==◌, length, slice_get, pos}
+use Rattle.std.specs.Prelude.{◌≡◌, ℕ, ◌+◌, ◌-◌, ◌*◌, ◌<◌, ◌≤◌, ◌^◌, List, [], ◌∷◌, ◌++◌, Option, Some, None, Bool, true, cond, not, ◌||◌, ◌==◌, length, pos}
 use Rattle.std.specs.List.{list_all, fold}
 use Rattle.std.specs.Char.{is_ascii_digit}
 use Rattle.std.specs.Str.{encode_utf8_all}
-use Rattle.std.specs.Prelude.{codes}
 use Rattle.hera_meaning.specs.Identifiers.{is_word, identifier_limit}
 use Rattle.hera_meaning.specs.Texts.{text_limit}
+use Rattle.hera_syntax.specs.declared.words.Keyword.{Keyword}
+use Rattle.hera_syntax.specs.declared.words.Mark.{Mark}
+use Rattle.hera_syntax.specs.Words.{keyword_text, mark_text}
 use Rattle.hera_syntax.specs.declared.token.PieceShape.{PieceShape}
 use Rattle.hera_syntax.specs.declared.token.PieceShape.TheVariants as shapes
 use Rattle.hera_syntax.specs.declared.token.TokenKind.{TokenKind}
@@ -33,12 +35,6 @@ pub data Spells : List ℕ → List ℕ → Type 0 where
 abbrev pub HasNoEnd : List ℕ → Type 0
 HasNoEnd body = (front back : List ℕ) → body ≡ front ++ 42 ∷ 47 ∷ back → ⊥
 
--- the punctuation, by its numbers
-abbrev pub puncts : List (List ℕ)
-puncts = codes "(" ∷ codes ")" ∷ codes "[" ∷ codes "]" ∷ codes "{" ∷ codes "}" ∷ codes "," ∷ codes ";" ∷ codes ":" ∷ codes "."
-    ∷ codes "=" ∷ codes "==" ∷ codes "!=" ∷ codes "<" ∷ codes "<=" ∷ codes ">" ∷ codes ">=" ∷ codes "+" ∷ codes "-" ∷ codes "*"
-    ∷ codes "/" ∷ codes "%" ∷ codes "!" ∷ codes "&" ∷ codes "&&" ∷ codes "||" ∷ []
-
 -- these characters look like a piece of this shape, whatever its length
 pub data IsPiece : PieceShape → List ℕ → Type 0 where
   blank : {c : ℕ} → is_blank c ≡ true → IsPiece shapes.Blank (c ∷ [])
@@ -49,20 +45,12 @@ pub data IsPiece : PieceShape → List ℕ → Type 0 where
   word : {c : ℕ} {cs : List ℕ} → is_word (c ∷ cs) ≡ true → IsPiece shapes.Word (c ∷ cs)
   digits : {c : ℕ} {cs : List ℕ} → is_ascii_digit c ≡ true → list_all is_ascii_digit cs ≡ true → IsPiece shapes.Digits (c ∷ cs)
   quoted : {body value : List ℕ} → Spells body value → IsPiece shapes.Quoted (34 ∷ (body ++ 34 ∷ []))
-  punct : {i : ℕ} {cs : List ℕ} → slice_get puncts i ≡ Some cs → IsPiece (shapes.Punct i) cs
+  punct : {m : Mark} {cs : List ℕ} → mark_text m ≡ cs → IsPiece (shapes.Punct m) cs
 
 -- piece, of this shape, stands in front of more, and no longer piece of any shape does
 pub record IsLongest (shape : PieceShape) (piece more : List ℕ) : Type 0 where
   pub looks : IsPiece shape piece
   pub longest : (other : PieceShape) (front back : List ℕ) → IsPiece other front → front ++ back ≡ piece ++ more → length front ≤ length piece
-
--- the keywords, by their numbers
-abbrev pub keywords : List (List ℕ)
-keywords = codes "relation" ∷ codes "func" ∷ codes "proc" ∷ codes "main" ∷ codes "int" ∷ codes "bool" ∷ codes "text" ∷ codes "delta" ∷ codes "rel" ∷ codes "tuple"
-    ∷ codes "if" ∷ codes "else" ∷ codes "while" ∷ codes "foreach" ∷ codes "in" ∷ codes "print" ∷ codes "apply" ∷ codes "commit" ∷ codes "rollback" ∷ codes "assert"
-    ∷ codes "return" ∷ codes "true" ∷ codes "false" ∷ codes "fail" ∷ codes "when" ∷ codes "rows" ∷ codes "select" ∷ codes "map" ∷ codes "project" ∷ codes "rename"
-    ∷ codes "union" ∷ codes "minus" ∷ codes "inter" ∷ codes "join" ∷ codes "group" ∷ codes "by" ∷ codes "count" ∷ codes "empty" ∷ codes "sum" ∷ codes "min"
-    ∷ codes "max" ∷ codes "isfail" ∷ codes "bulk" ∷ codes "ins" ∷ codes "del" ∷ []
 
 -- the number that digits spell
 abbrev pub number_of : List ℕ → ℕ
@@ -70,11 +58,11 @@ number_of cs = fold (λ n c. n * 10 + (c - 48)) 0 cs
 
 -- a piece of this shape is a token within its limit, of this kind
 pub data IsToken : PieceShape → List ℕ → TokenKind → Type 0 where
-  ident : {cs : List ℕ} → ((i : ℕ) → slice_get keywords i ≡ Some cs → ⊥) → length (encode_utf8_all cs) ≤ identifier_limit → IsToken shapes.Word cs (kinds.Ident (encode_utf8_all cs))
-  key : {i : ℕ} {cs : List ℕ} → slice_get keywords i ≡ Some cs → IsToken shapes.Word cs (kinds.Key i)
+  ident : {cs : List ℕ} → ((k : Keyword) → keyword_text k ≡ cs → ⊥) → length (encode_utf8_all cs) ≤ identifier_limit → IsToken shapes.Word cs (kinds.Ident (encode_utf8_all cs))
+  key : {k : Keyword} {cs : List ℕ} → keyword_text k ≡ cs → IsToken shapes.Word cs (kinds.Key k)
   int : {cs : List ℕ} → number_of cs < 2 ^ 63 → IsToken shapes.Digits cs (kinds.Int (pos (number_of cs)))
   text : {body value : List ℕ} → Spells body value → length (encode_utf8_all value) ≤ text_limit → IsToken shapes.Quoted (34 ∷ (body ++ 34 ∷ [])) (kinds.Text (encode_utf8_all value))
-  punct : {i : ℕ} {cs : List ℕ} → IsToken (shapes.Punct i) cs (kinds.Punct i)
+  punct : {m : Mark} {cs : List ℕ} → IsToken (shapes.Punct m) cs (kinds.Punct m)
 
 -- a piece that stands between tokens
 pub data IsBetween : PieceShape → Type 0 where

@@ -1,3 +1,4 @@
+pub mod Words
 pub mod Lexemes
 pub mod Lex
 pub mod Tokens

@@ -32,57 +32,57 @@ use Rattle.hera_syntax.specs.declared.expr.Post.{Post}
 use Rattle.hera_syntax.specs.declared.expr.Prime.{Prime, Int, Text, True, False, Fail, Name, Call', Paren', Row', Delta', Rows', Walk', Project', Rename', Pair', Group', Measure', Fold', Bulk', Part', Held-Prime-Call-2, Prime-Call-2-None', Prime-Call-2-Some', Held-Prime-Delta-1, Prime-Delta-1-None', Prime-Delta-1-Some', Held-Prime-Rows-4, Prime-Rows-4-None', Prime-Rows-4-Some'}
 
 -- what stands at one place of an outline
-pub data Mark : Type 0 where
+pub data Entry : Type 0 where
   -- here begins a phrase of this production, by the alternative of this number
-  at_node : Production → ℕ → Mark
+  at_node : Production → ℕ → Entry
   -- a token that the tree keeps
-  kept : Token → Mark
+  kept : Token → Entry
   -- a token that it does not keep
-  left_out : Terminal → Mark
+  left_out : Terminal → Entry
 
-abbrev pub node : Production → ℕ → List Mark
+abbrev pub node : Production → ℕ → List Entry
 node s k = at_node s k ∷ []
 
-abbrev pub hold : Token → List Mark
+abbrev pub hold : Token → List Entry
 hold t = kept t ∷ []
 
-abbrev pub skip : Terminal → List Mark
+abbrev pub skip : Terminal → List Entry
 skip t = left_out t ∷ []
 
-abbrev pub name_row : Token → List Mark
+abbrev pub name_row : Token → List Entry
 name_row t = node phrases.more_names 0 ++ skip phrases.comma ++ hold t
 
-abbrev pub names_outline : Names → List Mark
+abbrev pub names_outline : Names → List Entry
 names_outline ns = node phrases.names 0 ++ hold ns.first ++ flat_map name_row ns.rest.items ++ node phrases.more_names 1
 
-abbrev pub renaming_outline : Renaming → List Mark
+abbrev pub renaming_outline : Renaming → List Entry
 renaming_outline r = node phrases.renaming 0 ++ hold r.new ++ skip phrases.equals ++ hold r.old
 
-abbrev pub renaming_row : Renaming → List Mark
+abbrev pub renaming_row : Renaming → List Entry
 renaming_row r = node phrases.more_renamings 0 ++ skip phrases.comma ++ renaming_outline r
 
-abbrev pub renamings_outline : Renamings → List Mark
+abbrev pub renamings_outline : Renamings → List Entry
 renamings_outline rs = node phrases.renamings 0 ++ renaming_outline rs.first ++ flat_map renaming_row rs.rest.items ++ node phrases.more_renamings 1
 
-abbrev pub agg_outline : AggTree → List Mark
+abbrev pub agg_outline : AggTree → List Entry
 agg_outline (Count t) = node phrases.agg 0 ++ hold t
 agg_outline (Of w b n) = node phrases.agg 1 ++ hold w ++ hold b ++ hold n ++ skip phrases.close_paren
 
-abbrev pub named_agg_outline : NamedAgg → List Mark
+abbrev pub named_agg_outline : NamedAgg → List Entry
 named_agg_outline a = node phrases.named_agg 0 ++ hold a.name ++ skip phrases.equals ++ agg_outline a.agg
 
-abbrev pub agg_row : NamedAgg → List Mark
+abbrev pub agg_row : NamedAgg → List Entry
 agg_row a = node phrases.more_aggs 0 ++ skip phrases.comma ++ named_agg_outline a
 
-abbrev pub aggs_outline : NamedAggs → List Mark
+abbrev pub aggs_outline : NamedAggs → List Entry
 aggs_outline aa = node phrases.aggs 0 ++ named_agg_outline aa.first ++ flat_map agg_row aa.rest.items ++ node phrases.more_aggs 1
 
 -- what stands before a prefix's operand
-abbrev pub prefix_start : Option Token → List Mark
+abbrev pub prefix_start : Option Token → List Entry
 prefix_start None = node phrases.prefix 1
 prefix_start (Some t) = node phrases.prefix 0 ++ hold t
 
-abbrev pub field_outline : Option Token → List Mark
+abbrev pub field_outline : Option Token → List Entry
 field_outline None = node phrases.field 1
 field_outline (Some t) = node phrases.field 0 ++ skip phrases.dot ++ hold t
 
@@ -109,81 +109,81 @@ more_of levels.Merges = phrases.more phrases.merges
 
 -- Which alternative a chain is, by the outlines of its tails. A comparison has at most one tail: one with more
 -- is by none that there is.
-abbrev pub alternative_of : Level → List (List Mark) → ℕ
+abbrev pub alternative_of : Level → List (List Entry) → ℕ
 alternative_of levels.Comparisons (tail ∷ other ∷ tails) = 1
 alternative_of _ tails = 0
 
 -- what stands behind the tails; behind the one of a comparison stands nothing
-abbrev pub chain_end : Level → List (List Mark) → List Mark
+abbrev pub chain_end : Level → List (List Entry) → List Entry
 chain_end levels.Comparisons (tail ∷ []) = []
 chain_end level tails = node (more_of level) 1
 
 -- a chain, by the outlines of its first operand and of its tails
-abbrev pub chain : Level → List Mark → List (List Mark) → List Mark
+abbrev pub chain : Level → List Entry → List (List Entry) → List Entry
 chain level first tails = node (production_of level) (alternative_of level tails) ++ first ++ flat_map (λ tail. node (more_of level) 0 ++ tail) tails ++ chain_end level tails
 
 abbrev mutual
-  pub expr_outline : Expr → List Mark
+  pub expr_outline : Expr → List Entry
   expr_outline (Expr' level first shape rest) = chain level (operand_outline first) (tails_outline rest)
 
-  pub tails_outline : {m : _} → Row_of-Tail m → List (List Mark)
+  pub tails_outline : {m : _} → Row_of-Tail m → List (List Entry)
   tails_outline end_of-Tail = []
   tails_outline (more_of-Tail op operand rest) = (hold op ++ operand_outline operand) ∷ tails_outline rest
 
-  pub operand_outline : Operand → List Mark
+  pub operand_outline : Operand → List Entry
   operand_outline (Inner' p e) = expr_outline e
   operand_outline (Prefix' op p operand field) = prefix_start op ++ (node phrases.post 0 ++ prime_outline operand ++ field_outline field)
 
-  pub args_outline : Args → List Mark
+  pub args_outline : Args → List Entry
   args_outline (Args' first shape rest) = node phrases.args 0 ++ expr_outline first ++ args_rest rest ++ node phrases.more_args 1
 
-  pub args_rest : {m : _} → Row_of-Expr m → List Mark
+  pub args_rest : {m : _} → Row_of-Expr m → List Entry
   args_rest end_of-Expr = []
   args_rest (more_of-Expr e rest) = (node phrases.more_args 0 ++ skip phrases.comma ++ expr_outline e) ++ args_rest rest
 
-  pub bindings_outline : Bindings → List Mark
+  pub bindings_outline : Bindings → List Entry
   bindings_outline (Bindings' first shape rest) = node phrases.bindings 0 ++ binding_outline first ++ bindings_rest rest ++ node phrases.more_bindings 1
 
-  pub bindings_rest : {m : _} → Row_of-Binding m → List Mark
+  pub bindings_rest : {m : _} → Row_of-Binding m → List Entry
   bindings_rest end_of-Binding = []
   bindings_rest (more_of-Binding e rest) = (node phrases.more_bindings 0 ++ skip phrases.comma ++ binding_outline e) ++ bindings_rest rest
 
-  pub atoms_outline : Atoms → List Mark
+  pub atoms_outline : Atoms → List Entry
   atoms_outline (Atoms' first shape rest) = node phrases.atoms 0 ++ atom_outline first ++ atoms_rest rest ++ node phrases.more_atoms 1
 
-  pub atoms_rest : {m : _} → Row_of-Atom m → List Mark
+  pub atoms_rest : {m : _} → Row_of-Atom m → List Entry
   atoms_rest end_of-Atom = []
   atoms_rest (more_of-Atom e rest) = (node phrases.more_atoms 0 ++ skip phrases.comma ++ atom_outline e) ++ atoms_rest rest
 
-  pub lines_outline : Lines → List Mark
+  pub lines_outline : Lines → List Entry
   lines_outline (Lines' first shape rest) = node phrases.lines 0 ++ line_outline first ++ lines_rest rest ++ node phrases.more_lines 1
 
-  pub lines_rest : {m : _} → Row_of-Line m → List Mark
+  pub lines_rest : {m : _} → Row_of-Line m → List Entry
   lines_rest end_of-Line = []
   lines_rest (more_of-Line e rest) = (node phrases.more_lines 0 ++ skip phrases.comma ++ line_outline e) ++ lines_rest rest
 
-  pub binding_outline : Binding → List Mark
+  pub binding_outline : Binding → List Entry
   binding_outline (Binding' name value) = node phrases.binding 0 ++ hold name ++ skip phrases.equals ++ expr_outline value
 
-  pub atom_outline : Atom → List Mark
+  pub atom_outline : Atom → List Entry
   atom_outline (Atom' sign name bracket args) = node phrases.atom 0 ++ hold sign ++ hold name ++ hold bracket ++ args_outline args ++ skip phrases.close_paren
 
-  pub line_outline : Line → List Mark
+  pub line_outline : Line → List Entry
   line_outline (Line' bracket args) = node phrases.line 0 ++ hold bracket ++ args_outline args ++ skip phrases.close_paren
 
-  pub call_args : Held-Prime-Call-2 → List Mark
+  pub call_args : Held-Prime-Call-2 → List Entry
   call_args Prime-Call-2-None' = node phrases.some_args 1
   call_args (Prime-Call-2-Some' p args) = node phrases.some_args 0 ++ args_outline args
 
-  pub delta_atoms : Held-Prime-Delta-1 → List Mark
+  pub delta_atoms : Held-Prime-Delta-1 → List Entry
   delta_atoms Prime-Delta-1-None' = node phrases.some_atoms 1
   delta_atoms (Prime-Delta-1-Some' p atoms) = node phrases.some_atoms 0 ++ atoms_outline atoms
 
-  pub rows_lines : Held-Prime-Rows-4 → List Mark
+  pub rows_lines : Held-Prime-Rows-4 → List Entry
   rows_lines Prime-Rows-4-None' = node phrases.some_lines 1
   rows_lines (Prime-Rows-4-Some' p lines) = node phrases.some_lines 0 ++ lines_outline lines
 
-  pub prime_outline : Prime → List Mark
+  pub prime_outline : Prime → List Entry
   prime_outline (Int t) = node phrases.prime 0 ++ hold t
   prime_outline (Text t) = node phrases.prime 1 ++ hold t
   prime_outline (True t) = node phrases.prime 2 ++ hold t
@@ -212,48 +212,48 @@ abbrev mutual
       node phrases.prime 17 ++ hold w ++ hold b ++ hold sign ++ hold n ++ skip phrases.comma ++ expr_outline over ++ skip phrases.close_paren
   prime_outline (Part' w b n p over) = node phrases.prime 18 ++ hold w ++ hold b ++ hold n ++ skip phrases.comma ++ expr_outline over ++ skip phrases.close_paren
 
-abbrev pub post_outline : Post → List Mark
+abbrev pub post_outline : Post → List Entry
 post_outline p = node phrases.post 0 ++ prime_outline p.operand.value ++ field_outline p.field
 
-abbrev pub prefix_outline : Prefix → List Mark
+abbrev pub prefix_outline : Prefix → List Entry
 prefix_outline p = prefix_start p.op ++ post_outline p.operand
 
-abbrev pub tail_outline : Tail → List Mark
+abbrev pub tail_outline : Tail → List Entry
 tail_outline t = hold t.op ++ operand_outline t.operand
 
 -- one more operator of a chain, and its operand
-abbrev pub tail_row : Level → Tail → List Mark
+abbrev pub tail_row : Level → Tail → List Entry
 tail_row level t = node (more_of level) 0 ++ tail_outline t
 
 -- what stands behind the first operand of a comparison
-abbrev pub comparison_rest : List Tail → List Mark
+abbrev pub comparison_rest : List Tail → List Entry
 comparison_rest [] = node phrases.more_cmp 1
 comparison_rest (t ∷ ts) = node phrases.more_cmp 0 ++ tail_outline t
 
-abbrev pub some_args_outline : Option Args → List Mark
+abbrev pub some_args_outline : Option Args → List Entry
 some_args_outline None = node phrases.some_args 1
 some_args_outline (Some args) = node phrases.some_args 0 ++ args_outline args
 
-abbrev pub some_atoms_outline : Option Atoms → List Mark
+abbrev pub some_atoms_outline : Option Atoms → List Entry
 some_atoms_outline None = node phrases.some_atoms 1
 some_atoms_outline (Some atoms) = node phrases.some_atoms 0 ++ atoms_outline atoms
 
-abbrev pub some_lines_outline : Option Lines → List Mark
+abbrev pub some_lines_outline : Option Lines → List Entry
 some_lines_outline None = node phrases.some_lines 1
 some_lines_outline (Some lines) = node phrases.some_lines 0 ++ lines_outline lines
 
 -- one more item of a list
-abbrev pub args_row : Expr → List Mark
+abbrev pub args_row : Expr → List Entry
 args_row e = node phrases.more_args 0 ++ skip phrases.comma ++ expr_outline e
 
 -- one more item of a list
-abbrev pub bindings_row : Binding → List Mark
+abbrev pub bindings_row : Binding → List Entry
 bindings_row e = node phrases.more_bindings 0 ++ skip phrases.comma ++ binding_outline e
 
 -- one more item of a list
-abbrev pub atoms_row : Atom → List Mark
+abbrev pub atoms_row : Atom → List Entry
 atoms_row e = node phrases.more_atoms 0 ++ skip phrases.comma ++ atom_outline e
 
 -- one more item of a list
-abbrev pub lines_row : Line → List Mark
+abbrev pub lines_row : Line → List Entry
 lines_row e = node phrases.more_lines 0 ++ skip phrases.comma ++ line_outline e

@@ -1,37 +1,37 @@
--- What the tokens of a script keep, by the numbers of the brackets in the list of punctuation.
-use Rattle.std.specs.Prelude.{◌≡◌, ℕ, ◌+◌, ◌-◌, ◌≤◌, List, [], ◌∷◌, Option, Some, None, Bool, true, false, cond, ◌||◌, ◌==◌, length}
+-- What the tokens of a script keep.
+use Rattle.std.specs.Prelude.{◌≡◌, ℕ, ◌+◌, ◌-◌, ◌≤◌, List, [], ◌∷◌, Option, Some, None, Bool, true, false, cond, ◌==◌, length}
 use Rattle.hera_syntax.specs.declared.token.TokenKind.{TokenKind}
 use Rattle.hera_syntax.specs.declared.token.TokenKind.TheVariants as kinds
 use Rattle.hera_syntax.specs.declared.token.Token.{Token}
+use Rattle.hera_syntax.specs.declared.words.Mark.TheVariants as puncts
+use Rattle.hera_syntax.specs.declared.tokens.TheConstants.{SCRIPT_LIMIT, DEPTH_LIMIT}
 use Rattle.hera_meaning.specs.Identifiers.{IsIdentifier}
 use Rattle.hera_meaning.specs.Scalars.{fits_int}
 use Rattle.hera_meaning.specs.Texts.{IsText}
 
 -- the most bytes of a script, and so the most tokens
 abbrev pub script_limit : ℕ
-script_limit = 1048576
+script_limit = SCRIPT_LIMIT
 
 -- an opening bracket
 abbrev pub opens : TokenKind → Bool
-opens (kinds.Ident name) = false
-opens (kinds.Int n) = false
-opens (kinds.Text text) = false
-opens (kinds.Key k) = false
-opens (kinds.Punct i) = (i == 0) || (i == 2) || (i == 4)
+opens (kinds.Punct puncts.OpenParen) = true
+opens (kinds.Punct puncts.OpenSquare) = true
+opens (kinds.Punct puncts.OpenBrace) = true
+opens _ = false
 
 -- a closing bracket
 abbrev pub closes : TokenKind → Bool
-closes (kinds.Ident name) = false
-closes (kinds.Int n) = false
-closes (kinds.Text text) = false
-closes (kinds.Key k) = false
-closes (kinds.Punct i) = (i == 1) || (i == 3) || (i == 5)
+closes (kinds.Punct puncts.CloseParen) = true
+closes (kinds.Punct puncts.CloseSquare) = true
+closes (kinds.Punct puncts.CloseBrace) = true
+closes _ = false
 
--- where the depth, which is this before the tokens, becomes 65
+-- where the depth, which is this before the tokens, passes its limit
 abbrev pub deep_at : ℕ → List Token → Option ℕ
 deep_at depth [] = None
 deep_at depth (t ∷ ts) =
-    cond (opens t.kind) (cond (depth == 64) (Some t.at) (deep_at (depth + 1) ts))
+    cond (opens t.kind) (cond (depth == DEPTH_LIMIT) (Some t.at) (deep_at (depth + 1) ts))
     (cond (closes t.kind) (deep_at (depth - 1) ts) (deep_at depth ts))
 
 -- the offsets ascend, from n on
@@ -45,7 +45,7 @@ HasValue (kinds.Ident name) = IsIdentifier name
 HasValue (kinds.Int n) = fits_int n ≡ true
 HasValue (kinds.Text text) = IsText text
 HasValue (kinds.Key k) = Unit {0}
-HasValue (kinds.Punct i) = Unit {0}
+HasValue (kinds.Punct m) = Unit {0}
 
 abbrev pub HaveValues : List Token → Type 0
 HaveValues [] = Unit {0}

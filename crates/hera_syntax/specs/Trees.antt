@@ -4,7 +4,7 @@ use Rattle.hera_syntax.specs.declared.token.Token.{Token}
 use Rattle.hera_syntax.specs.declared.token.Terminal.{Terminal}
 use Rattle.hera_syntax.specs.declared.tree.Tree.{Tree}
 use Rattle.hera_syntax.specs.Grammar.{Allows, terminal_of, Production, Part, keep, leave, phrase, alternatives, alternative, program}
-use Rattle.hera_syntax.specs.Outline.{Mark, at_node, kept, left_out}
+use Rattle.hera_syntax.specs.Outline.{Entry, at_node, kept, left_out}
 use Rattle.hera_syntax.specs.Programs.{outline}
 
 -- what a tree prints for one token: the token that it keeps, or the kind alone
@@ -13,7 +13,7 @@ pub data Printed : Type 0 where
   kind_alone : Terminal → Printed
 
 -- an outline without its nodes
-abbrev pub printed : List Mark → List Printed
+abbrev pub printed : List Entry → List Printed
 printed [] = []
 printed (at_node s k ∷ ms) = printed ms
 printed (kept t ∷ ms) = whole t ∷ printed ms
@@ -34,11 +34,11 @@ pub data Agree : List Printed → List Token → Type 0 where
   one_more : {p : Printed} {ps : List Printed} {t : Token} {ts : List Token} → Agrees p t → Agree ps ts → Agree (p ∷ ps) (t ∷ ts)
 
 -- the outline is of these parts, one after the other, and each of its nodes obeys its production
-pub data Obeys : List Part → List Mark → Type 0 where
+pub data Obeys : List Part → List Entry → Type 0 where
   no_part : Obeys [] []
-  keeps : {ts : List Terminal} {ps : List Part} {t : Token} {ms : List Mark} → Allows ts t → Obeys ps ms → Obeys (keep ts ∷ ps) (kept t ∷ ms)
-  leaves : {t : Terminal} {ps : List Part} {ms : List Mark} → Obeys ps ms → Obeys (leave t ∷ ps) (left_out t ∷ ms)
-  produces : {s : Production} {k : ℕ} {ps : List Part} {ms : List Mark}
+  keeps : {ts : List Terminal} {ps : List Part} {t : Token} {ms : List Entry} → Allows ts t → Obeys ps ms → Obeys (keep ts ∷ ps) (kept t ∷ ms)
+  leaves : {t : Terminal} {ps : List Part} {ms : List Entry} → Obeys ps ms → Obeys (leave t ∷ ps) (left_out t ∷ ms)
+  produces : {s : Production} {k : ℕ} {ps : List Part} {ms : List Entry}
       → k < length (alternatives s) → Obeys (alternative s k ++ ps) ms → Obeys (phrase s ∷ ps) (at_node s k ∷ ms)
 
 -- each node of the tree obeys its production

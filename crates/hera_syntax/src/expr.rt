@@ -4,7 +4,7 @@
 //! A chain of one level is flat: its first operand, and then each operator with its operand. A tree
 //! keeps the whole token of each name, literal, operator, heading keyword and opening bracket.
 
-use crate::{Terminal, Token};
+use crate::{Keyword, Mark, Terminal, Token};
 
 mod build;
 
@@ -55,26 +55,26 @@ impl Level {
         ensures { result.now ≡ operators_of self }
     {
         match self {
-            Level::Whens => &[Terminal::Key(24)],
-            Level::Ors => &[Terminal::Punct(25)],
-            Level::Ands => &[Terminal::Punct(24)],
+            Level::Whens => &[Terminal::Key(Keyword::When)],
+            Level::Ors => &[Terminal::Punct(Mark::OrOr)],
+            Level::Ands => &[Terminal::Punct(Mark::AndAnd)],
             Level::Comparisons => &[
-                Terminal::Punct(11),
-                Terminal::Punct(12),
-                Terminal::Punct(13),
-                Terminal::Punct(14),
-                Terminal::Punct(15),
-                Terminal::Punct(16),
-                Terminal::Key(14),
+                Terminal::Punct(Mark::EqualEqual),
+                Terminal::Punct(Mark::NotEqual),
+                Terminal::Punct(Mark::Less),
+                Terminal::Punct(Mark::LessEqual),
+                Terminal::Punct(Mark::Greater),
+                Terminal::Punct(Mark::GreaterEqual),
+                Terminal::Key(Keyword::In),
             ],
-            Level::Sums => &[Terminal::Punct(17), Terminal::Punct(18)],
+            Level::Sums => &[Terminal::Punct(Mark::Plus), Terminal::Punct(Mark::Minus)],
             Level::Terms => &[
-                Terminal::Punct(19),
-                Terminal::Punct(20),
-                Terminal::Punct(21),
+                Terminal::Punct(Mark::Star),
+                Terminal::Punct(Mark::Slash),
+                Terminal::Punct(Mark::Percent),
             ],
-            Level::Smashes => &[Terminal::Punct(22)],
-            Level::Merges => &[Terminal::Punct(23)],
+            Level::Smashes => &[Terminal::Punct(Mark::Bang)],
+            Level::Merges => &[Terminal::Punct(Mark::And)],
         }
     }
 }

@@ -8,14 +8,16 @@ mod expr;
 mod token;
 mod tokens;
 mod tree;
+mod words;
 
 pub use expr::{
     AggTree, Args, Atom, Atoms, Binding, Bindings, Expr, Level, Line, Lines, NamedAgg, NamedAggs,
     Names, Operand, Post, Prefix, Prime, Renaming, Renamings, Tail,
 };
 pub use token::{PieceShape, Terminal, Token, TokenKind};
-pub use tokens::Tokens;
+pub use tokens::{DEPTH_LIMIT, SCRIPT_LIMIT, Tokens};
 pub use tree::{
     AttrTree, Attrs, Block, ElseIf, Func, KindTree, Main, Param, Params, Proc, Relation,
     SchemaTree, StmtTree, Tree, TypeTree,
 };
+pub use words::{Keyword, Mark};

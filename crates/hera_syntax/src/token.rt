@@ -1,5 +1,6 @@
 ghost use Rattle.std.specs.Prelude.{◌≡◌, IfOk};
 
+use crate::words::{Keyword, Mark};
 use hera_meaning::{Name, Text};
 use std::alloc::AllocError;
 
@@ -20,23 +21,23 @@ pub enum PieceShape {
     Digits,
     /// A text between quotes.
     Quoted,
-    /// A punctuation, by its number in the list of all punctuation.
-    Punct(u8),
+    /// A punctuation.
+    Punct(Mark),
 }
 
 /// What a token is.
 #[derive(Drop)]
 pub enum TokenKind {
-    /// An identifier that is no keyword, of at most 255 bytes.
+    /// An identifier that is no keyword.
     Ident(Name),
     /// An int literal, from 0 to 2^63 - 1.
     Int(i64),
     /// A text literal: its value, without quotes and with its escapes undone.
     Text(Text),
-    /// A keyword, by its number in the list of all keywords, from 0.
-    Key(u8),
-    /// A punctuation, by its number in the list of all punctuation, from 0.
-    Punct(u8),
+    /// A keyword.
+    Key(Keyword),
+    /// A punctuation.
+    Punct(Mark),
 }
 
 /// What a token is, without its value: what the grammar sees of it.
@@ -48,36 +49,34 @@ pub enum Terminal {
     Int,
     /// A text literal.
     Text,
-    /// A keyword, by its number.
-    Key(u8),
-    /// A punctuation, by its number.
-    Punct(u8),
+    /// A keyword.
+    Key(Keyword),
+    /// A punctuation.
+    Punct(Mark),
 }
 
 impl Terminal {
-    ghost use Rattle.hera_syntax.specs.Grammar.{code};
+    ghost use Rattle.hera_syntax.specs.Grammar.{is_one_of, same_terminal};
 
-    /// A number of its own for each terminal.
-    pub fn code(self) -> u16
-        ensures { result ≡ code self }
+    /// Whether both are one.
+    pub fn is(self, other: Terminal) -> bool
+        ensures { result ≡ same_terminal self other }
     {
-        match self {
-            Terminal::Name => 0,
-            Terminal::Int => 1,
-            Terminal::Text => 2,
-            Terminal::Key(number) => 3 + 2 * number as u16,
-            Terminal::Punct(number) => 4 + 2 * number as u16,
+        match (self, other) {
+            (Terminal::Name, Terminal::Name) => true,
+            (Terminal::Int, Terminal::Int) => true,
+            (Terminal::Text, Terminal::Text) => true,
+            (Terminal::Key(one), Terminal::Key(two)) => one.is(two),
+            (Terminal::Punct(one), Terminal::Punct(two)) => one.is(two),
+            _ => false,
         }
     }
-
-    ghost use Rattle.hera_syntax.specs.Grammar.{is_one_of};
 
     /// Whether it is one of these.
     pub fn is_one_of(self, terminals: &[Terminal]) -> bool
         ensures { result ≡ is_one_of terminals.now self }
     {
-        let code = self.code();
-        terminals.iter().any(|terminal| terminal.code() == code)
+        terminals.iter().any(|terminal| terminal.is(self))
     }
 }
 
@@ -92,8 +91,8 @@ impl TokenKind {
             TokenKind::Ident(_) => Terminal::Name,
             TokenKind::Int(_) => Terminal::Int,
             TokenKind::Text(_) => Terminal::Text,
-            TokenKind::Key(number) => Terminal::Key(*number),
-            TokenKind::Punct(number) => Terminal::Punct(*number),
+            TokenKind::Key(keyword) => Terminal::Key(*keyword),
+            TokenKind::Punct(mark) => Terminal::Punct(*mark),
         }
     }
 
@@ -105,8 +104,8 @@ impl TokenKind {
             TokenKind::Ident(name) => Ok(TokenKind::Ident(name.copy()?)),
             TokenKind::Int(value) => Ok(TokenKind::Int(*value)),
             TokenKind::Text(text) => Ok(TokenKind::Text(text.copy()?)),
-            TokenKind::Key(number) => Ok(TokenKind::Key(*number)),
-            TokenKind::Punct(number) => Ok(TokenKind::Punct(*number)),
+            TokenKind::Key(keyword) => Ok(TokenKind::Key(*keyword)),
+            TokenKind::Punct(mark) => Ok(TokenKind::Punct(*mark)),
         }
     }
 }

@@ -1,8 +1,14 @@
 use crate::Token;
 use std::marker::Model;
 
-/// The tokens of a script, and the script's length in bytes. There are at most 1,048,576 of them, their
-/// offsets ascend, at most 64 brackets are open at once, names have an identifier's shape, ints are in
+/// The most bytes of a script, and so the most tokens.
+pub const SCRIPT_LIMIT: usize = 1_048_576;
+
+/// The most brackets that are open at once.
+pub const DEPTH_LIMIT: u32 = 64;
+
+/// The tokens of a script, and the script's length in bytes. There are at most [`SCRIPT_LIMIT`] of them, their
+/// offsets ascend, at most [`DEPTH_LIMIT`] brackets are open at once, names have an identifier's shape, ints are in
 /// range and texts are texts.
 #[derive(Drop)]
 pub struct Tokens {

@@ -139,8 +139,11 @@ pub enum StmtTree {
         word: Token,
         value: Expr,
     },
-    /// `'commit' ';'`
-    Commit(Token),
+    /// `'commit' text? ';'`
+    Commit {
+        word: Token,
+        label: Option<Token>,
+    },
     /// `'rollback' ';'`
     Rollback(Token),
     /// `'return' expr? ';'`

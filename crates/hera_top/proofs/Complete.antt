@@ -11,7 +11,7 @@ use Rattle.hera_syntax.specs.Tokens.{script_limit}
 use Rattle.hera_volume.specs.declared.file_id.FileId.{FileId}
 use Rattle.hera_store.specs.Databases.{Database, Holds, held, IsFound}
 use Rattle.hera_run.specs.Fitting.{all_fit, fitting}
-use Rattle.hera_run.specs.Outcome.{ran_in, filled, outcome_from, EndsAt, runs as comes_to_run}
+use Rattle.hera_run.specs.Outcome.{ran_in, filled, outcome_from, StartsAt, runs as comes_to_run}
 use Rattle.hera_top.specs.declared.refusal.Refusal.TheVariants.{Unread}
 use Rattle.hera_top.specs.declared.words.FolderCommand.{FolderCommand}
 use Rattle.hera_top.specs.declared.words.FolderCommand.TheVariants.{Run}
@@ -20,7 +20,7 @@ use Rattle.hera_top.specs.Passages.{Passage}
 use Rattle.hera_top.specs.Sources.{Seen}
 use Rattle.hera_top.specs.Told.{BeginsWith}
 use Rattle.hera_top.proofs.One.{OneRefusal, NeverBoth, OneProgram}
-use Rattle.hera_top.proofs.OneRun.{OneFound, OneEnd}
+use Rattle.hera_top.proofs.OneRun.{OneFound, OneEnd, OneVersion}
 use Rattle.hera_top.proofs.OneFolder.{one_outcome_in_a_folder}
 
 -- ---- the source did not fail
@@ -58,7 +58,7 @@ fit_whole db gate report fit = ap (λ (b : Bool). cond b (ran_in db report) (fil
 
 module _ (hosts : List Host) (turns : ℕ) (script : List ℕ) (files : FileId → List ℕ) (p : Program_tree) (db : Database) (gate : ℕ) (v : Passage)
     (reads : (f : FileId) → (v.disks_before f).bytes ≡ files f) (short : length script ≤ script_limit) (accepted : Accepted script hosts p)
-    (holds : Holds files db) (ends : EndsAt files db gate) (has : AllHas db.catalogue p.relations) where
+    (holds : Holds files db) (ends : StartsAt files db gate) (has : AllHas db.catalogue p.relations) where
   abbrev report : Report
   report = run_of (bound p db.catalogue) db.state (specs_of hosts) turns
 
@@ -70,7 +70,7 @@ module _ (hosts : List Host) (turns : ℕ) (script : List ℕ) (files : FileId �
       does
       (record { script = script; read = record { consumed = sym (append-nil script); ended = inl refl }; still = refl; short = short; accepted = accepted })
       (runs
-      (comes_to_run (λ told. subst (λ (g : FileId → List ℕ). IsFound g (held db)) same_files holds) (λ told. subst (λ (g : FileId → List ℕ). EndsAt g db gate) same_files ends) has))
+      (comes_to_run (λ told. subst (λ (g : FileId → List ℕ). IsFound g (held db)) same_files holds) (λ told. subst (λ (g : FileId → List ℕ). StartsAt g db gate) same_files ends) has))
 
 abbrev IsCutOrDone : FolderOutcome → ℕ → Passage → Type 0
 IsCutOrDone outcome status v = (status ≡ 6) ⊎ (status ≡ 8) ⊎ (status ≡ 9) ⊎ IsDone outcome status v
@@ -83,19 +83,19 @@ cut_or_done outcome status v said =
 up_or_done : (outcome : FolderOutcome) (status : ℕ) (v : Passage) → IsGivenUp status v → IsCutOrDone outcome status v
 up_or_done outcome status v up = ⊎_elim (λ six. inl six) (λ nine. inr (inr (inl nine.0))) up.cause
 
-pub a_run_is_complete : OneRefusal → NeverBoth → OneProgram → OneFound → OneEnd
+pub a_run_is_complete : OneRefusal → NeverBoth → OneProgram → OneFound → OneEnd → OneVersion
     → (hosts : List Host) (turns : ℕ) (script : List ℕ) (files : FileId → List ℕ) (p : Program_tree) (db : Database) (gate : ℕ) (before now : Seen) (v : Passage) (status : ℕ)
     → BeginsWith script files before v → ¬ Rose before.faults now.faults → length script ≤ script_limit → Accepted script hosts p
-    → Holds files db → EndsAt files db gate → AllHas db.catalogue p.relations → all_fit gate (run_of (bound p db.catalogue) db.state (specs_of hosts) turns).events ≡ true
+    → Holds files db → StartsAt files db gate → AllHas db.catalogue p.relations → all_fit gate (run_of (bound p db.catalogue) db.state (specs_of hosts) turns).events ≡ true
     → AnswersIn hosts (Run turns) before now status v
     → (status ≡ 6) ⊎ (status ≡ 8) ⊎ (status ≡ 9) ⊎ IsDone (ran (ran_in db (run_of (bound p db.catalogue) db.state (specs_of hosts) turns))) status v
-a_run_is_complete one never program found end hosts turns script files p db gate before now v status begins fine short accepted holds ends has fit (tells {outcome} came said) =
+a_run_is_complete one never program found end version hosts turns script files p db gate before now v status begins fine short accepted holds ends has fit (tells {outcome} came said) =
     let told = run_of (bound p db.catalogue) db.state (specs_of hosts) turns in
     let again : BeginsWith script files (full script) v = record { script_told = refl; files_told = begins.files_told; reads = begins.reads } in
     let same : outcome ≡ ran (outcome_from db gate told) =
-    one_outcome_in_a_folder one never program found end hosts (Run turns) script files before now (full script) empty v v outcome (ran (outcome_from db gate told)) begins again came
+    one_outcome_in_a_folder one never program found end version hosts (Run turns) script files before now (full script) empty v v outcome (ran (outcome_from db gate told)) begins again came
     (comes hosts turns script files p db gate v begins.reads short accepted holds ends has) (not_unread hosts before now v (Run turns) outcome fine came) (λ is. cc (is)) in
     let whole : outcome ≡ ran (ran_in db told) = same ∙ ap ran (fit_whole db gate told fit) in
     cut_or_done (ran (ran_in db told)) status v (subst (λ (o : FolderOutcome). IsSaidOf o status v) whole said)
-a_run_is_complete one never program found end hosts turns script files p db gate before now v status begins fine short accepted holds ends has fit (fails still up) =
+a_run_is_complete one never program found end version hosts turns script files p db gate before now v status begins fine short accepted holds ends has fit (fails still up) =
     up_or_done (ran (ran_in db (run_of (bound p db.catalogue) db.state (specs_of hosts) turns))) status v up

@@ -4,6 +4,7 @@ use Rattle.std.specs.Prelude.{slice_get, All}
 use Rattle.std.specs.List.{list_all}
 use Rattle.std.proofs.lemmas.Bool.{and_from}
 use Rattle.std.proofs.lemmas.List.Elements.{All-head, All-tail}
+use Rattle.hera_meaning.specs.Commits.{after_all}
 use Rattle.hera_sets.specs.Rows.{Row}
 use Rattle.hera_meaning.specs.declared.schemas.Attr.{Attr}
 use Rattle.hera_meaning.specs.declared.schemas.RelDecl.{RelDecl}
@@ -11,18 +12,17 @@ use Rattle.hera_meaning.specs.Deltas.{Delta, State, IsState, apply_of}
 use Rattle.hera_meaning.specs.Printed.{decl_text, table_text}
 use Rattle.hera_meaning.specs.Rows.{IsRow, is_row}
 use Rattle.hera_meaning.proofs.RowsRead.{is_row-from_IsRow}
-use Rattle.commit_journal.specs.Halves.{state_with}
-use Rattle.when_overlay.specs.Changed.{after_all}
+use Rattle.when_overlay.specs.Changed.{after_all as seen_after}
 use Rattle.hera_top.specs.Dumping.{relation_text}
 use Rattle.hera_top.specs.Folder.{tables_text}
 
 -- two ways to say what commits do to a state
-pub same_after : (s : State) (ds : List Delta) → after_all s ds ≡ state_with s ds
+pub same_after : (s : State) (ds : List Delta) → seen_after s ds ≡ after_all s ds
 same_after s [] = refl
 same_after s (d ∷ ds) = same_after (apply_of s d) ds
 
-pub after_commits : (s : State) (ds : List Delta) → after_all s (ds ++ []) ≡ state_with s ds
-after_commits s ds = ap (after_all s) (append-nil ds) ∙ same_after s ds
+pub after_commits : (s : State) (ds : List Delta) → seen_after s (ds ++ []) ≡ after_all s ds
+after_commits s ds = ap (seen_after s) (append-nil ds) ∙ same_after s ds
 
 -- the text from one relation on
 pub next_relation : (rels : List RelDecl) (s : State) (r : ℕ) → IsState rels s → r < length rels

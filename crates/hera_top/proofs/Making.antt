@@ -3,8 +3,7 @@ use Rattle.std.proofs.Common.{◌≡◌, ◌≢◌, ℕ, inl, inr, ⊎_elim, Lis
 use Rattle.std.specs.Prelude.{codes}
 use Rattle.std.specs.Io.KnownBytes.{Appends, Keeps}
 use Rattle.hera_meaning.specs.declared.schemas.RelDecl.{RelDecl}
-use Rattle.rel_format.specs.Pages.{format_one}
-use Rattle.rel_format.specs.Journal.{IsHalf}
+use Rattle.rel_format.specs.Versions.{IsHalfOf}
 use Rattle.hera_volume.specs.Disk.{Disk, IsImage, IsSettled}
 use Rattle.hera_volume.specs.Time.{Image, IsImageOf, IsImageAmid, LeavesOnly}
 use Rattle.hera_volume.specs.declared.file_id.FileId.{FileId}
@@ -25,7 +24,7 @@ pub holds_same : (files others : FileId → List ℕ) (db : Database) → ((f : 
 holds_same files others db same holds = record {
   byte = holds.byte;
   selects = same Select ∙ holds.selects;
-  half = subst (λ (bytes : List ℕ). IsHalf format_one bytes db.catalogue db.state) (sym (same (half_named holds.byte))) holds.half;
+  half = subst (λ (bytes : List ℕ). IsHalfOf bytes db.catalogue db.state) (sym (same (half_named holds.byte))) holds.half;
 }
 
 module _ {D : Type 0} (told : Type 0) (disk : D → FileId → Disk) (emitted : D → Option (List ℕ)) (output device moment : D → ℕ) (left_since : D → ℕ → Image → Type 0)

@@ -11,17 +11,17 @@ use Rattle.hera_volume.specs.declared.file_id.FileId.{FileId}
 use Rattle.hera_volume.specs.declared.file_id.FileId.TheVariants.{Select}
 use Rattle.hera_store.specs.Databases.{Database, Found, absent, spoilt, held, IsFound}
 use Rattle.hera_store.specs.Faults.{half_with}
-use Rattle.hera_run.specs.Outcome.{EndsAt}
+use Rattle.hera_run.specs.Outcome.{StartsAt, Overfills}
 use Rattle.hera_top.specs.declared.refusal.Refusal.{Refusal}
 use Rattle.hera_top.specs.declared.refusal.Refusal.TheVariants.{Unread, Script, Damaged}
 use Rattle.hera_top.specs.declared.words.FolderCommand.{FolderCommand}
 use Rattle.hera_top.specs.Outcome.{IsRead}
-use Rattle.hera_top.specs.Folder.{FolderOutcome, turned_away, dumped, renewed, too_long, ran, IsThere, IsEnding, IsVacant, IsTaken, Gives, IsTurnedAway, unread, refuses, DoesIn, makes, is_taken, runs, ReadsScript, ComesToThere, finds_none, finds_damage, dumps, renews, overflows, ComesToIn, reads_none, does, dump_comes, checkpoint_comes}
+use Rattle.hera_top.specs.Folder.{FolderOutcome, turned_away, dumped, renewed, too_long, ran, IsThere, IsStarting, IsOverfull, IsVacant, IsTaken, Gives, IsTurnedAway, unread, refuses, DoesIn, makes, is_taken, runs, ReadsScript, ComesToThere, finds_none, finds_damage, dumps, renews, overflows, ComesToIn, reads_none, does, dump_comes, checkpoint_comes}
 use Rattle.hera_top.specs.Passages.{Passage}
 use Rattle.hera_top.specs.Sources.{Seen}
 use Rattle.hera_top.specs.Told.{BeginsWith}
 use Rattle.hera_top.proofs.One.{OneRefusal, NeverBoth, OneProgram}
-use Rattle.hera_top.proofs.OneRun.{OneFound, OneEnd, one_run}
+use Rattle.hera_top.proofs.OneRun.{OneFound, OneEnd, OneVersion, one_run}
 use Rattle.hera_top.proofs.Outcomes.{refused_whole, given_whole}
 
 -- ---- the files that are told
@@ -33,8 +33,11 @@ module _ (files : FileId → List ℕ) (v : Passage) (told : v.told) (reads : (f
   found_in : (x : Found) → IsThere v x → IsFound files x
   found_in x there = subst (λ (g : FileId → List ℕ). IsFound g x) same_files (there told)
 
-  ends_in : (db : Database) (gate : ℕ) → IsEnding v db gate → EndsAt files db gate
-  ends_in db gate ends = subst (λ (g : FileId → List ℕ). EndsAt g db gate) same_files (ends told)
+  starts_in : (db : Database) (gate : ℕ) → IsStarting v db gate → StartsAt files db gate
+  starts_in db gate starts = subst (λ (g : FileId → List ℕ). StartsAt g db gate) same_files (starts told)
+
+  full_in : (db : Database) → IsOverfull v db → Overfills files db
+  full_in db full = subst (λ (g : FileId → List ℕ). Overfills g db) same_files (full told)
 
   vacant_in : IsVacant v → files Select ≡ []
   vacant_in vacant = sym (reads Select) ∙ vacant told
@@ -86,7 +89,7 @@ does_read hosts p v _ _ (makes vacant) = tt
 does_read hosts p v _ _ (is_taken taken) = tt
 does_read hosts p v _ _ (runs ran_to) = tt
 
-module _ (one : OneFound) (end : OneEnd) (files : FileId → List ℕ) (v w : Passage) (v_told : v.told) (w_told : w.told)
+module _ (one : OneFound) (end : OneEnd) (version : OneVersion) (files : FileId → List ℕ) (v w : Passage) (v_told : v.told) (w_told : w.told)
     (v_reads : (f : FileId) → (v.disks_before f).bytes ≡ files f) (w_reads : (f : FileId) → (w.disks_before f).bytes ≡ files f) where
   both : (x y : Found) → IsThere v x → IsThere w y → x ≡ y
   both x y first second = one files x y (found_in files v v_told v_reads x first) (found_in files w w_told w_reads y second)
@@ -98,8 +101,8 @@ module _ (one : OneFound) (end : OneEnd) (files : FileId → List ℕ) (v w : Pa
   one_done hosts p _ _ _ (is_taken taken) (is_taken also) = refl
   one_done hosts p _ _ _ (runs {turns = n} {outcome = a} first) (runs {outcome = b} second) =
       ap ran
-      (one_run one end files hosts n p (λ found. IsThere v found) (λ found. IsThere w found) (λ db gate. IsEnding v db gate) (λ db gate. IsEnding w db gate)
-      (found_in files v v_told v_reads) (found_in files w w_told w_reads) (ends_in files v v_told v_reads) (ends_in files w w_told w_reads) a b first second)
+      (one_run one end version files hosts n p (λ found. IsThere v found) (λ found. IsThere w found) (λ db gate. IsStarting v db gate) (λ db gate. IsStarting w db gate) (λ db. IsOverfull v db) (λ db. IsOverfull w db)
+      (found_in files v v_told v_reads) (found_in files w w_told w_reads) (starts_in files v v_told v_reads) (starts_in files w w_told w_reads) (full_in files v v_told v_reads) (full_in files w w_told w_reads) a b first second)
 
   same_damage : (f g : FileId) (a b : ℕ) → spoilt f a ≡ spoilt g b → turned_away (Damaged f a) ≡ turned_away (Damaged g b)
   same_damage f g a b is =
@@ -140,28 +143,28 @@ module _ (one : OneFound) (end : OneEnd) (files : FileId → List ℕ) (v w : Pa
 
 -- ---- the outcome
 
-pub one_outcome_in_a_folder : OneRefusal → NeverBoth → OneProgram → OneFound → OneEnd
+pub one_outcome_in_a_folder : OneRefusal → NeverBoth → OneProgram → OneFound → OneEnd → OneVersion
     → (hosts : List Host) (command : FolderCommand) (script : List ℕ) (files : FileId → List ℕ) (before now later after : Seen) (v w : Passage) (a b : FolderOutcome)
     → BeginsWith script files before v → BeginsWith script files later w → ComesToIn hosts before now v command a → ComesToIn hosts later after w command b
     → a ≢ turned_away Unread → b ≢ turned_away Unread → a ≡ b
-one_outcome_in_a_folder one never program found end hosts command script files before now later after v w _ _ x y (reads_none {refusal = r} reads first) (reads_none {refusal = s} also second) not_a not_b =
+one_outcome_in_a_folder one never program found end version hosts command script files before now later after v w _ _ x y (reads_none {refusal = r} reads first) (reads_none {refusal = s} also second) not_a not_b =
     one_refusal one hosts script r s (refused_so hosts script before now r x.script_told not_a first) (refused_so hosts script later after s y.script_told not_b second)
-one_outcome_in_a_folder one never program found end hosts command script files before now later after v w _ _ x y (reads_none {refusal = r} reads first) (does {p} gives done) not_a not_b =
+one_outcome_in_a_folder one never program found end version hosts command script files before now later after v w _ _ x y (reads_none {refusal = r} reads first) (does {p} gives done) not_a not_b =
     absurd (refused_or_given never hosts script later after r p y.script_told (refused_so hosts script before now r x.script_told not_a first) gives)
-one_outcome_in_a_folder one never program found end hosts _ script files before now later after v w _ _ x y (reads_none reads first) (dump_comes second) not_a not_b = absurd reads
-one_outcome_in_a_folder one never program found end hosts _ script files before now later after v w _ _ x y (reads_none reads first) (checkpoint_comes second) not_a not_b = absurd reads
-one_outcome_in_a_folder one never program found end hosts command script files before now later after v w _ _ x y (does {p} gives done) (reads_none {refusal = s} also second) not_a not_b =
+one_outcome_in_a_folder one never program found end version hosts _ script files before now later after v w _ _ x y (reads_none reads first) (dump_comes second) not_a not_b = absurd reads
+one_outcome_in_a_folder one never program found end version hosts _ script files before now later after v w _ _ x y (reads_none reads first) (checkpoint_comes second) not_a not_b = absurd reads
+one_outcome_in_a_folder one never program found end version hosts command script files before now later after v w _ _ x y (does {p} gives done) (reads_none {refusal = s} also second) not_a not_b =
     absurd (refused_or_given never hosts script before now s p x.script_told (refused_so hosts script later after s y.script_told not_b second) gives)
-one_outcome_in_a_folder one never program found end hosts command script files before now later after v w a b x y (does {p} gives done) (does {p = q} given also) not_a not_b =
+one_outcome_in_a_folder one never program found end version hosts command script files before now later after v w a b x y (does {p} gives done) (does {p = q} given also) not_a not_b =
     let same : p ≡ q = program hosts script p q (given_accepted hosts script before now p x.script_told gives) (given_accepted hosts script later after q y.script_told given) in
-    one_done found end files v w x.files_told y.files_told x.reads y.reads hosts p command a b done (subst (λ (r : Program_tree). DoesIn hosts r w command b) (sym same) also)
-one_outcome_in_a_folder one never program found end hosts _ script files before now later after v w a b x y (does {p} gives done) (dump_comes second) not_a not_b = absurd (does_read hosts p v _ a done)
-one_outcome_in_a_folder one never program found end hosts _ script files before now later after v w a b x y (does {p} gives done) (checkpoint_comes second) not_a not_b = absurd (does_read hosts p v _ a done)
-one_outcome_in_a_folder one never program found end hosts _ script files before now later after v w a b x y (dump_comes first) (reads_none also second) not_a not_b = absurd also
-one_outcome_in_a_folder one never program found end hosts _ script files before now later after v w a b x y (dump_comes first) (does {p} gives done) not_a not_b = absurd (does_read hosts p w _ b done)
-one_outcome_in_a_folder one never program found end hosts _ script files before now later after v w a b x y (dump_comes first) (dump_comes second) not_a not_b =
-    one_there found end files v w x.files_told y.files_told x.reads y.reads _ a b first second
-one_outcome_in_a_folder one never program found end hosts _ script files before now later after v w a b x y (checkpoint_comes first) (reads_none also second) not_a not_b = absurd also
-one_outcome_in_a_folder one never program found end hosts _ script files before now later after v w a b x y (checkpoint_comes first) (does {p} gives done) not_a not_b = absurd (does_read hosts p w _ b done)
-one_outcome_in_a_folder one never program found end hosts _ script files before now later after v w a b x y (checkpoint_comes first) (checkpoint_comes second) not_a not_b =
-    one_there found end files v w x.files_told y.files_told x.reads y.reads _ a b first second
+    one_done found end version files v w x.files_told y.files_told x.reads y.reads hosts p command a b done (subst (λ (r : Program_tree). DoesIn hosts r w command b) (sym same) also)
+one_outcome_in_a_folder one never program found end version hosts _ script files before now later after v w a b x y (does {p} gives done) (dump_comes second) not_a not_b = absurd (does_read hosts p v _ a done)
+one_outcome_in_a_folder one never program found end version hosts _ script files before now later after v w a b x y (does {p} gives done) (checkpoint_comes second) not_a not_b = absurd (does_read hosts p v _ a done)
+one_outcome_in_a_folder one never program found end version hosts _ script files before now later after v w a b x y (dump_comes first) (reads_none also second) not_a not_b = absurd also
+one_outcome_in_a_folder one never program found end version hosts _ script files before now later after v w a b x y (dump_comes first) (does {p} gives done) not_a not_b = absurd (does_read hosts p w _ b done)
+one_outcome_in_a_folder one never program found end version hosts _ script files before now later after v w a b x y (dump_comes first) (dump_comes second) not_a not_b =
+    one_there found end version files v w x.files_told y.files_told x.reads y.reads _ a b first second
+one_outcome_in_a_folder one never program found end version hosts _ script files before now later after v w a b x y (checkpoint_comes first) (reads_none also second) not_a not_b = absurd also
+one_outcome_in_a_folder one never program found end version hosts _ script files before now later after v w a b x y (checkpoint_comes first) (does {p} gives done) not_a not_b = absurd (does_read hosts p w _ b done)
+one_outcome_in_a_folder one never program found end version hosts _ script files before now later after v w a b x y (checkpoint_comes first) (checkpoint_comes second) not_a not_b =
+    one_there found end version files v w x.files_told y.files_told x.reads y.reads _ a b first second

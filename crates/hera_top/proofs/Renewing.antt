@@ -2,12 +2,13 @@
 use Rattle.std.proofs.Common.{◌≡◌, ◌≤◌, ◌==◌, ℕ, Bool, true, false, cond, inl, inr, ⊎_elim, List, [], ◌∷◌, ◌++◌, length, take, Option, Some, refl, sym, ap, ◌∙◌, subst, append-nil}
 use Rattle.std.specs.Prelude.{codes}
 use Rattle.std.specs.Io.KnownBytes.{Appends, Keeps}
-use Rattle.std.proofs.lemmas.List.Elements.{All-nil}
 use Rattle.hera_meaning.specs.declared.schemas.RelDecl.{RelDecl}
 use Rattle.hera_meaning.specs.Catalogues.{IsCatalogue}
 use Rattle.hera_meaning.specs.Deltas.{State, IsState}
-use Rattle.rel_format.specs.Pages.{format_one, pages_of}
-use Rattle.rel_format.specs.Journal.{IsHalf, IsRecordOf, half_limit}
+use Rattle.rel_format.specs.Journal.{half_limit}
+use Rattle.rel_format.specs.Versions.{IsHalfOf}
+use Rattle.rel_format.specs.declared.version.Version.TheVariants.{Two}
+use Rattle.half_laws.proofs.Halves.{half_of_is}
 use Rattle.hera_volume.specs.Disk.{Disk, IsImage, IsSettled}
 use Rattle.hera_volume.specs.Time.{Image, IsImageOf, IsImageAmid, LeavesOnly}
 use Rattle.hera_volume.specs.declared.file_id.FileId.{FileId}
@@ -25,20 +26,8 @@ use Rattle.hera_top.specs.Passages.{Passage, passage, KeepsFiles}
 use Rattle.hera_top.proofs.Opening.{over, kept_none, appends_same, whole_behind, cut_behind}
 
 -- a half as it is printed holds what it prints
-pub half_holds : (db : Database) → IsCatalogue db.catalogue → IsState db.catalogue db.state → length (half_with db) ≤ half_limit → IsHalf format_one (half_with db) db.catalogue db.state
-half_holds db known valid short = record {
-  short = short;
-  catalogue = known;
-  paged = db.state;
-  valid = valid;
-  deltas = [];
-  records = All-nil (IsRecordOf db.catalogue);
-  gate = 0;
-  closed = λ is. cc (is);
-  rest = [];
-  printed = ap (λ (l : List ℕ). l ++ 0 ∷ []) (sym (append-nil (pages_of format_one db.catalogue db.state)));
-  behind = refl;
-}
+half_holds : (db : Database) → IsCatalogue db.catalogue → IsState db.catalogue db.state → length (half_with db) ≤ half_limit → IsHalfOf (half_with db) db.catalogue db.state
+half_holds db known valid short = (Two, (half_of_is db.catalogue db.state known valid short).half)
 
 no_select : (b : Bool) → cond b Right Left ≡ Select → ⊥
 no_select true is = cc (is)
@@ -56,20 +45,20 @@ found_settled disks store stands files image =
     let (byte, is, names) = stands.named in
     let db = database_of store in
     let same : (f : FileId) → files f ≡ (disks f).bytes = λ f. image-settled (disks f) (files f) (stands.settled f) (image f) in
-    let half : IsHalf format_one (disks (half_named byte)).bytes db.catalogue db.state = subst (λ (f : FileId). IsHalf format_one (disks f).bytes db.catalogue db.state) (sym names) stands.half.half in
+    let half : IsHalfOf (disks (half_named byte)).bytes db.catalogue db.state = subst (λ (f : FileId). IsHalfOf (disks f).bytes db.catalogue db.state) (sym names) (store.base.version, stands.half.half) in
     record {
       byte = byte;
       selects = same Select ∙ is;
-      half = subst (λ (bytes : List ℕ). IsHalf format_one bytes db.catalogue db.state) (sym (same (half_named byte))) half;
+      half = subst (λ (bytes : List ℕ). IsHalfOf bytes db.catalogue db.state) (sym (same (half_named byte))) half;
     }
 
 -- what files hold whose other half was printed anew and selected
 module _ (db : Database) (half : FileId) (files : FileId → List ℕ) (printed : files (other_half half) ≡ half_with db) (selects : files Select ≡ select_byte (other_half half) ∷ []) where
-  holds_renewed : half_named (select_byte (other_half half)) ≡ other_half half → IsHalf format_one (half_with db) db.catalogue db.state → Holds files db
+  holds_renewed : half_named (select_byte (other_half half)) ≡ other_half half → IsHalfOf (half_with db) db.catalogue db.state → Holds files db
   holds_renewed named whole = record {
     byte = select_byte (other_half half);
     selects = selects;
-    half = subst (λ (f : FileId). IsHalf format_one (files f) db.catalogue db.state) (sym named) (subst (λ (bytes : List ℕ). IsHalf format_one bytes db.catalogue db.state) (sym printed) whole);
+    half = subst (λ (f : FileId). IsHalfOf (files f) db.catalogue db.state) (sym named) (subst (λ (bytes : List ℕ). IsHalfOf bytes db.catalogue db.state) (sym printed) whole);
   }
 
   is_renewed : half_named (select_byte (other_half half)) ≡ other_half half → (before : FileId → List ℕ) → Names (before Select) half → IsRenewed db before files

@@ -66,10 +66,10 @@ module _ (code : Code) (rels : List RelDecl) (hosts : Hosts) (s : State) (turns 
       ap (λ (k : ℕ). printed (events_in (code_at code rels s hosts turns k))) here ∙ ap printed (ap events_in (a.goes_on 0)) ∙ a.printed_is
 
   -- what a step tells, of the commits so far
-  pub stepped : (m new : Standing) (ds given : List Delta) (e told : machine_event.Event) → given ≡ ds → e ≡ told
+  pub stepped : (m new : Standing) (ds given : List Delta) (e told : machine_event.Event) → state_over s given ≡ state_over s ds → e ≡ told
       → Tells m.code m.relations hosts (state_over s given) e m new → Tells m.code m.relations hosts (state_over s ds) told m new
   stepped m new ds given e told same event is =
-      subst (λ (l : List Delta). Tells m.code m.relations hosts (state_over s l) told m new) same
+      subst (λ (t : State). Tells m.code m.relations hosts t told m new) same
       (subst (λ (x : machine_event.Event). Tells m.code m.relations hosts (state_over s given) x m new) event is)
 
   -- what a step lowers, of this code

@@ -18,7 +18,7 @@ use Rattle.hera_host.specs.Tables.{Host}
 use Rattle.hera_rules.specs.Accepted.{Accepted}
 use Rattle.hera_run.specs.Outcome as run
 use Rattle.hera_run.specs.Passages.{ReadsAsBefore, Stores}
-use Rattle.hera_run.specs.Outcome.{RunOutcome, text_of_outcome, status_of_outcome, EndsAt, RunsTo}
+use Rattle.hera_run.specs.Outcome.{RunOutcome, text_of_outcome, status_of_outcome, StartsAt, Overfills, RunsTo}
 use Rattle.hera_run.specs.declared.status.RunStatus.{RunStatus}
 use Rattle.hera_run.specs.declared.status.RunStatus.TheVariants.{Done, Trapped, Spent, Refused, Device, Output, Memory, Full}
 use Rattle.hera_script.specs.declared.cause.Cause.{Cause}
@@ -165,9 +165,13 @@ pub record IsGivenUp (status : ℕ) (v : Passage) : Type 0 where
 abbrev pub IsThere : Passage → Found → Type 0
 IsThere v found = v.told → IsFound (λ f. (v.disks_before f).bytes) found
 
--- the half that was selected had this database, and its journal ended at this gate
-abbrev pub IsEnding : Passage → Database → ℕ → Type 0
-IsEnding v db gate = v.told → EndsAt (λ f. (v.disks_before f).bytes) db gate
+-- the half that was selected had this database, and the records of a run stand behind this gate
+abbrev pub IsStarting : Passage → Database → ℕ → Type 0
+IsStarting v db gate = v.told → StartsAt (λ f. (v.disks_before f).bytes) db gate
+
+-- the half that was selected had format 1 and this database, which in format 2 passes the limit
+abbrev pub IsOverfull : Passage → Database → Type 0
+IsOverfull v db = v.told → Overfills (λ f. (v.disks_before f).bytes) db
 
 -- `select` was empty, or was not
 abbrev pub IsVacant : Passage → Type 0
@@ -193,7 +197,7 @@ pub data IsTurnedAway (hosts : List Host) (before now : Seen) : Refusal → Type
 pub data DoesIn (hosts : List Host) (p : Program_tree) (v : Passage) : FolderCommand → FolderOutcome → Type 0 where
   makes : IsVacant v → DoesIn hosts p v Init (made p.relations)
   is_taken : IsTaken v → DoesIn hosts p v Init (turned_away Exists)
-  runs : {turns : ℕ} {outcome : RunOutcome} → RunsTo hosts turns p (λ found. IsThere v found) (λ db gate. IsEnding v db gate) outcome → DoesIn hosts p v (Run turns) (ran outcome)
+  runs : {turns : ℕ} {outcome : RunOutcome} → RunsTo hosts turns p (λ found. IsThere v found) (λ db gate. IsStarting v db gate) (λ db. IsOverfull v db) outcome → DoesIn hosts p v (Run turns) (ran outcome)
 
 -- a command that reads a script
 abbrev pub ReadsScript : FolderCommand → Type 0

@@ -30,10 +30,8 @@ use hera_run::run_in_folder;
 use hera_script::{Cause, ScriptFault, read_program};
 use hera_store::{CheckFault, InitFault, OpenFault, Store, init_store, open_store};
 use hera_volume::Outside;
+use rel_format::HALF_LIMIT;
 use std::alloc::Global;
-
-/// The most bytes of a half.
-const HALF_LIMIT: u64 = 268_435_456;
 
 /// Opens the database in the folder, or says why there is none and gives the status.
 fn open_database<W: Outside>(alloc: Global, outside: &mut W) -> Result<Store, ExitStatus>

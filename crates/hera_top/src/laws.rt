@@ -10,7 +10,7 @@ ghost use Rattle.hera_rules.specs.Bound.{bound};
 ghost use Rattle.hera_bind.specs.Having.{AllHas};
 ghost use Rattle.hera_store.specs.Databases.{Database, Holds};
 ghost use Rattle.hera_run.specs.Fitting.{all_fit};
-ghost use Rattle.hera_run.specs.Outcome.{ran_in, EndsAt};
+ghost use Rattle.hera_run.specs.Outcome.{ran_in, StartsAt};
 ghost use Rattle.hera_top.specs.declared.words.FolderCommand.{FolderCommand};
 ghost use Rattle.hera_top.specs.declared.words.ScriptCommand.{ScriptCommand};
 ghost use Rattle.hera_script.specs.Refusing.{IsRefused};
@@ -26,7 +26,7 @@ ghost use Rattle.hera_top.specs.Told.{BeginsWith};
 ghost use Rattle.hera_top.specs.declared.refusal.Refusal.{Refusal};
 ghost use Rattle.hera_top.specs.Outcome.{Outcome, prints, ran, refused, ComesTo, IsRead};
 
-use half_laws::laws::{a_half_has_one_catalogue_and_state, format_one_is_a_format};
+use half_laws::laws::{a_half_has_one_catalogue_and_state, a_half_has_one_version};
 use hera_bind::laws::a_program_is_bound_to_its_own_relations;
 use hera_readings::{faults_have_places, some_tokens, some_tree};
 use hera_rules::typing_is_exact;
@@ -67,17 +67,17 @@ pub fn one_outcome_in_a_folder<W: Outside>()
 {
     a_script_has_one_answer();
     one_thing_is_found();
-    format_one_is_a_format();
+    a_half_has_one_version();
     a_half_has_one_catalogue_and_state();
 }
 
-/// Completeness of `run`. Let a script be accepted, the files hold a database with all relations that it declares, each
-/// of its commits fit into the half, and the source not fail. Then `run` does the whole of what the script means, and
+/// Completeness of `run`. Let a script be accepted, the files hold a database with all relations that it declares, whose
+/// half, where it is of format 1, fits in format 2, each of its commits fit into the half, and the source not fail. Then `run` does the whole of what the script means, and
 /// ends as that ends, but where a call on a file failed (6), the output did (8) or there was no memory (9).
 pub fn a_run_is_complete<W: Outside>()
     ensures { (hosts : List Host) (turns : ℕ) (script : List ℕ) (files : FileId → List ℕ) (p : Program_tree) (db : Database) (gate : ℕ) (before now : Seen) (first last : W) (status : ℕ)
         → BeginsWith script files before (passage W.told W.disk W.emitted W.output_faults W.device_faults W.moment W.left_since first last) → ¬ Rose before.faults now.faults
-        → length script ≤ script_limit → Accepted script hosts p → Holds files db → EndsAt files db gate → AllHas db.catalogue p.relations
+        → length script ≤ script_limit → Accepted script hosts p → Holds files db → StartsAt files db gate → AllHas db.catalogue p.relations
         → all_fit gate (run_of (bound p db.catalogue) db.state (specs_of hosts) turns).events ≡ true
         → AnswersIn hosts (FolderCommand.Run turns) before now status (passage W.told W.disk W.emitted W.output_faults W.device_faults W.moment W.left_since first last)
         → (status ≡ 6) ⊎ (status ≡ 8) ⊎ (status ≡ 9)
@@ -85,7 +85,7 @@ pub fn a_run_is_complete<W: Outside>()
 {
     a_script_has_one_answer();
     one_thing_is_found();
-    format_one_is_a_format();
+    a_half_has_one_version();
     a_half_has_one_catalogue_and_state();
 }
 

@@ -1,4 +1,4 @@
-ghost use Rattle.std.specs.Prelude.{◌≡◌, ◌≢◌, ◌≤◌, ◌⊎◌, [], None, IfOk, OnErr};
+ghost use Rattle.std.specs.Prelude.{◌≡◌, ◌≢◌, ◌≤◌, ◌+◌, ◌⊎◌, [], None, IfOk, OnErr};
 ghost use Rattle.hera_causes.specs.Causes.{Rose};
 ghost use Rattle.hera_volume.specs.Time.{IsImageAmid, LeavesOnly};
 ghost use Rattle.hera_meaning.specs.Deltas.{State};
@@ -20,7 +20,7 @@ ghost use Rattle.hera_top.specs.declared.words.ScriptCommand.{ScriptCommand};
 use crate::catalogue::catalogue_of;
 use crate::say::say;
 use crate::status::ExitStatus;
-use delta_atoms::Delta;
+use commit_levels::Levels;
 use hera_causes::Failed;
 use hera_code::Code;
 use hera_codegen::code_does_what_the_program_means;
@@ -86,12 +86,22 @@ impl<T: Drop> From<AllocFailed<T>> for RunFault {
     }
 }
 
+/// The number of the next commit. That of a commit behind 2^64 - 1 others is not kept, which is want of memory.
+fn next_number(number: usize) -> Result<usize, AllocError>
+    ensures { IfOk result (λ next. next ≡ number + 1) }
+{
+    match number.checked_add(1) {
+        Some(next) => Ok(next),
+        None => Err(AllocError),
+    }
+}
+
 /// Moves a machine that is at its start, over the state of a base, until it ends; emits what it prints, and gives its end.
 /// The code, its relations and the turns are the machine's: the contract speaks of them.
 fn steps<W: Outside>(
     alloc: Global,
     machine: &mut Machine,
-    commits: &mut Vec<Delta>,
+    levels: &mut Levels,
     code: &Code,
     relations: &[RelDecl],
     base: &Base,
@@ -105,7 +115,8 @@ fn steps<W: Outside>(
     requires start { (s : State) → machine_over s machine.old ≡ start_of code.now turns }
     requires works { machine.old.status ≡ Working }
     requires nothing_waits { machine.old.waits ≡ None }
-    requires no_commits { commits.old.items ≡ [] }
+    requires no_commits { levels.old ≡ [] }
+    requires catalogue { base.now.catalogue ≡ relations.now }
     ensures whole { IfOk result (λ end. EndsSaid code.now relations.now (specs_of hosts.now.names) base.now.state turns (W.emitted outside.old) (W.emitted outside.new) end) }
     ensures cut { OnErr result (PartSaid code.now relations.now (specs_of hosts.now.names) base.now.state turns (W.emitted outside.old) (W.emitted outside.new)) }
     ensures keeps { KeepsFiles (passage W.told W.disk W.emitted W.output_faults W.device_faults W.moment W.left_since outside.old outside.new) }
@@ -114,14 +125,18 @@ fn steps<W: Outside>(
     ensures still { result ≢ Err RunFault.Output → W.output_faults outside.new ≡ W.output_faults outside.old }
     ensures output { result ≡ Err RunFault.Output → Rose (W.output_faults outside.old) (W.output_faults outside.new) }
 {
+    let mut number: usize = 0;
     'steps: loop {
-        match machine.advance(base, commits, hosts)? {
+        match machine.advance(base, levels.deltas(), hosts)? {
             Event::Quiet => {}
             Event::Out(line) => say(outside, line.bytes())?,
             Event::Commit => {
-                commits.push(machine.take_pending())?;
-                let line = commit_line(alloc, commits.len())?;
+                let delta = machine.take_pending();
+                levels.push(&delta)?;
+                let next = next_number(number)?;
+                let line = commit_line(alloc, next)?;
                 say(outside, line.bytes())?;
+                number = next;
             }
             Event::Ended(end) => {
                 let line = last_line(alloc, end)?;
@@ -143,6 +158,7 @@ fn run_code<W: Outside>(
     hosts: &HostTable,
 ) -> Result<End, RunFault>
     requires forward { Forward code.now }
+    requires catalogue { base.now.catalogue ≡ relations.now }
     ensures whole { IfOk result (λ end. EndsSaid code.now relations.now (specs_of hosts.now.names) base.now.state turns (W.emitted outside.old) (W.emitted outside.new) end) }
     ensures cut { OnErr result (PartSaid code.now relations.now (specs_of hosts.now.names) base.now.state turns (W.emitted outside.old) (W.emitted outside.new)) }
     ensures keeps { KeepsFiles (passage W.told W.disk W.emitted W.output_faults W.device_faults W.moment W.left_since outside.old outside.new) }
@@ -152,11 +168,11 @@ fn run_code<W: Outside>(
     ensures output { result ≡ Err RunFault.Output → Rose (W.output_faults outside.old) (W.output_faults outside.new) }
 {
     let mut machine = Machine::new(alloc, code, relations, turns)?;
-    let mut commits: Vec<Delta> = Vec::new(alloc);
+    let mut levels = Levels::new(alloc);
     let outcome = steps(
         alloc,
         &mut machine,
-        &mut commits,
+        &mut levels,
         code,
         relations,
         base,
@@ -164,7 +180,7 @@ fn run_code<W: Outside>(
         outside,
         hosts,
     );
-    drop(commits);
+    drop(levels);
     drop(machine);
     outcome
 }

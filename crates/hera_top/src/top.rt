@@ -102,7 +102,7 @@ fn answer_in_folder<S: Source, W: Outside>(
 /// The statuses: 0 the command or the run is done, 1 the run ended in a trap, 2 the words are no listed form, 3 the
 /// script is refused, 4 the turns were spent, 5 there is a database and there should be none, or none, or it is damaged or lacks a relation,
 /// 6 a call on a file of the folder failed, 7 the script's source failed, 8 the output failed, 9 there was no memory, 10
-/// the half of a commit or a checkpoint would be longer than 268,435,456 bytes. With 6, 8 and 9 a prefix of what would have been
+/// the half of a commit, of a checkpoint or in place of one of format 1 would be longer than 268,435,456 bytes. With 6, 8 and 9 a prefix of what would have been
 /// emitted was emitted, else all of it.
 pub fn hera<S: Source, W: Outside>(
     alloc: Global,

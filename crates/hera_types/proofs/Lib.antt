@@ -5,3 +5,4 @@ pub mod Names
 pub mod Returning
 pub mod Steps
 pub mod Turns
+pub mod Sets

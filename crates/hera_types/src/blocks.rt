@@ -13,7 +13,7 @@ ghost use Rattle.hera_rules.specs.Statements.{slots_of_act, slots_of_acts, slots
 ghost use Rattle.hera_rules.specs.Typing.{slots_of};
 ghost use Rattle.hera_types.specs.Scopes.{ActGives, Extends, all_armed, arm_row, armed_of, commands_of, has_block};
 
-use crate::statements::{apply, assign, claim, declare, give_back, perform, print};
+use crate::statements::{apply, assign, claim, commit, declare, give_back, perform, print};
 use hera_meaning::{Arm, Shape, Stmt};
 use hera_rules::{Globals, LocalScope, TypeFault};
 use hera_syntax::{Block, ElseIf, Expr, StmtTree, Token};
@@ -215,7 +215,7 @@ fn statement(
         StmtTree::Print { word, value } => print(alloc, globals, returned, scope, word.at, value),
         StmtTree::Apply { word, value } => apply(alloc, globals, returned, scope, word.at, value),
         StmtTree::Assert { word, value } => claim(alloc, globals, returned, scope, word.at, value),
-        StmtTree::Commit(word) => effect_row_of(returned.is_some(), word.at, Stmt::Commit),
+        StmtTree::Commit { word, label } => commit(alloc, returned, word.at, label),
         StmtTree::Rollback(word) => effect_row_of(returned.is_some(), word.at, Stmt::Rollback),
         StmtTree::Return { word, value } => give_back(alloc, globals, returned, scope, word, value),
     }

@@ -34,7 +34,7 @@ fn statement_returns(stmt: &Stmt) -> bool
         Stmt::Print(_, _) => false,
         Stmt::Apply(_, _) => false,
         Stmt::Assert(_, _) => false,
-        Stmt::Commit => false,
+        Stmt::Commit(_) => false,
         Stmt::Rollback => false,
     }
 }

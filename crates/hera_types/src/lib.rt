@@ -3,6 +3,7 @@
 
 mod blocks;
 mod bodies;
+mod name_set;
 mod relations;
 mod scripts;
 mod signatures;

@@ -1,8 +1,7 @@
 // The second and the third pass over a script: the names of funcs and procs, and their signatures.
 
-ghost use Rattle.std.specs.Prelude.{◌≡◌, ◌+◌, [], IfOk, IfErr, map};
-ghost use Rattle.std.specs.List.{list_any};
-ghost use Rattle.hera_sets.specs.Rows.{holds, is_same};
+ghost use Rattle.std.specs.Prelude.{◌≡◌, ◌+◌, [], IfOk, IfErr, false, map};
+ghost use Rattle.hera_sets.specs.Rows.{holds};
 ghost use Rattle.hera_meaning.specs.Catalogues.{decl_name};
 ghost use Rattle.hera_rules.specs.Agrees.{Gives};
 ghost use Rattle.hera_rules.specs.Programs.{
@@ -21,9 +20,9 @@ ghost use Rattle.hera_rules.specs.ReadActs.{func_phrase, param_phrase, params_ph
 ghost use Rattle.hera_rules.specs.declared.fault.TypeFault.TheVariants as fault;
 ghost use Rattle.hera_types.specs.Passes.{func_names, proc_names};
 
+use crate::name_set::{NameSet, ParamList};
 use hera_meaning::Name;
 use hera_rules::{FuncSig, Local, Locals, ProcSig, Relations, TypeFault};
-use hera_sets::is_same;
 use hera_syntax::{Func, Param, Params, Proc, Token};
 use hera_types_parts::{name_bytes, name_copy, number_of, put};
 use hera_types_rows::type_row_of;
@@ -31,87 +30,72 @@ use std::alloc::{AllocError, Global};
 
 // ---- names
 
-/// Whether one of the names is this one.
-fn is_among(names: &[Name], name: &[u8]) -> bool
-    ensures { result ≡ holds names.now name.now }
-{
-    names.iter().any(|own| is_same(name, own.bytes()))
-}
-
 /// A name that is none of these.
-fn new_name(alloc: Global, taken: &[Name], token: &Token) -> Result<Name, TypeFault>
-    ensures { Gives (λ name. name) result (new_name_row taken.now (word_of token.now)) }
+fn new_name(alloc: Global, taken: &NameSet, token: &Token) -> Result<Name, TypeFault>
+    ensures row { Gives (λ name. name) result (new_name_row taken.now (word_of token.now)) }
+    ensures new { IfOk result (λ name. holds taken.now name ≡ false) }
 {
-    if is_among(taken, name_bytes(token)) {
+    if taken.has(name_bytes(token)) {
         return Err(TypeFault::Repeated { at: token.at });
     }
     name_copy(alloc, token)
 }
 
-/// The names of relations.
-pub fn relation_names(alloc: Global, relations: &Relations) -> Result<Vec<Name>, AllocError>
-    ensures { IfOk result (λ names. names.items ≡ map decl_name relations.now) }
+/// The names of relations. Where two are one, which the first pass rules out, it answers AllocError.
+pub fn relation_names(alloc: Global, relations: &Relations) -> Result<NameSet, AllocError>
+    ensures { IfOk result (λ names. names ≡ map decl_name relations.now) }
 {
-    let mut names = Vec::new(alloc);
+    let mut names = NameSet::new(alloc);
     for decl in relations.decls() {
-        put(&mut names, decl.name.copy()?)?;
+        let name = decl.name.bytes();
+        if names.has(name) {
+            return Err(AllocError);
+        }
+        names.add(name)?;
     }
     Ok(names)
 }
 
 /// These names, and behind them those of the funcs.
-pub fn with_funcs(alloc: Global, taken: Vec<Name>, trees: &[Func]) -> Result<Vec<Name>, TypeFault>
-    ensures { Gives (λ names. names.items) result (names_row taken.items (func_names trees.now)) }
+pub fn with_funcs(alloc: Global, taken: NameSet, trees: &[Func]) -> Result<NameSet, TypeFault>
+    ensures { Gives (λ names. names) result (names_row taken (func_names trees.now)) }
 {
     let mut names = taken;
     for tree in trees {
         let name = new_name(alloc, &names, &tree.name)?;
-        put(&mut names, name)?;
+        names.add(name.bytes())?;
     }
     Ok(names)
 }
 
 /// These names, and behind them those of the procs.
-pub fn with_procs(alloc: Global, taken: Vec<Name>, trees: &[Proc]) -> Result<Vec<Name>, TypeFault>
-    ensures { Gives (λ names. names.items) result (names_row taken.items (proc_names trees.now)) }
+pub fn with_procs(alloc: Global, taken: NameSet, trees: &[Proc]) -> Result<NameSet, TypeFault>
+    ensures { Gives (λ names. names) result (names_row taken (proc_names trees.now)) }
 {
     let mut names = taken;
     for tree in trees {
         let name = new_name(alloc, &names, &tree.name)?;
-        put(&mut names, name)?;
+        names.add(name.bytes())?;
     }
     Ok(names)
 }
 
 // ---- signatures
 
-/// Whether one of the locals has this name.
-fn is_param(locals: &[Local], name: &[u8]) -> bool
-    ensures { result ≡ holds (map local_name locals.now) name.now }
-{
-    any_local(locals, name)
-}
-
-/// The same, local by local.
-fn any_local(locals: &[Local], name: &[u8]) -> bool
-    ensures { result ≡ list_any (λ l. is_same name.now l.name) locals.now }
-{
-    locals.iter().any(|local| is_same(name, local.name.bytes()))
-}
-
 /// A parameter behind these.
 fn param_of(
     alloc: Global,
     relations: &Relations,
-    taken: &[Name],
-    locals: &[Local],
+    taken: &NameSet,
+    locals: &ParamList,
     tree: &Param,
 ) -> Result<Local, TypeFault>
-    ensures { Gives (λ local. local) result (param_row relations.now taken.now locals.now (param_phrase tree.now)) }
+    ensures row { Gives (λ local. local) result (param_row relations.now taken.now locals.now (param_phrase tree.now)) }
+    ensures new { IfOk result (λ local. holds (map local_name locals.now) local.name ≡ false) }
 {
     let shape = type_row_of(alloc, relations, &tree.type_tree)?;
     let name = name_bytes(&tree.name);
-    if is_among(taken, name) || is_param(locals, name) {
+    if taken.has(name) || locals.has(name) {
         return Err(TypeFault::Repeated { at: tree.name.at });
     }
     let slot = number_of(locals.len())?;
@@ -123,7 +107,7 @@ fn param_of(
 fn params_of(
     alloc: Global,
     relations: &Relations,
-    taken: &[Name],
+    taken: &NameSet,
     trees: &Option<Params>,
 ) -> Result<Locals, TypeFault>
     ensures { Gives (λ locals. locals) result (params_row relations.now taken.now [] (some_params trees.now)) }
@@ -138,26 +122,26 @@ fn params_of(
 fn some_params_of(
     alloc: Global,
     relations: &Relations,
-    taken: &[Name],
+    taken: &NameSet,
     trees: &Params,
 ) -> Result<Locals, TypeFault>
     ensures { Gives (λ locals. locals) result (params_row relations.now taken.now [] (params_phrase trees.now)) }
 {
-    let mut locals = Vec::new(alloc);
-    let first = param_of(alloc, relations, taken, &locals, &trees.first)?;
-    put(&mut locals, first)?;
+    let none = ParamList::new(alloc);
+    let first = param_of(alloc, relations, taken, &none, &trees.first)?;
+    let mut locals = none.with(first)?;
     for tree in &trees.rest {
         let next = param_of(alloc, relations, taken, &locals, tree)?;
-        put(&mut locals, next)?;
+        locals = locals.with(next)?;
     }
-    Ok(Locals::new(locals))
+    Ok(locals.into_locals())
 }
 
 /// The signature of a func.
 fn func_of(
     alloc: Global,
     relations: &Relations,
-    taken: &[Name],
+    taken: &NameSet,
     number: u32,
     tree: &Func,
 ) -> Result<FuncSig, TypeFault>
@@ -200,7 +184,7 @@ fn next_number(count: usize) -> Result<u32, TypeFault>
 pub fn funcs_of(
     alloc: Global,
     relations: &Relations,
-    taken: &[Name],
+    taken: &NameSet,
     trees: &[Func],
 ) -> Result<Vec<FuncSig>, TypeFault>
     ensures { Gives (λ sigs. sigs.items) result (funcs_row relations.now taken.now [] (map func_phrase trees.now)) }
@@ -218,7 +202,7 @@ pub fn funcs_of(
 fn proc_of(
     alloc: Global,
     relations: &Relations,
-    taken: &[Name],
+    taken: &NameSet,
     number: u32,
     tree: &Proc,
 ) -> Result<ProcSig, TypeFault>
@@ -237,7 +221,7 @@ fn proc_of(
 pub fn procs_of(
     alloc: Global,
     relations: &Relations,
-    taken: &[Name],
+    taken: &NameSet,
     funcs: usize,
     trees: &[Proc],
 ) -> Result<Vec<ProcSig>, TypeFault>

@@ -1,10 +1,14 @@
 // Cores of statements of one phrase, or of a list of phrases.
 
-ghost use Rattle.std.specs.Prelude.{◌≡◌, ◌+◌, OnOk, []};
+ghost use Rattle.std.specs.Prelude.{◌≡◌, ◌+◌, IfErr, IfOk, OnOk, [], is_some};
+ghost use Rattle.hera_meaning.specs.Plain.{command_of};
+ghost use Rattle.hera_meaning.specs.Trees as trees;
+ghost use Rattle.hera_rules.specs.Commands.{effect_row};
+ghost use Rattle.hera_rules.specs.declared.fault.TypeFault.TheVariants as fault;
 ghost use Rattle.hera_rules.specs.Environments.{env_of};
 ghost use Rattle.hera_rules.specs.Phrases.{applying, asserting, assigning, declaring, performing, printing, returning_value};
 ghost use Rattle.hera_rules.specs.Read.{expr_phrase, word_of};
-ghost use Rattle.hera_rules.specs.ReadActs.{return_act, some_args, type_phrase};
+ghost use Rattle.hera_rules.specs.ReadActs.{label_of, return_act, some_args, type_phrase};
 ghost use Rattle.hera_rules.specs.Statements.{slots_of_act};
 ghost use Rattle.hera_types_exprs.specs.Parts.{list_of};
 ghost use Rattle.hera_rules.specs.Agrees.{Gives, Keeps};
@@ -12,14 +16,14 @@ ghost use Rattle.hera_rules.specs.Checked.{check_all};
 ghost use Rattle.hera_rules.specs.Typing.{slots_of_all};
 ghost use Rattle.hera_types.specs.Scopes.{ActGives, Extends};
 
-use hera_meaning::{Shape, Stmt};
+use hera_meaning::{Shape, Stmt, Text};
 use hera_rules::{Globals, LocalScope, TypeFault, Typed};
 use hera_syntax::{Args, Expr, Token, TypeTree};
 use hera_types_exprs::{Waiting, args, expr, push_local, take_slot};
-use hera_types_parts::into_core;
+use hera_types_parts::{into_core, text_copy};
 use hera_types_rows::{
-    apply_row_of, assert_row_of, assign_row_of, declare_row_of, perform_row_of, print_row_of,
-    return_row_of, return_value_row_of, type_row_of,
+    apply_row_of, assert_row_of, assign_row_of, declare_row_of, effect_row_of, perform_row_of,
+    print_row_of, return_row_of, return_value_row_of, type_row_of,
 };
 use std::alloc::Global;
 
@@ -138,6 +142,30 @@ pub fn claim(
 {
     let typed = expr(alloc, globals, scope, value)?;
     assert_row_of(at, typed)
+}
+
+/// A commit, with or without a label.
+pub fn commit(
+    alloc: Global,
+    returned: &Option<Shape>,
+    at: u32,
+    label: &Option<Token>,
+) -> Result<Stmt, TypeFault>
+    ensures { Gives command_of result (effect_row (is_some returned.now) at (trees.commit (label_of label.now))) }
+{
+    let copy = label_copy(alloc, label)?;
+    effect_row_of(returned.is_some(), at, Stmt::Commit(copy))
+}
+
+/// A copy of a label.
+fn label_copy(alloc: Global, label: &Option<Token>) -> Result<Option<Text>, TypeFault>
+    ensures label { IfOk result (λ copy. copy ≡ label_of label.now) }
+    ensures refused { IfErr result (λ f. f ≡ fault.Memory) }
+{
+    match label {
+        None => Ok(None),
+        Some(token) => Ok(Some(text_copy(alloc, token)?)),
+    }
 }
 
 /// A return.

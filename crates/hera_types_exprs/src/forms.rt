@@ -11,11 +11,11 @@ ghost use Rattle.hera_meaning.specs.declared.trees.Const.TheVariants as consts;
 ghost use Rattle.hera_rules.specs.Rules.{group_row, literal_row, project_row, rename_row, row_row, typing};
 ghost use Rattle.hera_types_exprs.specs.Parts.{has_one_part, one_row};
 
-use hera_meaning::{Const, Core, Scalar, Shape, Text};
+use hera_meaning::{Const, Core, Scalar, Shape};
 use hera_rules::{Aggregate, Globals, TypeFault, Typed, Word};
 use hera_syntax::{Bindings, NamedAggs, Names, Prime, Renamings, Token, TokenKind};
 use hera_types_parts::{
-    aggregates, fold_word, part_word, put, renamings, sign_word, test_word, word, words,
+    aggregates, fold_word, part_word, put, renamings, sign_word, test_word, text_copy, word, words,
 };
 use hera_types_rows::{
     bulk_row_of, fold_row_of, group_row_of, part_row_of, project_row_of, rename_row_of, row_row_of,
@@ -187,20 +187,6 @@ pub fn text_literal(alloc: Global, token: &Token) -> Result<Typed, TypeFault>
 {
     let text = text_copy(alloc, token)?;
     Ok(constant(Const::Scalar(Scalar::Text(text)), Shape::Text))
-}
-
-/// The value of a text literal.
-fn text_copy(alloc: Global, token: &Token) -> Result<Text, TypeFault>
-    ensures text { IfOk result (λ text. text ≡ text_of token.now.kind) }
-    ensures refused { IfErr result (λ f. f ≡ fault.Memory) }
-{
-    match &token.kind {
-        TokenKind::Text(text) => Ok(text.copy()?),
-        _ => match Text::new(alloc, &[]) {
-            Ok(text) => Ok(text),
-            Err(_) => Err(TypeFault::Memory),
-        },
-    }
 }
 
 /// The names of `[a = e]`.

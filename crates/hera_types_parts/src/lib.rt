@@ -18,5 +18,6 @@ pub use names::{
 pub use same::{kind_of_place, place_of_name, same_kind, same_kinds, same_schema, same_shape};
 pub use tokens::{
     aggregates, fold_word, kind_token, level_joint, measured, name_bytes, name_copy, pair_word,
-    part_word, prefix_word, renamed, renamings, sign_word, test_word, walk_word, word, words,
+    part_word, prefix_word, renamed, renamings, sign_word, test_word, text_copy, walk_word, word,
+    words,
 };

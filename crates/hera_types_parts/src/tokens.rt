@@ -1,6 +1,6 @@
 // What the tokens of a tree say.
 
-ghost use Rattle.hera_rules.specs.Read.{aggregate_of, aggregates_of, fold_of, joint_at, joint_of, kind_word, measured_of, name_of, pair_of, part_of, prefix_of, renamed_all, renamed_of, sign_of, test_of, walk_of, word_of, words_of};
+ghost use Rattle.hera_rules.specs.Read.{aggregate_of, aggregates_of, fold_of, joint_at, joint_of, kind_word, measured_of, name_of, pair_of, part_of, prefix_of, renamed_all, renamed_of, sign_of, test_of, text_of, walk_of, word_of, words_of};
 ghost use Rattle.std.specs.Prelude.{IfErr, IfOk, ◌≡◌};
 ghost use Rattle.hera_rules.specs.declared.fault.TypeFault.TheVariants as fault;
 
@@ -10,7 +10,8 @@ use hera_rules::{
     Aggregate, Fold, Joint, Measured, Pair, Prefix, Renamed, Test, TypeFault, WalkKind, Word,
 };
 use hera_syntax::{
-    AggTree, Level, NamedAgg, NamedAggs, Names, Renaming, Renamings, Token, TokenKind,
+    AggTree, Keyword, Level, Mark, NamedAgg, NamedAggs, Names, Renaming, Renamings, Token,
+    TokenKind,
 };
 use std::alloc::Global;
 
@@ -31,6 +32,20 @@ pub fn name_copy(alloc: Global, token: &Token) -> Result<Name, TypeFault>
 {
     match &token.kind {
         TokenKind::Ident(name) => Ok(name.copy()?),
+        _ => match Text::new(alloc, &[]) {
+            Ok(text) => Ok(text),
+            Err(_) => Err(TypeFault::Memory),
+        },
+    }
+}
+
+/// A copy of the value of a text literal; the empty text of any other token.
+pub fn text_copy(alloc: Global, token: &Token) -> Result<Text, TypeFault>
+    ensures text { IfOk result (λ text. text ≡ text_of token.now.kind) }
+    ensures refused { IfErr result (λ f. f ≡ fault.Memory) }
+{
+    match &token.kind {
+        TokenKind::Text(text) => Ok(text.copy()?),
         _ => match Text::new(alloc, &[]) {
             Ok(text) => Ok(text),
             Err(_) => Err(TypeFault::Memory),
@@ -143,18 +158,18 @@ fn joint_word(token: &Token) -> Joint
     ensures { result ≡ joint_of token.now.kind }
 {
     match &token.kind {
-        TokenKind::Punct(11) => Joint::Equality(Op::Eq),
-        TokenKind::Punct(12) => Joint::Equality(Op::Ne),
-        TokenKind::Punct(13) => Joint::Order(Op::Lt),
-        TokenKind::Punct(14) => Joint::Order(Op::Le),
-        TokenKind::Punct(15) => Joint::Order(Op::Gt),
-        TokenKind::Punct(16) => Joint::Order(Op::Ge),
-        TokenKind::Punct(17) => Joint::Arithmetic(Op::Add),
-        TokenKind::Punct(18) => Joint::Arithmetic(Op::Sub),
-        TokenKind::Punct(19) => Joint::Arithmetic(Op::Mul),
-        TokenKind::Punct(20) => Joint::Arithmetic(Op::Div),
-        TokenKind::Punct(21) => Joint::Arithmetic(Op::Rem),
-        TokenKind::Punct(22) => Joint::Deltas(Op::Smash),
+        TokenKind::Punct(Mark::EqualEqual) => Joint::Equality(Op::Eq),
+        TokenKind::Punct(Mark::NotEqual) => Joint::Equality(Op::Ne),
+        TokenKind::Punct(Mark::Less) => Joint::Order(Op::Lt),
+        TokenKind::Punct(Mark::LessEqual) => Joint::Order(Op::Le),
+        TokenKind::Punct(Mark::Greater) => Joint::Order(Op::Gt),
+        TokenKind::Punct(Mark::GreaterEqual) => Joint::Order(Op::Ge),
+        TokenKind::Punct(Mark::Plus) => Joint::Arithmetic(Op::Add),
+        TokenKind::Punct(Mark::Minus) => Joint::Arithmetic(Op::Sub),
+        TokenKind::Punct(Mark::Star) => Joint::Arithmetic(Op::Mul),
+        TokenKind::Punct(Mark::Slash) => Joint::Arithmetic(Op::Div),
+        TokenKind::Punct(Mark::Percent) => Joint::Arithmetic(Op::Rem),
+        TokenKind::Punct(Mark::Bang) => Joint::Deltas(Op::Smash),
         TokenKind::Punct(_) => Joint::Deltas(Op::Merge),
         _ => Joint::Member,
     }
@@ -165,7 +180,7 @@ pub fn prefix_word(token: &Token) -> Prefix
     ensures { result ≡ prefix_of token.now.kind }
 {
     match &token.kind {
-        TokenKind::Punct(18) => Prefix::Minus,
+        TokenKind::Punct(Mark::Minus) => Prefix::Minus,
         _ => Prefix::Not,
     }
 }
@@ -175,7 +190,7 @@ pub fn sign_word(token: &Token) -> Sign
     ensures { result ≡ sign_of token.now.kind }
 {
     match &token.kind {
-        TokenKind::Punct(17) => Sign::Plus,
+        TokenKind::Punct(Mark::Plus) => Sign::Plus,
         _ => Sign::Minus,
     }
 }
@@ -185,7 +200,7 @@ pub fn part_word(token: &Token) -> Sign
     ensures { result ≡ part_of token.now.kind }
 {
     match &token.kind {
-        TokenKind::Key(43) => Sign::Plus,
+        TokenKind::Key(Keyword::Ins) => Sign::Plus,
         _ => Sign::Minus,
     }
 }
@@ -195,7 +210,7 @@ pub fn walk_word(token: &Token) -> WalkKind
     ensures { result ≡ walk_of token.now.kind }
 {
     match &token.kind {
-        TokenKind::Key(26) => WalkKind::Keeping,
+        TokenKind::Key(Keyword::Select) => WalkKind::Keeping,
         _ => WalkKind::Mapping,
     }
 }
@@ -205,9 +220,9 @@ pub fn pair_word(token: &Token) -> Pair
     ensures { result ≡ pair_of token.now.kind }
 {
     match &token.kind {
-        TokenKind::Key(30) => Pair::Sets(Op::Union),
-        TokenKind::Key(31) => Pair::Sets(Op::Minus),
-        TokenKind::Key(32) => Pair::Sets(Op::Inter),
+        TokenKind::Key(Keyword::Union) => Pair::Sets(Op::Union),
+        TokenKind::Key(Keyword::Minus) => Pair::Sets(Op::Minus),
+        TokenKind::Key(Keyword::Inter) => Pair::Sets(Op::Inter),
         _ => Pair::Join,
     }
 }
@@ -217,8 +232,8 @@ pub fn test_word(token: &Token) -> Test
     ensures { result ≡ test_of token.now.kind }
 {
     match &token.kind {
-        TokenKind::Key(36) => Test::Count,
-        TokenKind::Key(37) => Test::Empty,
+        TokenKind::Key(Keyword::Count) => Test::Count,
+        TokenKind::Key(Keyword::Empty) => Test::Empty,
         _ => Test::IsFail,
     }
 }
@@ -228,8 +243,8 @@ pub fn fold_word(token: &Token) -> Fold
     ensures { result ≡ fold_of token.now.kind }
 {
     match &token.kind {
-        TokenKind::Key(38) => Fold::Sum,
-        TokenKind::Key(39) => Fold::Least,
+        TokenKind::Key(Keyword::Sum) => Fold::Sum,
+        TokenKind::Key(Keyword::Min) => Fold::Least,
         _ => Fold::Greatest,
     }
 }
@@ -239,8 +254,8 @@ pub fn kind_token(token: &Token) -> Kind
     ensures { result ≡ kind_word token.now.kind }
 {
     match &token.kind {
-        TokenKind::Key(4) => Kind::Int,
-        TokenKind::Key(5) => Kind::Bool,
+        TokenKind::Key(Keyword::Int) => Kind::Int,
+        TokenKind::Key(Keyword::Bool) => Kind::Bool,
         _ => Kind::Text,
     }
 }

@@ -10,12 +10,12 @@ use Rattle.hera_sets.proofs.Order.{same_true, same_itself, before, level, behind
 use Rattle.hera_meaning.specs.declared.schemas.Attr.{Attr}
 use Rattle.hera_meaning.specs.Schemas.{AreDistinct, names_of}
 use Rattle.hera_meaning.specs.Rows.{first_piece, pieces}
-use Rattle.hera_meaning.specs.Relations.{piece_at, has_name, piece_named, agree}
+use Rattle.hera_meaning.specs.Relations.{piece_at, has_name, piece_named, common, agree}
 use Rattle.hera_row.proofs.RowLemmas.{drop_attr}
 use Rattle.rel_algebra.specs.Fronts.{begins}
 use Rattle.rel_algebra.proofs.PieceLemmas.{first_piece_front}
 use Rattle.rel_algebra.proofs.FrontLemmas.{begins_from}
-use Rattle.join_exec.specs.Leading.{leading_of}
+use Rattle.join_exec.specs.Leading.{leading_of, shared_of}
 
 -- ---- a name's place
 
@@ -168,3 +168,31 @@ goes left x (a ∷ attrs) y apart h = by (goes left x attrs (drop (length (first
 
 pub agree_begins : (left right : List Attr) (x y : Row) → AreDistinct (names_of right) → agree left right (x, y) ≡ true → begins (leading_of left x right) y ≡ true
 agree_begins left right x y apart h = begins_from (leading_of left x right) y (goes left x right y apart h)
+
+-- ---- the common fields, from an attribute on
+
+abbrev pub shared_at : List Attr → List Attr → Row → List Attr → Row
+shared_at left schema row attrs = flat_map (λ a. piece_named a.name schema (pieces schema row)) (filter (λ a. has_name left a.name) attrs)
+
+pub shared_at-skip : (left schema right : List Attr) (row done : Row) (place : ℕ) (a : Attr) (name : List ℕ) → slice_get right place ≡ Some a → name ≡ a.name → false ≡ has_name left name → done ++ shared_at left schema row (drop (place + 1) right) ≡ done ++ shared_at left schema row (drop place right)
+shared_at-skip left schema right row done place a name at e h =
+    let lacks : has_name left a.name ≡ false = ap (has_name left) (sym e) ∙ sym h in
+    ap (λ t. done ++ t) (sym (ap (shared_at left schema row) (drop_attr right place a at) ∙ rw lacks refl))
+
+pub shared_at-take : (left schema right : List Attr) (row done piece after : Row) (place : ℕ) (a : Attr) (name : List ℕ) → slice_get right place ≡ Some a → name ≡ a.name → true ≡ has_name left name → piece ≡ piece_named name schema (pieces schema row) → after ≡ done ++ piece → after ++ shared_at left schema row (drop (place + 1) right) ≡ done ++ shared_at left schema row (drop place right)
+shared_at-take left schema right row done piece after place a name at e h p g =
+    let has : has_name left a.name ≡ true = ap (has_name left) (sym e) ∙ sym h in
+    let here : piece ≡ piece_named a.name schema (pieces schema row) = p ∙ ap (λ n. piece_named n schema (pieces schema row)) e in
+    ap (λ t. t ++ shared_at left schema row (drop (place + 1) right)) (g ∙ ap (λ t. done ++ t) here)
+    ∙ append_assoc done (piece_named a.name schema (pieces schema row)) (shared_at left schema row (drop (place + 1) right))
+    ∙ ap (λ t. done ++ t) (sym (ap (shared_at left schema row) (drop_attr right place a at) ∙ rw has refl))
+
+-- two rows that agree have the same common fields
+same_fields : (p q : Attr → Row) (attrs : List Attr) → list_all (λ a. is_same (p a) (q a)) attrs ≡ true → flat_map p attrs ≡ flat_map q attrs
+same_fields p q [] h = refl
+same_fields p q (a ∷ attrs) h =
+    let both = and_parts (is_same (p a) (q a)) (list_all (λ b. is_same (p b) (q b)) attrs) h in
+    λ i. same_true (p a) (q a) both.0 i ++ same_fields p q attrs both.1 i
+
+pub agree_shared : (left right : List Attr) (x y : Row) → agree left right (x, y) ≡ true → shared_of left right left x ≡ shared_of left right right y
+agree_shared left right x y h = same_fields (λ a. piece_named a.name left (pieces left x)) (λ a. piece_named a.name right (pieces right y)) (common left right) h

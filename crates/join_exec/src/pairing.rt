@@ -3,7 +3,7 @@ ghost use Rattle.std.specs.Prelude.{◌≡◌, ℕ, List, true, IfOk};
 ghost use Rattle.hera_meaning.specs.Rows.{pieces};
 ghost use Rattle.hera_meaning.specs.Relations.{has_name, piece_named, agree, joined};
 ghost use Rattle.rel_algebra.specs.Fronts.{begins};
-ghost use Rattle.join_exec.specs.Leading.{leading_of};
+ghost use Rattle.join_exec.specs.Leading.{leading_of, shared_of};
 
 use hera_meaning::Schema;
 use hera_rows::RowBuf;
@@ -31,6 +31,40 @@ pub fn leading(
         front.extend_from_slice(piece_named(left, row, name))?;
     }
     Ok(RowBuf::from_vec(front))
+}
+
+/// Whether the attributes of the right schema that the left has too stand before those that it lacks. It says how to
+/// join, and not what.
+pub fn leads(left: &Schema, right: &Schema) -> bool {
+    let mut lacking = false;
+    for place in 0..right.len() {
+        if !has_name(left, right.attr(place).name.bytes()) {
+            lacking = true;
+        } else if lacking {
+            return false;
+        }
+    }
+    true
+}
+
+/// The fields of a row of the schema at the attributes of the right schema that the left has too.
+pub fn shared(
+    alloc: Global,
+    left: &Schema,
+    right: &Schema,
+    schema: &Schema,
+    row: &[u8],
+) -> Result<RowBuf, AllocError>
+    ensures { IfOk result (λ key. key ≡ shared_of left.now right.now schema.now row.now) }
+{
+    let mut key = Vec::new(alloc);
+    for place in 0..right.len() {
+        let name = right.attr(place).name.bytes();
+        if has_name(left, name) {
+            key.extend_from_slice(piece_named(schema, row, name))?;
+        }
+    }
+    Ok(RowBuf::from_vec(key))
 }
 
 /// Whether the two rows are equal on the common attributes.

@@ -1,15 +1,17 @@
 -- Rows that begin with given bytes: how they stand, and where they are found.
-use Rattle.std.proofs.Common.{◌≡◌, ℕ, Bool, true, false, ◌&&◌, List, [], ◌∷◌, ◌++◌, Option, Some, None, length, take, drop, refl, sym, ap, ◌∙◌, subst, inl, inr, arith}
+use Rattle.std.proofs.Common.{◌≡◌, ℕ, Bool, true, false, cond, ◌&&◌, ◌||◌, List, [], ◌∷◌, ◌++◌, Option, Some, None, length, take, drop, refl, sym, ap, ◌∙◌, subst, inl, inr, arith}
 use Rattle.std.specs.List.{filter, find}
 use Rattle.std.proofs.lemmas.Bool.{both_ways, cases_order, eq-eqb, and_from, and_parts, and_right, false_from_ne_true, true≢false}
 use Rattle.std.proofs.lemmas.List.{take-append-drop, take_at, take_all}
-use Rattle.hera_sets.specs.Rows.{Row, is_below, is_same, is_past, IsAscending, holds}
+use Rattle.hera_sets.specs.Rows.{Row, is_below, is_same, is_past, IsBelowAll, IsAscending, holds}
 use Rattle.hera_sets.specs.NextRow.{IsNext, nothing, next}
 use Rattle.hera_sets.proofs.Order.{below_trans, below_not, same_true, same_itself, same_cons, below_cons_less, below_cons_same, before, level, behind, stands}
 use Rattle.hera_sets.proofs.Lists.{past_trans, ascending_filter}
 use Rattle.hera_sets.proofs.Members.{holds-filter}
 use Rattle.hera_sets.proofs.Next.{find_is_next, next_is_find}
-use Rattle.rel_algebra.specs.Fronts.{begins, begun_of}
+use Rattle.hera_rows.specs.Froms.{is_from}
+use Rattle.hera_rows.proofs.FromLemmas.{from_held, from_absent}
+use Rattle.rel_algebra.specs.Fronts.{begins, begun_of, begun_in, rows_behind}
 
 -- ---- rows behind one front
 
@@ -138,3 +140,55 @@ found_passed front xs b s r up st e otherwise = is_found front xs b None up (by 
         let not_before : is_below q r ≡ false = least q held (sym (st.alike q m held) ∙ g) in
         let passed : is_below (front ++ drop (length front) q) r ≡ false = subst (λ z. is_below z r ≡ false) (sym (begins_whole front q m)) not_before in
         both_ways _ otherwise (begins_from front r (between front r (drop (length front) q) (st.after r pr) passed))))
+
+-- what is found from s, where it begins with the front
+pub begun_past : (front : Row) (xs : List Row) (b s : Option Row) → IsAscending xs → Starts front xs b s → begun_in front (find (is_past s) xs) ≡ find (is_past b) (begun_of front xs)
+begun_past front xs b s up st = by (find (is_past s) xs) refl
+  where
+    found : (r : Row) (v : Bool) → begins front r ≡ v → find (is_past s) xs ≡ Some r → begun_in front (Some r) ≡ find (is_past b) (begun_of front xs)
+    found r true m e = rw m (found_begun front xs b s r up st e m)
+    found r false m e = rw m (found_passed front xs b s r up st e m)
+
+    by : (o : Option Row) → find (is_past s) xs ≡ o → begun_in front o ≡ find (is_past b) (begun_of front xs)
+    by None e = found_none front xs b s up st e
+    by (Some r) e = found r (begins front r) refl e
+
+-- what is found from the front on
+pub begun_from : (front : Row) (xs : List Row) (b : Option Row) → IsAscending xs → is_past b front ≡ true → begun_in front (find (is_from front) xs) ≡ find (is_past b) (begun_of front xs)
+begun_from front xs b up past = by (holds xs front) refl
+  where
+    by : (v : Bool) → holds xs front ≡ v → begun_in front (find (is_from front) xs) ≡ find (is_past b) (begun_of front xs)
+    by true held = ap (begun_in front) (sym (from_held front xs up held)) ∙ rw (begins_itself front) (found_front front xs b up past held)
+    by false absent = ap (begun_in front) (sym (from_absent front xs absent)) ∙ begun_past front xs b (Some front) up (starts_at_front front xs b past absent)
+
+-- ---- what lies behind a front
+
+all_behind : (k t : Row) (ts : List Row) → begins k t ≡ true → IsBelowAll t ts → IsBelowAll (drop (length k) t) (rows_behind (length k) (begun_of k ts))
+all_behind k t [] m all = tt
+all_behind k t (s ∷ ts) m all = by (all_behind k t ts m all.1) (begins k s) refl
+  where
+    by : IsBelowAll (drop (length k) t) (rows_behind (length k) (begun_of k ts)) → (v : Bool) → begins k s ≡ v → IsBelowAll (drop (length k) t) (rows_behind (length k) (begun_of k (s ∷ ts)))
+    by more true e =
+        let below : is_below (drop (length k) t) (drop (length k) s) ≡ true = sym (below-behind k (drop (length k) t) (drop (length k) s)) ∙ (λ i. is_below (begins_whole k t m i) (begins_whole k s e i)) ∙ all.0 in
+        rw e (below, more)
+    by more false e = rw e more
+
+pub ascending_behind : (k : Row) (ts : List Row) → IsAscending ts → IsAscending (rows_behind (length k) (begun_of k ts))
+ascending_behind k [] up = tt
+ascending_behind k (t ∷ ts) up = by (ascending_behind k ts up.1) (begins k t) refl
+  where
+    by : IsAscending (rows_behind (length k) (begun_of k ts)) → (v : Bool) → begins k t ≡ v → IsAscending (rows_behind (length k) (begun_of k (t ∷ ts)))
+    by more true e = rw e (all_behind k t ts e up.0, more)
+    by more false e = rw e more
+
+pub holds-behind : (k x : Row) (ts : List Row) → holds (rows_behind (length k) (begun_of k ts)) x ≡ holds ts (k ++ x)
+holds-behind k x [] = refl
+holds-behind k x (t ∷ ts) = by (holds-behind k x ts) (begins k t) refl
+  where
+    by : holds (rows_behind (length k) (begun_of k ts)) x ≡ holds ts (k ++ x) → (v : Bool) → begins k t ≡ v → holds (rows_behind (length k) (begun_of k (t ∷ ts))) x ≡ holds (t ∷ ts) (k ++ x)
+    by more true e =
+        let here : is_same x (drop (length k) t) ≡ is_same (k ++ x) t = sym (same-behind k x (drop (length k) t)) ∙ ap (is_same (k ++ x)) (begins_whole k t e) in
+        rw e (λ i. here i || more i)
+    by more false e =
+        let other : is_same (k ++ x) t ≡ false = false_from_ne_true _ (λ s. both_ways _ e (ap (begins k) (sym (same_true (k ++ x) t s)) ∙ begins-behind k x)) in
+        rw (e, other) more

@@ -1,9 +1,10 @@
 //! The rows of a set that begin with given bytes.
 ghost use Rattle.std.specs.Prelude.{◌≡◌};
-ghost use Rattle.rel_algebra.specs.Fronts.{begins, begun_of};
+ghost use Rattle.std.specs.Option.{option_copied};
+ghost use Rattle.rel_algebra.specs.Fronts.{begins, begun_of, begun_in};
 
 use crate::order::is_past;
-use hera_rows::Sorted;
+use hera_rows::{Mark, Sorted};
 use hera_sets::is_same;
 
 /// The rows that begin with these bytes, seen without a copy. They are sought, not walked to.
@@ -30,8 +31,25 @@ impl<A: Sorted> Sorted for Begun<'_, A> {
         }
     }
 
+    fn above_from<'s>(&'s self, bound: Option<&[u8]>, mark: &mut Mark) -> Option<&'s [u8]> {
+        if is_past(bound, self.front) {
+            return begun_in(self.front, self.a.not_below(self.front, mark));
+        }
+        begun_in(self.front, self.a.above_from(bound, mark))
+    }
+
     fn has(&self, row: &[u8]) -> bool {
         self.a.has(row) && begins(self.front, row)
+    }
+}
+
+/// The row, where there is one and it begins with these bytes.
+fn begun_in<'s>(front: &[u8], row: Option<&'s [u8]>) -> Option<&'s [u8]>
+    ensures { option_copied result ≡ begun_in front.now (option_copied row.entry) }
+{
+    match row {
+        Some(r) if begins(front, r) => row,
+        _ => None,
     }
 }
 

@@ -5,14 +5,12 @@
 #![tactic(auto)]
 
 mod fronts;
-mod gathering;
 mod order;
 mod pieces;
 mod projection;
 mod sets;
 
 pub use fronts::Begun;
-pub use gathering::set_of;
 pub use pieces::{at_places, piece, piece_len};
 pub use projection::project;
 pub use sets::{Both, Common, Without, inter, minus, same_rows, union};

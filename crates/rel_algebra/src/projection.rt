@@ -2,10 +2,9 @@
 ghost use Rattle.std.specs.Prelude.{◌≡◌, IfOk};
 ghost use Rattle.hera_meaning.specs.Relations.{project_of};
 
-use crate::gathering::set_of;
 use crate::pieces::at_places;
 use hera_meaning::Schema;
-use hera_rows::{RowSet, Sorted};
+use hera_rows::{Mark, RowSet, Sorted};
 use std::alloc::{AllocError, Global};
 
 /// The rows of the fields at these places of each row, in the order of the places. A place may stand
@@ -18,12 +17,13 @@ pub fn project<A: Sorted>(
 ) -> Result<RowSet, AllocError>
     ensures { IfOk result (λ set. set ≡ project_of schema.now places.now (A.rows a.now)) }
 {
-    let mut images = Vec::new(alloc);
+    let mut set = RowSet::new(alloc);
     let mut last: Option<&[u8]> = None;
-    while let Some(row) = a.above(last) {
+    let mut mark = Mark::start();
+    while let Some(row) = a.above_from(last, &mut mark) {
         let image = at_places(alloc, schema, places, row)?;
-        images.push(image)?;
+        set.insert(image.bytes())?;
         last = Some(row);
     }
-    set_of(alloc, images)
+    Ok(set)
 }

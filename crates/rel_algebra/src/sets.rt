@@ -3,7 +3,7 @@ ghost use Rattle.std.specs.Prelude.{◌≡◌, ◌↔◌, IsTrue, IfOk};
 ghost use Rattle.std.specs.Option.{option_copied};
 ghost use Rattle.hera_sets.specs.Sets.{union_of, minus_of, inter_of, least_of};
 
-use hera_rows::{RowSet, Sorted, collect};
+use hera_rows::{Mark, RowSet, Sorted, collect};
 use hera_sets::is_below;
 use std::alloc::{AllocError, Global};
 
@@ -30,6 +30,16 @@ impl<A: Sorted, B: Sorted> Sorted for Both<'_, A, B> {
 
     fn above<'s>(&'s self, bound: Option<&[u8]>) -> Option<&'s [u8]> {
         least(self.a.above(bound), self.b.above(bound))
+    }
+
+    fn above_from<'s>(&'s self, bound: Option<&[u8]>, mark: &mut Mark) -> Option<&'s [u8]> {
+        let mut second = mark.of_second();
+        let row = least(
+            self.a.above_from(bound, mark),
+            self.b.above_from(bound, &mut second),
+        );
+        mark.second = second.first;
+        row
     }
 
     fn has(&self, row: &[u8]) -> bool {
@@ -59,6 +69,18 @@ impl<A: Sorted, B: Sorted> Sorted for Without<'_, A, B> {
         None
     }
 
+    fn above_from<'s>(&'s self, bound: Option<&[u8]>, mark: &mut Mark) -> Option<&'s [u8]> {
+        let mut last = bound;
+        while let Some(row) = self.a.above_from(last, mark) {
+            if self.b.has(row) {
+                last = Some(row);
+            } else {
+                return Some(row);
+            }
+        }
+        None
+    }
+
     fn has(&self, row: &[u8]) -> bool {
         !self.b.has(row) && self.a.has(row)
     }
@@ -77,6 +99,17 @@ impl<A: Sorted, B: Sorted> Sorted for Common<'_, A, B> {
     fn above<'s>(&'s self, bound: Option<&[u8]>) -> Option<&'s [u8]> {
         let mut last = bound;
         while let Some(row) = self.a.above(last) {
+            if self.b.has(row) {
+                return Some(row);
+            }
+            last = Some(row);
+        }
+        None
+    }
+
+    fn above_from<'s>(&'s self, bound: Option<&[u8]>, mark: &mut Mark) -> Option<&'s [u8]> {
+        let mut last = bound;
+        while let Some(row) = self.a.above_from(last, mark) {
             if self.b.has(row) {
                 return Some(row);
             }

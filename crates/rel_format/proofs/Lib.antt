@@ -7,3 +7,4 @@ pub mod Greedy
 pub mod Good
 pub mod Printed
 pub mod Fronts
+pub mod Lengths

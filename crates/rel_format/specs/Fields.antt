@@ -8,6 +8,8 @@ use Rattle.hera_sets.specs.Rows.{Row, is_same, holds, is_past}
 use Rattle.hera_meaning.specs.declared.scalars.Kind.{Kind}
 use Rattle.hera_meaning.specs.declared.scalars.Kind.TheVariants.{Int as int_kind, Bool as bool_kind, Text as text_kind}
 use Rattle.hera_meaning.specs.declared.schemas.Attr.{Attr}
+use Rattle.hera_meaning.specs.declared.schemas.TheConstants.{ATTRS_LIMIT, RELATIONS_LIMIT}
+use Rattle.rel_format.specs.declared.version.TheConstants.{MAGIC_LEN}
 use Rattle.hera_meaning.specs.Identifiers.{is_word, identifier_limit}
 use Rattle.hera_row.specs.Reading.{row_len_of}
 
@@ -33,13 +35,13 @@ abbrev pub kind_of : ℕ → Option Kind
 kind_of n = cond (n == 1) (Some int_kind) (cond (n == 2) (Some bool_kind) (cond (n == 3) (Some text_kind) None))
 
 abbrev pub count_field : List ℕ → Option ℕ
-count_field bytes = kept (λ n. nat_le n 256) (number w16 bytes)
+count_field bytes = kept (λ n. nat_le n RELATIONS_LIMIT) (number w16 bytes)
 
 abbrev pub length_field : List ℕ → Option ℕ
 length_field bytes = kept (nat_lt 0) (first_byte bytes)
 
 abbrev pub width_field : List ℕ → Option ℕ
-width_field bytes = kept (λ n. nat_lt 0 n && nat_le n 16) (first_byte bytes)
+width_field bytes = kept (λ n. nat_lt 0 n && nat_le n ATTRS_LIMIT) (first_byte bytes)
 
 abbrev pub name_field : ℕ → List ℕ → Option (List ℕ)
 name_field n bytes = kept is_identifier (piece n bytes)
@@ -52,7 +54,7 @@ abbrev pub kind_field : List ℕ → Option Kind
 kind_field bytes = option_and_then kind_of (first_byte bytes)
 
 abbrev pub magic_field : List ℕ → List ℕ → Option (List ℕ)
-magic_field magic bytes = kept (λ m. is_same m magic) (piece 8 bytes)
+magic_field magic bytes = kept (λ m. is_same m magic) (piece MAGIC_LEN bytes)
 
 -- ---- pages
 

@@ -1,13 +1,15 @@
 -- The journal behind the pages, and what a half is.
-use Rattle.std.specs.Prelude.{◌≡◌, ◌≢◌, ◌≤◌, ℕ, List, [], ◌∷◌, ◌++◌, length, All}
+use Rattle.std.specs.Prelude.{◌≡◌, ◌≢◌, ◌≤◌, ℕ, List, [], ◌∷◌, ◌++◌, length, map, All}
 use Rattle.std.specs.List.{flat_map}
 use Rattle.std.specs.Int.{to_be_bytes, w16, w32}
 use Rattle.hera_meaning.specs.declared.scalars.Sign.{Sign}
 use Rattle.hera_meaning.specs.declared.scalars.Sign.TheVariants.{Plus, Minus}
 use Rattle.hera_meaning.specs.declared.schemas.RelDecl.{RelDecl}
 use Rattle.hera_meaning.specs.Catalogues.{IsCatalogue}
-use Rattle.hera_meaning.specs.Deltas.{State, IsState, Atom, atoms, IsDelta, IsDeltaOf, apply_of}
-use Rattle.rel_format.specs.Pages.{Format, pages_of}
+use Rattle.hera_meaning.specs.Commits.{after_all}
+use Rattle.hera_meaning.specs.Deltas.{State, IsState, Atom, atoms, IsDelta, IsDeltaOf}
+use Rattle.rel_format.specs.declared.version.TheConstants.{HALF_LIMIT}
+use Rattle.rel_format.specs.Pages.{Format, Fit, pages_of}
 
 abbrev pub sign_byte : Sign → ℕ
 sign_byte Plus = 1
@@ -23,17 +25,13 @@ record_of xs = to_be_bytes w32 (length xs) ++ flat_map atom_bytes xs
 abbrev pub sealed : List Atom → List ℕ
 sealed xs = 1 ∷ record_of xs
 
-abbrev pub state_behind : State → List (List Atom) → State
-state_behind s [] = s
-state_behind s (xs ∷ rest) = state_behind (apply_of s (atoms xs)) rest
-
 pub record IsRecordOf (rels : List RelDecl) (xs : List Atom) : Type 0 where
   pub few : length xs ≤ 4294967295
   pub delta : IsDelta (atoms xs)
   pub known : IsDeltaOf rels (atoms xs)
 
 abbrev pub half_limit : ℕ
-half_limit = 268435456
+half_limit = HALF_LIMIT
 
 -- the bytes are a half with this catalogue and state
 pub record IsHalf (f : Format) (bytes : List ℕ) (rels : List RelDecl) (state : State) : Type 0 where
@@ -41,10 +39,11 @@ pub record IsHalf (f : Format) (bytes : List ℕ) (rels : List RelDecl) (state :
   pub catalogue : IsCatalogue rels
   pub paged : State
   pub valid : IsState rels paged
+  pub fit : Fit f.page paged
   pub deltas : List (List Atom)
   pub records : All (IsRecordOf rels) deltas
   pub gate : ℕ
   pub closed : gate ≢ 1
   pub rest : List ℕ
   pub printed : bytes ≡ pages_of f rels paged ++ flat_map sealed deltas ++ gate ∷ rest
-  pub behind : state ≡ state_behind paged deltas
+  pub behind : state ≡ after_all paged (map atoms deltas)

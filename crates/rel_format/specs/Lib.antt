@@ -6,3 +6,4 @@ pub mod Places
 pub mod SoFar
 pub mod Greedy
 pub mod Journal
+pub mod Versions

@@ -1,5 +1,5 @@
 -- The bytes of a half, printed.
-use Rattle.std.specs.Prelude.{ℕ, zero, suc, ◌+◌, ◌-◌, cond, nat_le, List, [], ◌∷◌, ◌++◌, length}
+use Rattle.std.specs.Prelude.{◌≤◌, All, ℕ, zero, suc, ◌+◌, ◌-◌, cond, nat_le, List, [], ◌∷◌, ◌++◌, length}
 use Rattle.std.specs.List.{flat_map}
 use Rattle.std.specs.Int.{to_be_bytes, w16, w32}
 use Rattle.hera_sets.specs.Rows.{Row}
@@ -8,6 +8,7 @@ use Rattle.hera_meaning.specs.declared.scalars.Kind.TheVariants.{Int as int_kind
 use Rattle.hera_meaning.specs.declared.schemas.Attr.{Attr}
 use Rattle.hera_meaning.specs.declared.schemas.RelDecl.{RelDecl}
 use Rattle.hera_meaning.specs.Deltas.{State}
+use Rattle.rel_format.specs.declared.version.TheConstants.{PAGE_ONE, PAGE_TWO, PAGE_HEAD}
 
 -- what sets the formats apart
 pub record Format : Type 0 where
@@ -16,7 +17,11 @@ pub record Format : Type 0 where
 
 -- HERA0001, pages of 8,192 bytes
 abbrev pub format_one : Format
-format_one = record { magic = 72 ∷ 69 ∷ 82 ∷ 65 ∷ 48 ∷ 48 ∷ 48 ∷ 49 ∷ []; page = 8192 }
+format_one = record { magic = 72 ∷ 69 ∷ 82 ∷ 65 ∷ 48 ∷ 48 ∷ 48 ∷ 49 ∷ []; page = PAGE_ONE }
+
+-- HERA0002, pages of 32,768 bytes
+abbrev pub format_two : Format
+format_two = record { magic = 72 ∷ 69 ∷ 82 ∷ 65 ∷ 48 ∷ 48 ∷ 48 ∷ 50 ∷ []; page = PAGE_TWO }
 
 -- a name behind its length
 abbrev pub name_bytes : List ℕ → List ℕ
@@ -41,7 +46,7 @@ header_of f rels = f.magic ++ to_be_bytes w16 (length rels) ++ flat_map decl_byt
 
 -- the bytes of a page before its rows
 abbrev pub page_head : ℕ
-page_head = 4
+page_head = PAGE_HEAD
 
 -- a row in front of the first page's
 abbrev pub with_row : Row → List (List Row) → List (List Row)
@@ -61,6 +66,15 @@ paged page (r ∷ rows) = with_row r (fill_from page (page_head + length r) rows
 
 abbrev pub joined : List Row → List ℕ
 joined rows = flat_map (λ r. r) rows
+
+-- a page has room for the row
+abbrev pub FitsIn : ℕ → Row → Type 0
+FitsIn page r = page_head + length r ≤ page
+
+-- a page has room for each of the rows
+abbrev pub Fit : ℕ → State → Type 0
+Fit page [] = Unit {0}
+Fit page (rows ∷ state) = All (FitsIn page) rows × Fit page state
 
 -- the bytes of a page with these rows before its fill
 abbrev pub used_by : List Row → ℕ

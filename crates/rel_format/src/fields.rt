@@ -1,5 +1,6 @@
 //! The values of single fields.
 ghost use Rattle.std.specs.Prelude.{◌≡◌, ◌≤◌, ◌+◌, ℕ, Some, None, IsFalse, drop, false, ◌↔◌, IsTrue, map, take, length, IfSome};
+ghost use Rattle.hera_meaning.specs.declared.schemas.TheConstants.{RELATIONS_LIMIT};
 ghost use Rattle.hera_meaning.specs.Identifiers.{IsIdentifier};
 ghost use Rattle.std.specs.List.{list_any};
 ghost use Rattle.std.specs.Option.{option_copied};
@@ -8,15 +9,10 @@ ghost use Rattle.hera_meaning.specs.Schemas.{names_of};
 ghost use Rattle.hera_meaning.specs.Catalogues.{decl_name};
 ghost use Rattle.rel_format.specs.Fields.{piece, is_identifier, new_name, count_field, length_field, width_field, name_field, kind_field, magic_field};
 
-use hera_meaning::{Attr, Kind};
+use crate::small::{number16, rest_at};
+use hera_meaning::{ATTRS_LIMIT, Attr, Kind, RELATIONS_LIMIT};
 use hera_row::{Catalogue, is_name};
 use hera_sets::is_same;
-
-/// The most relations of a catalogue.
-const RELATIONS_LIMIT: u16 = 256;
-
-/// The most attributes of a schema.
-const ATTRS_LIMIT: u8 = 16;
 
 /// The first bytes, where there are so many.
 fn piece(bytes: &[u8], len: usize) -> Option<&[u8]>
@@ -35,16 +31,11 @@ fn piece(bytes: &[u8], len: usize) -> Option<&[u8]>
 fn count_field(bytes: &[u8]) -> Option<u16>
     ensures value { result ≡ count_field bytes.now }
     ensures within { IfSome result (λ n. 2 ≤ length bytes.now) }
-    ensures few { IfSome result (λ n. n ≤ 256) }
+    ensures few { IfSome result (λ n. n ≤ RELATIONS_LIMIT) }
 {
-    if bytes.len() < 2 {
-        return None;
-    }
-    let count = u16::from_be_bytes([bytes[0], bytes[1]]);
-    if count <= RELATIONS_LIMIT {
-        Some(count)
-    } else {
-        None
+    match number16(bytes) {
+        Some(count) if count as usize <= RELATIONS_LIMIT => Some(count),
+        _ => None,
     }
 }
 
@@ -65,7 +56,7 @@ fn width_field(bytes: &[u8]) -> Option<u8>
     ensures within { IfSome result (λ n. 1 ≤ length bytes.now) }
 {
     match bytes {
-        [n, ..] if *n > 0 && *n <= ATTRS_LIMIT => Some(*n),
+        [n, ..] if *n > 0 && *n as usize <= ATTRS_LIMIT => Some(*n),
         _ => None,
     }
 }
@@ -172,16 +163,8 @@ fn is_named(attr: &Attr, name: &[u8]) -> bool
 
 // ---- the same at a place
 
-/// The bytes from a place on.
-fn rest_at(bytes: &[u8], at: usize) -> &[u8]
-    requires { at ≤ length bytes.now }
-    ensures { result.now ≡ drop at bytes.entry.now }
-{
-    bytes.split_at(at).1
-}
-
 /// The first eight bytes, where they are these.
-pub(crate) fn magic_at(bytes: &[u8], magic: &[u8]) -> bool
+pub fn magic_at(bytes: &[u8], magic: &[u8]) -> bool
     ensures value { IsTrue result → magic_field magic.now bytes.now ≡ Some (take 8 bytes.now) }
     ensures other { IsFalse result → magic_field magic.now bytes.now ≡ None }
     ensures within { IsTrue result → 8 ≤ length bytes.now }
@@ -190,17 +173,17 @@ pub(crate) fn magic_at(bytes: &[u8], magic: &[u8]) -> bool
 }
 
 /// The number of relations at a place.
-pub(crate) fn count_at(bytes: &[u8], at: usize) -> Option<u16>
+pub fn count_at(bytes: &[u8], at: usize) -> Option<u16>
     requires { at ≤ length bytes.now }
     ensures value { result ≡ count_field (drop at bytes.now) }
     ensures within { IfSome result (λ n. at + 2 ≤ length bytes.now) }
-    ensures few { IfSome result (λ n. n ≤ 256) }
+    ensures few { IfSome result (λ n. n ≤ RELATIONS_LIMIT) }
 {
     count_field(rest_at(bytes, at))
 }
 
 /// The name's length at a place.
-pub(crate) fn length_at(bytes: &[u8], at: usize) -> Option<u8>
+pub fn length_at(bytes: &[u8], at: usize) -> Option<u8>
     requires { at ≤ length bytes.now }
     ensures value { result ≡ length_field (drop at bytes.now) }
     ensures within { IfSome result (λ n. at + 1 ≤ length bytes.now) }
@@ -209,7 +192,7 @@ pub(crate) fn length_at(bytes: &[u8], at: usize) -> Option<u8>
 }
 
 /// The number of attributes at a place.
-pub(crate) fn width_at(bytes: &[u8], at: usize) -> Option<u8>
+pub fn width_at(bytes: &[u8], at: usize) -> Option<u8>
     requires { at ≤ length bytes.now }
     ensures value { result ≡ width_field (drop at bytes.now) }
     ensures within { IfSome result (λ n. at + 1 ≤ length bytes.now) }
@@ -218,7 +201,7 @@ pub(crate) fn width_at(bytes: &[u8], at: usize) -> Option<u8>
 }
 
 /// The kind at a place.
-pub(crate) fn kind_at(bytes: &[u8], at: usize) -> Option<Kind>
+pub fn kind_at(bytes: &[u8], at: usize) -> Option<Kind>
     requires { at ≤ length bytes.now }
     ensures value { result ≡ kind_field (drop at bytes.now) }
     ensures within { IfSome result (λ n. at + 1 ≤ length bytes.now) }
@@ -227,12 +210,7 @@ pub(crate) fn kind_at(bytes: &[u8], at: usize) -> Option<Kind>
 }
 
 /// The name at a place, which is new.
-pub(crate) fn attr_name_at<'a>(
-    bytes: &'a [u8],
-    at: usize,
-    len: usize,
-    attrs: &[Attr],
-) -> Option<&'a [u8]>
+pub fn attr_name_at<'a>(bytes: &'a [u8], at: usize, len: usize, attrs: &[Attr]) -> Option<&'a [u8]>
     requires { at ≤ length bytes.now }
     ensures name { option_copied result ≡ new_name (names_of attrs.now) len (drop at bytes.entry.now) }
     ensures length { IfSome result (λ name. len ≡ length name.now) }
@@ -244,12 +222,7 @@ pub(crate) fn attr_name_at<'a>(
 }
 
 /// The name at a place, which is new.
-pub(crate) fn rel_name_at<'a>(
-    bytes: &'a [u8],
-    at: usize,
-    len: usize,
-    rels: &Catalogue,
-) -> Option<&'a [u8]>
+pub fn rel_name_at<'a>(bytes: &'a [u8], at: usize, len: usize, rels: &Catalogue) -> Option<&'a [u8]>
     requires { at ≤ length bytes.now }
     ensures name { option_copied result ≡ new_name (map decl_name rels.now) len (drop at bytes.entry.now) }
     ensures length { IfSome result (λ name. len ≡ length name.now) }

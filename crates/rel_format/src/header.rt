@@ -1,6 +1,7 @@
 //! The header of a half.
 ghost use Rattle.std.specs.Prelude.{◌≡◌, ◌≤◌, ◌+◌, ℕ, suc, true, false, List, [], ◌∷◌, ◌++◌, ◌<◌, All, IfOk, IfErr, OnOk, length, map};
 ghost use Rattle.hera_sets.specs.Rows.{holds};
+ghost use Rattle.hera_meaning.specs.declared.schemas.TheConstants.{ATTRS_LIMIT, RELATIONS_LIMIT};
 ghost use Rattle.hera_meaning.specs.Identifiers.{IsIdentifier};
 ghost use Rattle.hera_meaning.specs.Schemas.{AreDistinct, names_of};
 ghost use Rattle.hera_meaning.specs.Catalogues.{decl_name};
@@ -9,7 +10,8 @@ ghost use Rattle.rel_format.specs.Table.{Part, at_magic, at_rels, at_attr, behin
 ghost use Rattle.rel_format.specs.Places.{Reads, HeaderIs};
 
 use crate::fields::{attr_name_at, count_at, kind_at, length_at, magic_at, rel_name_at, width_at};
-use hera_meaning::{Attr, Name, RelDecl, Schema, Text, TextFault};
+use crate::version::MAGIC_LEN;
+use hera_meaning::{Attr, Name, RELATIONS_LIMIT, RelDecl, Schema, Text, TextFault};
 use hera_row::{Catalogue, CatalogueFault};
 use std::alloc::{AllocError, AllocFailed, Global};
 use thiserror::Error;
@@ -44,7 +46,7 @@ pub fn read_header(
 {
     match header_at(alloc, magic, bytes) {
         Ok((rels, at)) => {
-            prove!(rels.len() <= 256);
+            prove!(rels.len() <= RELATIONS_LIMIT);
             Ok((rels, at))
         }
         Err(fault) => Err(fault),
@@ -59,7 +61,7 @@ fn header_at(alloc: Global, magic: &[u8], bytes: &[u8]) -> Result<(Catalogue, us
     if !magic_at(bytes, magic) {
         return Err(damaged(0));
     }
-    let mut at = 8;
+    let mut at = MAGIC_LEN;
     let Some(count) = count_at(bytes, at) else {
         return Err(damaged(at));
     };
@@ -79,7 +81,7 @@ fn add(rels: &mut Catalogue, decl: RelDecl) -> Result<(), PageFault>
     requires name { IsIdentifier decl.name }
     requires attrs { All IsIdentifier (names_of decl.schema) }
     requires new { holds (map decl_name rels.old) decl.name ≡ false }
-    requires few { length rels.old < 256 }
+    requires few { length rels.old < RELATIONS_LIMIT }
     ensures ok { OnOk result (rels.new ≡ rels.old ++ decl ∷ []) }
     ensures err { IfErr result (λ e. e ≡ PageFault.Memory) }
 {
@@ -124,7 +126,7 @@ fn decl_at(
 /// The schema of attributes of distinct names.
 fn schema_of(attrs: Vec<Attr>) -> Schema
     requires some { 1 ≤ length attrs.items }
-    requires few { length attrs.items ≤ 16 }
+    requires few { length attrs.items ≤ ATTRS_LIMIT }
     requires distinct { AreDistinct (names_of attrs.items) }
     ensures { result ≡ attrs.items }
 {

@@ -1,5 +1,6 @@
 //! The header of a half, written.
 ghost use Rattle.std.specs.Prelude.{◌≡◌, ◌≤◌, ◌++◌, length, IfOk, OnOk};
+ghost use Rattle.hera_meaning.specs.Identifiers.{identifier_limit};
 ghost use Rattle.hera_meaning.specs.Catalogues.{IsDecl};
 ghost use Rattle.rel_format.specs.Pages.{Format, kind_byte, name_bytes, attr_bytes, decl_bytes, header_of};
 
@@ -35,7 +36,7 @@ fn push_decl(bytes: &mut Vec<u8>, decl: &RelDecl) -> Result<(), AllocError>
 
 /// Appends an attribute.
 fn push_attr(bytes: &mut Vec<u8>, attr: &Attr) -> Result<(), AllocError>
-    requires { length attr.now.name ≤ 255 }
+    requires { length attr.now.name ≤ identifier_limit }
     ensures { OnOk result (bytes.new.items ≡ bytes.old.items ++ attr_bytes attr.now) }
 {
     push_name(bytes, attr.name.bytes())?;
@@ -45,7 +46,7 @@ fn push_attr(bytes: &mut Vec<u8>, attr: &Attr) -> Result<(), AllocError>
 
 /// Appends a name behind its length.
 fn push_name(bytes: &mut Vec<u8>, name: &[u8]) -> Result<(), AllocError>
-    requires { length name.now ≤ 255 }
+    requires { length name.now ≤ identifier_limit }
     ensures { OnOk result (bytes.new.items ≡ bytes.old.items ++ name_bytes name.now) }
 {
     bytes.push(name.len() as u8)?;

@@ -11,8 +11,11 @@ use Rattle.hera_meaning.specs.declared.schemas.RelDecl.{RelDecl}
 use Rattle.hera_meaning.specs.Catalogues.{IsCatalogue}
 use Rattle.hera_meaning.specs.Rows.{IsRow}
 use Rattle.hera_meaning.specs.Deltas.{State}
-use Rattle.rel_format.specs.Pages.{Format, format_one, header_of, pages_of, half_of, rels_bytes, page_count}
+use Rattle.rel_format.specs.Pages.{Format, FitsIn, Fit, format_two, header_of, pages_of, half_of, rels_bytes, page_count}
 use Rattle.rel_format.specs.Journal.{half_limit}
+use Rattle.rel_format.specs.Places.{IsDamage}
+use Rattle.rel_format.specs.declared.version.Version.{Version}
+use Rattle.rel_format.specs.Versions.{format_of, version_in}
 use Rattle.rel_format.specs.declared.header.PageFault.{PageFault}
 use Rattle.rel_format.specs.declared.header.PageFault.TheVariants.{Damaged, Memory}
 use Rattle.rel_format.proofs.Good.{IsFew}
@@ -57,16 +60,20 @@ pages_of_none f rels =
     ∙ append-nil (header_of f rels ++ to_be_bytes w32 (page_count f.page (empty_state rels)))
     ∙ ap (λ (n : ℕ). header_of f rels ++ to_be_bytes w32 n) (no_page_count f.page rels)
 
-pub record EmptyIs (rels : List RelDecl) (parts : List Part) (bytes : List ℕ) (at : ℕ) : Type 0 where
-  pub base : IsBase format_one rels parts bytes at
-  pub state : state_of format_one.page rels parts bytes ≡ empty_state rels
-  pub printed : bytes ≡ half_of format_one rels (empty_state rels)
-  pub place : at ≡ length (pages_of format_one rels (empty_state rels))
+none_fit : (page : ℕ) (rels : List RelDecl) → Fit page (empty_state rels)
+none_fit page [] = tt
+none_fit page (d ∷ rels) = (All-nil (FitsIn page), none_fit page rels)
 
-pub empty_is : (rels : List RelDecl) (parts : List Part) (header front bytes : List ℕ) (at n : ℕ) → IsCatalogue rels → header ≡ header_of format_one rels → front ≡ header ++ 0 ∷ 0 ∷ 0 ∷ 0 ∷ [] → at ≡ length front → bytes ≡ front ++ 0 ∷ [] → parts ≡ replicate n (no_bytes at) → n ≡ length rels → EmptyIs rels parts bytes at
+pub record EmptyIs (rels : List RelDecl) (parts : List Part) (bytes : List ℕ) (at : ℕ) : Type 0 where
+  pub base : IsBase format_two rels parts bytes at
+  pub state : state_of format_two.page rels parts bytes ≡ empty_state rels
+  pub printed : bytes ≡ half_of format_two rels (empty_state rels)
+  pub place : at ≡ length (pages_of format_two rels (empty_state rels))
+
+pub empty_is : (rels : List RelDecl) (parts : List Part) (header front bytes : List ℕ) (at n : ℕ) → IsCatalogue rels → header ≡ header_of format_two rels → front ≡ header ++ 0 ∷ 0 ∷ 0 ∷ 0 ∷ [] → at ≡ length front → bytes ≡ front ++ 0 ∷ [] → parts ≡ replicate n (no_bytes at) → n ≡ length rels → EmptyIs rels parts bytes at
 empty_is rels parts header front bytes at n catalogue h f a b p count =
-    let page : ℕ = format_one.page in
-    let pages : front ≡ pages_of format_one rels (empty_state rels) = f ∙ ap (λ (t : List ℕ). t ++ 0 ∷ 0 ∷ 0 ∷ 0 ∷ []) h ∙ sym (pages_of_none format_one rels) in
+    let page : ℕ = format_two.page in
+    let pages : front ≡ pages_of format_two rels (empty_state rels) = f ∙ ap (λ (t : List ℕ). t ++ 0 ∷ 0 ∷ 0 ∷ 0 ∷ []) h ∙ sym (pages_of_none format_two rels) in
     let within : at ≤ length bytes = let size = ap (λ (t : List ℕ). length t) b in omega (arith, size, length-append front (0 ∷ []), a) in
     let none = no_parts page rels at bytes (omega arith) within in
     let same : replicate (length rels) (no_bytes at) ≡ parts = ap (λ (k : ℕ). replicate k (no_bytes at)) (sym count) ∙ sym p in
@@ -76,7 +83,8 @@ empty_is rels parts header front bytes at n catalogue h f a b p count =
         catalogue = catalogue;
         parts_are = subst (λ (ps : List Part). AreParts page rels ps bytes) same none.are;
         within = within;
-        printed = ap (take at) b ∙ take_at front (0 ∷ []) at (sym a) ∙ pages ∙ ap (pages_of format_one rels) (sym state);
+        fit = subst (Fit page) (sym state) (none_fit page rels);
+        printed = ap (take at) b ∙ take_at front (0 ∷ []) at (sym a) ∙ pages ∙ ap (pages_of format_two rels) (sym state);
       };
       state = state;
       printed = b ∙ ap (λ (t : List ℕ). t ++ 0 ∷ []) pages;
@@ -85,32 +93,34 @@ empty_is rels parts header front bytes at n catalogue h f a b p count =
 
 -- ---- what was read
 
-pub read_is : (rels : List RelDecl) (parts : List Part) (bytes : List ℕ) (at : ℕ) → length bytes ≤ half_limit → IsBase format_one rels parts bytes at → EndsAt format_one bytes rels at →
-    IsPages format_one bytes (record { catalogue = rels; state = state_of format_one.page rels parts bytes; bytes = bytes; journal = at })
-read_is rels parts bytes at short base ends = record {
+pub read_is : (version : Version) (rels : List RelDecl) (parts : List Part) (bytes : List ℕ) (at : ℕ) → version ≡ version_in bytes → length bytes ≤ half_limit → IsBase (format_of version) rels parts bytes at → EndsAt (format_of version) bytes rels at →
+    IsPages bytes (record { version = version; catalogue = rels; state = state_of (format_of version).page rels parts bytes; bytes = bytes; journal = at })
+read_is version rels parts bytes at own short base ends = record {
+  version = own;
   short = short;
   catalogue = base.catalogue;
-  state = state_is format_one.page rels parts bytes base.parts_are;
+  state = state_is (format_of version).page rels parts bytes base.parts_are;
+  fit = base.fit;
   own = refl;
   within = base.within;
   printed = base.printed;
   ends = ends;
 }
 
-pub fault_is : (bytes : List ℕ) (e : PageFault) → length bytes ≤ half_limit → HalfParts format_one bytes (Err e) → HalfIs format_one bytes (Err e)
-fault_is bytes (Damaged at) short h = inr (short, h)
-fault_is bytes Memory short h = tt
+pub fault_is : (version : Version) (bytes : List ℕ) (e : PageFault) → version ≡ version_in bytes → length bytes ≤ half_limit → HalfParts (format_of version) bytes (Err e) → HalfIs bytes (Err e)
+fault_is version bytes (Damaged at) own short h = inr (short, subst (λ (v : Version). IsDamage (format_of v) bytes at) own h)
+fault_is version bytes Memory own short h = tt
 
 -- ---- a relation of a base
 
-pub rel_part : (rels : List RelDecl) (parts ps : List Part) (bytes : List ℕ) (at : ℕ) (rel : ℕ) (d : RelDecl) (p : Part) → IsBase format_one rels parts bytes at → slice_get rels rel ≡ Some d → ps ≡ parts → true ≡ nat_lt rel (length ps) → p ≡ get_or ps rel p → PartHere format_one.page rels parts bytes rel d p
-rel_part rels parts ps bytes at rel d p base e same lt here =
-    part_here format_one.page rels parts bytes rel d p base.parts_are e
+pub rel_part : (f : Format) (rels : List RelDecl) (parts ps : List Part) (bytes : List ℕ) (at : ℕ) (rel : ℕ) (d : RelDecl) (p : Part) → IsBase f rels parts bytes at → slice_get rels rel ≡ Some d → ps ≡ parts → true ≡ nat_lt rel (length ps) → p ≡ get_or ps rel p → PartHere f.page rels parts bytes rel d p
+rel_part f rels parts ps bytes at rel d p base e same lt here =
+    part_here f.page rels parts bytes rel d p base.parts_are e
     (subst (λ (xs : List Part). slice_get xs rel ≡ Some p) same (slice_get_read ps (length ps) rel p refl (ltb-true rel (length ps) (sym lt)) here))
 
-pub no_rel : (rels rs : List RelDecl) (parts ps : List Part) (bytes : List ℕ) (at : ℕ) (rel : ℕ) → IsBase format_one rels parts bytes at → rel < length rs → rels ≡ rs → ps ≡ parts → false ≡ nat_lt rel (length ps) → ⊥
-no_rel rels rs parts ps bytes at rel base lt own same none =
-    let count = parts_length format_one.page rels parts bytes base.parts_are in
+pub no_rel : (f : Format) (rels rs : List RelDecl) (parts ps : List Part) (bytes : List ℕ) (at : ℕ) (rel : ℕ) → IsBase f rels parts bytes at → rel < length rs → rels ≡ rs → ps ≡ parts → false ≡ nat_lt rel (length ps) → ⊥
+no_rel f rels rs parts ps bytes at rel base lt own same none =
+    let count = parts_length f.page rels parts bytes base.parts_are in
     let size = ap (λ (xs : List Part). length xs) same in
     let same_rels = ap (λ (xs : List RelDecl). length xs) own in
     let within : rel < length ps = omega (arith, lt, count, size, same_rels) in

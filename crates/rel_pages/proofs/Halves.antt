@@ -1,17 +1,18 @@
 -- What reading a half to its first gate tells.
 use Rattle.std.proofs.Common.{◌≡◌, ◌≤◌, ℕ, zero, suc, ◌+◌, List, [], ◌∷◌, ◌++◌, length, map, take, drop, length-drop, Some, Err, refl, sym, ap, subst, ◌∙◌, append_assoc, arith}
-use Rattle.std.specs.Prelude.{slice_get}
+use Rattle.std.specs.Prelude.{slice_get, All}
 use Rattle.std.specs.List.{flat_map}
 use Rattle.std.specs.Int.{w32, to_be_bytes}
 use Rattle.std.proofs.lemmas.List.{length-append, length-take, take_at, drop_at, drop-drop, take-append-drop}
+use Rattle.std.proofs.lemmas.List.Elements.{All-nil, All-cons, All-append}
 use Rattle.std.proofs.lemmas.Option.{none-some, same_Some}
 use Rattle.hera_sets.specs.Rows.{Row}
 use Rattle.hera_meaning.specs.declared.schemas.RelDecl.{RelDecl}
 use Rattle.hera_meaning.specs.Catalogues.{IsCatalogue}
 use Rattle.hera_meaning.specs.Deltas.{State, IsState}
 use Rattle.hera_row.proofs.FieldLemmas.{AreBytes}
-use Rattle.rel_format.specs.Pages.{Format, header_of, pages_of, page_bytes, rels_bytes, page_count}
-use Rattle.rel_format.specs.Greedy.{all_rows}
+use Rattle.rel_format.specs.Pages.{Format, page_head, FitsIn, Fit, joined, header_of, pages_of, page_bytes, rels_bytes, page_count}
+use Rattle.rel_format.specs.Greedy.{all_rows, Follow, ArePages}
 use Rattle.rel_format.specs.declared.header.PageFault.{PageFault}
 use Rattle.rel_format.specs.declared.header.PageFault.TheVariants.{Damaged, Memory}
 use Rattle.std.specs.Prelude.{Vec}
@@ -84,6 +85,31 @@ groups_count page (d ∷ rels) (g ∷ gs) good =
     let more = groups_count page rels gs good.2 in
     omega (arith, here, more)
 
+-- each row lies in a page, so pages have room for it
+page_fits : (page : ℕ) (rows : List Row) → page_head + length (joined rows) ≤ page → All (FitsIn page) rows
+page_fits page [] h = All-nil (FitsIn page)
+page_fits page (r ∷ rows) h =
+    let size = length-append r (joined rows) in
+    All-cons (FitsIn page) r rows (omega (arith, h, size)) (page_fits page rows (omega (arith, h, size)))
+
+follow_fits : (page used : ℕ) (pages : List (List Row)) → Follow page used pages → All (FitsIn page) (all_rows pages)
+follow_fits page used [] h = All-nil (FitsIn page)
+follow_fits page used ([] ∷ pages) h = absurd h
+follow_fits page used ((r ∷ rows) ∷ pages) h =
+    All-append (FitsIn page) (r ∷ rows) (all_rows pages) (page_fits page (r ∷ rows) h.1) (follow_fits page (page_head + length (joined (r ∷ rows))) pages h.2)
+
+pages_fit : (page : ℕ) (pages : List (List Row)) → ArePages page pages → All (FitsIn page) (all_rows pages)
+pages_fit page [] h = All-nil (FitsIn page)
+pages_fit page ([] ∷ pages) h = absurd h
+pages_fit page ((r ∷ rows) ∷ pages) h =
+    All-append (FitsIn page) (r ∷ rows) (all_rows pages) (page_fits page (r ∷ rows) h.0) (follow_fits page (page_head + length (joined (r ∷ rows))) pages h.1)
+
+groups_fit : (page : ℕ) (rels : List RelDecl) (gs : List (List (List Row))) → GoodGroups page rels gs → Fit page (map all_rows gs)
+groups_fit page [] [] good = tt
+groups_fit page [] (g ∷ gs) good = absurd good
+groups_fit page (d ∷ rels) [] good = absurd good
+groups_fit page (d ∷ rels) (g ∷ gs) good = (pages_fit page g good.0.pages, groups_fit page rels gs good.2)
+
 -- ---- a half up to its first gate
 
 pub record AllRead (f : Format) (bytes : List ℕ) (at end : ℕ) (rels : List RelDecl) (lens : List ℕ) : Type 0 where
@@ -121,6 +147,7 @@ all_read_is f bytes at end rels lens b all some catalogue here within header own
         catalogue = catalogue;
         parts_are = subst (λ (ps : List Part). AreParts f.page rels ps bytes) same parts.are;
         within = within;
+        fit = subst (Fit f.page) (sym state) (groups_fit f.page rels b.pages good);
         printed = print ∙ ap (λ (t : List ℕ). front ++ t) (sym (groups_print f.page 0 rels b.pages good))
             ∙ ap (λ (n : ℕ). header_of f rels ++ to_be_bytes w32 n ++ rels_bytes f.page 0 (map all_rows b.pages)) (sym (groups_count f.page rels b.pages good))
             ∙ ap (pages_of f rels) (sym state);

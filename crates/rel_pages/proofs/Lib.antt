@@ -1,5 +1,4 @@
 pub mod States
-pub mod Lengths
 pub mod RowSteps
 pub mod PageSteps
 pub mod Runs
@@ -10,3 +9,4 @@ pub mod Bases
 pub mod Evens
 pub mod Nears
 pub mod Counts
+pub mod Leadings

@@ -15,7 +15,7 @@ use Rattle.rel_format.proofs.Greedy.{paged_again}
 use Rattle.rel_format.proofs.Good.{GoodRows, IsFew}
 use Rattle.rel_pages.specs.Reading.{pages_len}
 use Rattle.rel_pages.specs.Rels.{cut, leading, rows_from, rows_counted, page_rows, pages_rows, rows_in, IsRun, IsPage, ArePagesOf, IsPaged}
-use Rattle.rel_pages.proofs.Lengths.{row_in_front}
+use Rattle.rel_format.proofs.Lengths.{row_in_front}
 
 pub all_front : {A : Type 0} (P : A → Type 0) (xs ys : List A) → All P (xs ++ ys) → All P xs
 all_front P [] ys h = All-nil P

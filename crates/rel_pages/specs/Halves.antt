@@ -6,8 +6,9 @@ use Rattle.rel_format.specs.declared.header.PageFault.{PageFault}
 use Rattle.rel_format.specs.declared.header.PageFault.TheVariants.{Damaged, Memory}
 use Rattle.hera_meaning.specs.Catalogues.{IsCatalogue}
 use Rattle.hera_meaning.specs.Deltas.{IsState}
-use Rattle.rel_format.specs.Pages.{Format, pages_of}
+use Rattle.rel_format.specs.Pages.{Format, Fit, pages_of}
 use Rattle.rel_format.specs.Journal.{half_limit}
+use Rattle.rel_format.specs.Versions.{format_of, version_in}
 use Rattle.rel_format.specs.Table.{Book, at_page}
 use Rattle.rel_format.specs.Places.{Reaches, IsDamage}
 use Rattle.rel_pages.specs.declared.parts.Part.{Part}
@@ -23,22 +24,25 @@ HalfParts f bytes (Ok x) = IsBase f x.0.0 x.0.1.items bytes x.1 × EndsAt f byte
 HalfParts f bytes (Err (Damaged at)) = IsDamage f bytes at
 HalfParts f bytes (Err Memory) = Unit {0}
 
--- the bytes begin with the pages of this base, and it ends at their first gate
-pub record IsPages (f : Format) (bytes : List ℕ) (base : Stored) : Type 0 where
+-- the bytes begin with the pages of this base, in its format, and it ends at their first gate
+pub record IsPages (bytes : List ℕ) (base : Stored) : Type 0 where
+  pub version : base.version ≡ version_in bytes
   pub short : length bytes ≤ half_limit
   pub catalogue : IsCatalogue base.catalogue
   pub state : IsState base.catalogue base.state
+  pub fit : Fit (format_of base.version).page base.state
   pub own : base.bytes ≡ bytes
   pub within : base.journal ≤ length bytes
-  pub printed : take base.journal bytes ≡ pages_of f base.catalogue base.state
-  pub ends : EndsAt f bytes base.catalogue base.journal
+  pub printed : take base.journal bytes ≡ pages_of (format_of base.version) base.catalogue base.state
+  pub ends : EndsAt (format_of base.version) bytes base.catalogue base.journal
 
--- more bytes than a half may have are damaged at the limit, and others where their longest good prefix ends
-abbrev pub IsDamagedAt : Format → List ℕ → ℕ → Type 0
-IsDamagedAt f bytes at = ((half_limit < length bytes) × (at ≡ half_limit)) ⊎ ((length bytes ≤ half_limit) × IsDamage f bytes at)
+-- more bytes than a half may have are damaged at the limit, and others where their longest good prefix ends,
+-- in the format that they have
+abbrev pub IsDamagedAt : List ℕ → ℕ → Type 0
+IsDamagedAt bytes at = ((half_limit < length bytes) × (at ≡ half_limit)) ⊎ ((length bytes ≤ half_limit) × IsDamage (format_of (version_in bytes)) bytes at)
 
 -- what reading a half gives
-abbrev pub HalfIs : Format → List ℕ → Result Stored PageFault → Type 0
-HalfIs f bytes (Ok base) = IsPages f bytes base
-HalfIs f bytes (Err (Damaged at)) = IsDamagedAt f bytes at
-HalfIs f bytes (Err Memory) = Unit {0}
+abbrev pub HalfIs : List ℕ → Result Stored PageFault → Type 0
+HalfIs bytes (Ok base) = IsPages bytes base
+HalfIs bytes (Err (Damaged at)) = IsDamagedAt bytes at
+HalfIs bytes (Err Memory) = Unit {0}

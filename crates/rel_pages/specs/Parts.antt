@@ -3,7 +3,7 @@ use Rattle.std.specs.Prelude.{◌≡◌, ◌≤◌, ℕ, ◌+◌, List, [], ◌�
 use Rattle.hera_meaning.specs.declared.schemas.RelDecl.{RelDecl}
 use Rattle.hera_meaning.specs.Catalogues.{IsCatalogue}
 use Rattle.hera_meaning.specs.Deltas.{State}
-use Rattle.rel_format.specs.Pages.{Format, pages_of}
+use Rattle.rel_format.specs.Pages.{Format, Fit, pages_of}
 use Rattle.rel_pages.specs.declared.parts.Part.{Part}
 use Rattle.rel_pages.specs.Rels.{IsPaged, rows_in}
 
@@ -36,4 +36,5 @@ pub record IsBase (f : Format) (rels : List RelDecl) (parts : List Part) (bytes 
   pub catalogue : IsCatalogue rels
   pub parts_are : AreParts f.page rels parts bytes
   pub within : journal ≤ length bytes
+  pub fit : Fit f.page (state_of f.page rels parts bytes)
   pub printed : take journal bytes ≡ pages_of f rels (state_of f.page rels parts bytes)

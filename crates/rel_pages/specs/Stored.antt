@@ -2,9 +2,11 @@
 use Rattle.std.specs.Prelude.{ℕ, List, [], map}
 use Rattle.hera_meaning.specs.declared.schemas.RelDecl.{RelDecl}
 use Rattle.hera_meaning.specs.Deltas.{State}
+use Rattle.rel_format.specs.declared.version.Version.{Version}
 
--- a catalogue, for each of its relations the rows, the bytes of the half, and the place of its first gate
+-- the format of the half, a catalogue, for each of its relations the rows, the bytes of the half, and the place of its first gate
 pub record Stored : Type 0 where
+  pub version : Version
   pub catalogue : List RelDecl
   pub state : State
   pub bytes : List ℕ

@@ -1,29 +1,25 @@
 //! The rows of each relation of a catalogue, in the bytes of a half.
 ghost use Rattle.std.specs.Prelude.{◌≡◌, ◌<◌, ◌≤◌, length, slice_get, replicate, Some, IfOk};
 ghost use Rattle.hera_meaning.specs.Deltas.{IsState};
-ghost use Rattle.rel_format.specs.Pages.{format_one, half_of, pages_of};
+ghost use Rattle.rel_format.specs.Pages.{format_two, half_of, pages_of};
+ghost use Rattle.rel_format.specs.Versions.{version_in};
 ghost use Rattle.rel_pages.specs.Stored.{empty_state};
 ghost use Rattle.rel_pages.specs.Halves.{HalfIs};
 
-use crate::fields::rest_at;
 use crate::half::parts_of;
 use crate::page_rel::PageRel;
 use crate::parts::Part;
 use hera_meaning::RelId;
 use hera_row::Catalogue;
-use rel_format::{PageFault, header_bytes};
+use rel_format::{HALF_LIMIT, PageFault, Version, header_bytes, rest_at};
 use std::alloc::{AllocError, Global};
 use std::marker::Model;
 
-/// The most bytes of a half.
-const HALF_LIMIT: usize = 268_435_456;
-
-/// The bytes of a page.
-const PAGE: usize = 8192;
-
-/// A catalogue, and the rows of each of its relations, which lie in the bytes of a half.
+/// A catalogue, and the rows of each of its relations, which lie in the bytes of a half of this
+/// format.
 #[derive(Drop)]
 pub struct Base {
+    version: Version,
     catalogue: Catalogue,
     bytes: Vec<u8>,
     parts: Vec<Part>,
@@ -31,29 +27,29 @@ pub struct Base {
 }
 
 impl Model for Base {
-    ghost use Rattle.rel_format.specs.Pages.{format_one};
+    ghost use Rattle.rel_format.specs.Versions.{format_of};
     ghost use Rattle.rel_pages.specs.Stored.{Stored};
     ghost use Rattle.rel_pages.specs.Parts.{state_of, IsBase};
 
     ghost Value = { Stored };
 
-    ghost view = { λ b. record { catalogue = b.catalogue; state = state_of format_one.page b.catalogue b.parts.items b.bytes.items; bytes = b.bytes.items; journal = b.journal } };
+    ghost view = { λ b. record { version = b.version; catalogue = b.catalogue; state = state_of (format_of b.version).page b.catalogue b.parts.items b.bytes.items; bytes = b.bytes.items; journal = b.journal } };
 
-    ghost invariant = { λ b. IsBase format_one b.catalogue b.parts.items b.bytes.items b.journal };
+    ghost invariant = { λ b. IsBase (format_of b.version) b.catalogue b.parts.items b.bytes.items b.journal };
 }
 
-/// Reads a half up to its first gate. `Damaged` tells the length of the longest good prefix, or
+/// Reads a half of either format up to its first gate. `Damaged` tells the length of the longest good prefix, or
 /// 268435456 where there are more bytes than that.
 pub fn read_half(alloc: Global, bytes: Vec<u8>) -> Result<Base, PageFault>
-    ensures { HalfIs format_one bytes.items result }
+    ensures { HalfIs bytes.items result }
 {
-    if bytes.len() > HALF_LIMIT {
-        return Err(PageFault::Damaged {
-            at: HALF_LIMIT as u64,
-        });
+    if bytes.len() as u64 > HALF_LIMIT {
+        return Err(PageFault::Damaged { at: HALF_LIMIT });
     }
-    let ((catalogue, parts), journal) = parts_of(alloc, b"HERA0001", PAGE, &bytes)?;
+    let version = Version::of(&bytes);
+    let ((catalogue, parts), journal) = parts_of(alloc, version.magic(), version.page(), &bytes)?;
     Ok(Base {
+        version,
         catalogue,
         bytes,
         parts,
@@ -62,14 +58,17 @@ pub fn read_half(alloc: Global, bytes: Vec<u8>) -> Result<Base, PageFault>
 }
 
 impl Base {
-    /// The base in which no relation of the catalogue has a row, with the bytes of its half.
+    /// The base in which no relation of the catalogue has a row, with the bytes of its half
+    /// of format 2.
     pub fn empty(alloc: Global, catalogue: Catalogue) -> Result<Base, AllocError>
+        ensures version { IfOk result (λ base. base.version ≡ Version.Two) }
         ensures catalogue { IfOk result (λ base. base.catalogue ≡ catalogue) }
         ensures state { IfOk result (λ base. base.state ≡ empty_state catalogue) }
-        ensures bytes { IfOk result (λ base. base.bytes ≡ half_of format_one catalogue (empty_state catalogue)) }
-        ensures journal { IfOk result (λ base. base.journal ≡ length (pages_of format_one catalogue (empty_state catalogue))) }
+        ensures bytes { IfOk result (λ base. base.bytes ≡ half_of format_two catalogue (empty_state catalogue)) }
+        ensures journal { IfOk result (λ base. base.journal ≡ length (pages_of format_two catalogue (empty_state catalogue))) }
     {
-        let mut bytes = header_bytes(alloc, b"HERA0001", &catalogue)?;
+        let version = Version::Two;
+        let mut bytes = header_bytes(alloc, version.magic(), &catalogue)?;
         // no pages
         bytes.extend_from_slice(&[0, 0, 0, 0])?;
         let journal = bytes.as_slice().len();
@@ -77,11 +76,19 @@ impl Base {
         bytes.push(0)?;
         let parts = empty_parts(alloc, journal, catalogue.len())?;
         Ok(Base {
+            version,
             catalogue,
             bytes,
             parts,
             journal,
         })
+    }
+
+    /// The format of the half.
+    pub fn version(&self) -> Version
+        ensures { result ≡ self.now.version }
+    {
+        self.version
     }
 
     /// The relations.
@@ -118,7 +125,7 @@ impl Base {
             Some(part) => PageRel {
                 schema: &self.catalogue.decl(rel).schema,
                 pages: rest_at(&self.bytes, part.at).split_at(part.len).0,
-                page: PAGE,
+                page: self.version.page(),
             },
             None => unreachable!(),
         }

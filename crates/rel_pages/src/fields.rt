@@ -9,8 +9,8 @@ ghost use Rattle.rel_format.specs.Fields.{number, rel_field, row_count_field, fo
 ghost use Rattle.rel_pages.specs.Reading.{told};
 
 use hera_meaning::Schema;
-use hera_row::row_len;
 use hera_sets::is_below;
+use rel_format::{first_len, number16, number32, rest_at};
 
 /// The end of a page: its relation, the bytes used in it, and its last row.
 #[derive(Clone, Copy)]
@@ -28,36 +28,6 @@ pub(crate) struct RowRule<'a> {
     pub(crate) used: usize,
     pub(crate) before: Option<&'a [u8]>,
     pub(crate) full: Option<usize>,
-}
-
-/// The bytes from a place on.
-pub(crate) fn rest_at(bytes: &[u8], at: usize) -> &[u8]
-    requires { at ≤ length bytes.now }
-    ensures { result.now ≡ drop at bytes.entry.now }
-{
-    bytes.split_at(at).1
-}
-
-/// The first two bytes, a number.
-fn number16(bytes: &[u8]) -> Option<u16>
-    ensures value { result ≡ number w16 bytes.now }
-    ensures within { IfSome result (λ n. 2 ≤ length bytes.now) }
-{
-    if bytes.len() < 2 {
-        return None;
-    }
-    Some(u16::from_be_bytes([bytes[0], bytes[1]]))
-}
-
-/// The first four bytes, a number.
-fn number32(bytes: &[u8]) -> Option<u32>
-    ensures value { result ≡ number w32 bytes.now }
-    ensures within { IfSome result (λ n. 4 ≤ length bytes.now) }
-{
-    if bytes.len() < 4 {
-        return None;
-    }
-    Some(u32::from_be_bytes([bytes[0], bytes[1], bytes[2], bytes[3]]))
 }
 
 /// The number of pages at a place.
@@ -147,14 +117,6 @@ fn had_no_room(page: usize, full: Option<usize>, len: usize) -> bool
         None => true,
         Some(used) => len > page - used,
     }
-}
-
-/// The length of the row with which the bytes begin.
-pub(crate) fn first_len(schema: &Schema, bytes: &[u8]) -> Option<usize>
-    ensures value { result ≡ row_len_of schema.now bytes.now }
-    ensures within { IfSome result (λ n. n ≤ length bytes.now) }
-{
-    row_len(schema, bytes)
 }
 
 /// The row with which the bytes begin.

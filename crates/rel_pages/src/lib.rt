@@ -4,6 +4,7 @@
 mod base;
 mod fields;
 mod half;
+mod leading;
 mod near;
 mod page_rel;
 mod pages;
@@ -43,8 +44,9 @@ mod tests {
         assert_eq!(rt; base.catalogue().len(), 1);
         assert_eq!(rt;
             base.bytes(),
-            b"HERA0001\0\x01\x01R\x01\x01a\x01\0\0\0\0\0".as_slice()
+            b"HERA0002\0\x01\x01R\x01\x01a\x01\0\0\0\0\0".as_slice()
         );
+        assert!(rt; !base.version().is_old());
         let rows = base.rel(RelId(0));
         assert!(rt; rows.above(None).is_none() && !rows.has(b"a"));
         Ok(())
@@ -105,6 +107,7 @@ mod tests {
         let head = b"\0\0\0\x02\x80\0\0\0\0\0\0\x01\x80\0\0\0\0\0\0\x02";
         let bytes = half_with(rt.alloc(), head, 0)?;
         let base = read_half(rt.alloc(), bytes)?;
+        assert!(rt; base.version().is_old());
         assert_eq!(rt; base.journal_at(), 8212);
         assert_eq!(rt; base.catalogue().len(), 1);
         let rows = base.rel(RelId(0));
@@ -123,8 +126,8 @@ mod tests {
         [128, 0, 0, 0, 0, 0, low[0], low[1]]
     }
 
-    /// A base with the relation R(a int), which holds the ints 1 to 1025 on two pages.
-    fn two_pages(alloc: Global) -> Result<Base, Fail> {
+    /// A half of format 1 with the relation R(a int), which holds the ints 1 to 1025 on two pages.
+    fn two_pages(alloc: Global) -> Result<Vec<u8>, Fail> {
         let mut bytes = Vec::from_slice(alloc, b"HERA0001\0\x01\x01R\x01\x01a\x01\0\0\0\x02")?;
         bytes.extend_from_slice(b"\0\0\x03\xff")?;
         for n in 1..1024 {
@@ -137,12 +140,22 @@ mod tests {
         for _ in bytes.len()..16404 {
             bytes.push(0)?;
         }
-        Ok(read_half(alloc, bytes)?)
+        Ok(bytes)
+    }
+
+    #[test]
+    fn a_half_that_ends_in_a_row_is_damaged_at_that_row(rt: HostRuntime) -> Result<(), Fail> {
+        let mut bytes = two_pages(rt.alloc())?;
+        bytes.truncate(8220);
+        assert!(rt;
+            matches!(read_half(rt.alloc(), bytes), Err(PageFault::Damaged { at }) if at == 8216)
+        );
+        Ok(())
     }
 
     #[test]
     fn a_walk_finds_each_row_at_its_place(rt: HostRuntime) -> Result<(), Fail> {
-        let base = two_pages(rt.alloc())?;
+        let base = read_half(rt.alloc(), two_pages(rt.alloc())?)?;
         assert_eq!(rt; base.catalogue().len(), 1);
         let rows = base.rel(RelId(0));
         let mut near = rows.above_near(None, Place::start());
@@ -208,7 +221,7 @@ mod tests {
 
     #[test]
     fn a_wrong_place_changes_no_row(rt: HostRuntime) -> Result<(), Fail> {
-        let base = two_pages(rt.alloc())?;
+        let base = read_half(rt.alloc(), two_pages(rt.alloc())?)?;
         assert_eq!(rt; base.catalogue().len(), 1);
         let rows = base.rel(RelId(0));
         for page in [0, 1, 2, usize::MAX] {

@@ -8,11 +8,11 @@ ghost use Rattle.rel_pages.specs.Looks.{Tells};
 ghost use Rattle.rel_pages.specs.Rels.{IsPaged, rows_in, rows_from, pages_rows, leading, passes, ArePagesOf, IsRun};
 
 use crate::page_rel::{
-    Bound, PAGE_HEAD, PageRel, even_row, first_in, first_in_page, leading_at, one_width, passes,
-    row_count,
+    Bound, PageRel, even_row, first_in, first_in_page, leading_at, one_width, passes, row_count,
 };
 use crate::place::{Near, Place};
 use hera_meaning::Schema;
+use rel_format::PAGE_HEAD;
 
 /// What a look at a row of a page and at those beside it tells of the first row that is looked for.
 #[derive(Clone, Copy)]

@@ -6,15 +6,13 @@ ghost use Rattle.hera_sets.specs.Rows.{IsAscending};
 ghost use Rattle.hera_row.specs.Reading.{row_len_of};
 ghost use Rattle.rel_pages.specs.Rels.{IsPaged, rows_in, rows_from, page_rows, pages_rows, rows_counted, leading, passes, IsPage, ArePagesOf, IsRun};
 
-use crate::fields::first_len;
+use crate::leading::leading_len;
 use crate::place::{Near, Place};
 use hera_meaning::{Kind, Schema};
-use hera_rows::Sorted;
+use hera_rows::{Mark, Sorted, Spot};
 use hera_sets::{is_below, is_same};
+use rel_format::PAGE_HEAD;
 use std::marker::Model;
-
-/// The bytes of a page before its rows.
-pub(crate) const PAGE_HEAD: usize = 4;
 
 /// The rows of one relation, in byte order. `pages` are whole pages of `page` bytes, printed as those
 /// of one relation with this schema. Rows are lent as slices of them.
@@ -53,6 +51,19 @@ impl<'a> Sorted for PageRel<'a> {
             Some(row) => Bound::Past(row),
         };
         first_in(self.schema, self.pages, self.page, bound).row
+    }
+
+    fn above_from<'s>(&'s self, bound: Option<&[u8]>, mark: &mut Mark) -> Option<&'s [u8]> {
+        let place = Place {
+            page: mark.first.kept.block,
+            row: mark.first.kept.row,
+        };
+        let near = self.above_near(bound, place);
+        mark.first.kept = Spot {
+            block: near.place.page,
+            row: near.place.row,
+        };
+        near.row
     }
 
     fn has(&self, row: &[u8]) -> bool {
@@ -352,8 +363,5 @@ fn first_row<'r>(schema: &Schema, bytes: &'r [u8]) -> (&'r [u8], &'r [u8])
     ensures bytes { result.0.now ++ result.1.now ≡ bytes.entry.now }
     ensures leading { result.0.now ≡ leading schema.now bytes.entry.now }
 {
-    match first_len(schema, bytes) {
-        Some(len) => bytes.split_at(len),
-        None => unreachable!(),
-    }
+    bytes.split_at(leading_len(schema, bytes))
 }

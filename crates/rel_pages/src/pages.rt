@@ -11,11 +11,8 @@ ghost use Rattle.rel_pages.specs.Reading.{told, row_told, used_told, RowsTo, Pag
 use crate::fields::{PageEnd, RowRule, fill_at, page_count_at, rel_at, row_at, row_count_at};
 use hera_meaning::{RelId, Schema};
 use hera_row::Catalogue;
-use rel_format::{PageFault, damaged};
+use rel_format::{PAGE_HEAD, PageFault, damaged};
 use std::alloc::{AllocError, Global};
-
-/// The bytes of a page before its rows.
-const PAGE_HEAD: usize = 4;
 
 /// The end of the page before, where it has the same relation.
 fn page_before<'a>(last: Option<PageEnd<'a>>, rel: u16) -> Option<PageEnd<'a>>

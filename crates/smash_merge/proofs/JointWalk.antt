@@ -1,5 +1,5 @@
 -- The smash of two lists of atoms from the front, and whether they clash.
-use Rattle.std.proofs.Common.{◌≡◌, ℕ, Bool, true, false, cond, not, ◌||◌, ◌&&◌, List, [], ◌∷◌, ◌++◌, length, ◌+◌, ◌<◌, Option, Some, None, refl, sym, ap, ◌∙◌, subst, append_assoc, arith}
+use Rattle.std.proofs.Common.{◌≡◌, Bool, true, false, cond, not, ◌||◌, ◌&&◌, List, [], ◌∷◌, ◌++◌, length, ◌<◌, Option, Some, None, refl, sym, ap, ◌∙◌, subst, append_assoc, arith}
 use Rattle.std.specs.List.{filter, find, list_any}
 use Rattle.std.specs.Option.{is_some}
 use Rattle.std.proofs.lemmas.Bool.{both_ways, false≢true}
@@ -12,7 +12,7 @@ use Rattle.hera_meaning.specs.declared.scalars.Sign.TheVariants.{Plus, Minus}
 use Rattle.hera_meaning.specs.Deltas.{Atom, Delta, fail, atoms, is_fail, key_of, keys_of, is_plus, plus_atoms, minus_atoms, unnamed, joint_atoms, smash_of, have_common, clash, merge_of}
 use Rattle.hera_meaning.specs.Values.{same_sign}
 use Rattle.hera_meaning.proofs.Atoms.{ascending_joint}
-use Rattle.delta_atoms.specs.Atoms.{sign_at, signed, atoms_in, is_after}
+use Rattle.delta_atoms.specs.Atoms.{sign_at, atoms_in, is_after}
 use Rattle.delta_atoms.specs.Edits.{gives, turned}
 use Rattle.delta_atoms.proofs.Signs.{first_of, none_signed, sign_at-append, sign_at-in_order, same_signs}
 use Rattle.delta_atoms.proofs.PartSigns.{holds-keys_of}

@@ -1,1 +1,2 @@
 pub mod JointWalk
+pub mod Merging

@@ -4,14 +4,15 @@
 //! deltas with different signs.
 #![tactic(auto)]
 
-ghost use Rattle.std.specs.Prelude.{◌≡◌, ◌&&◌, cond, not, ◌∷◌, IfOk, OnOk, OnErr};
+ghost use Rattle.std.specs.Prelude.{◌≡◌, ◌&&◌, cond, not, true, false, ◌∷◌, IfOk, OnOk, OnErr};
 ghost use Rattle.hera_sets.specs.Rows.{is_below};
-ghost use Rattle.hera_meaning.specs.Deltas.{fail, atoms, key_of, smash_of, merge_of, joint_atoms, clash};
+ghost use Rattle.hera_meaning.specs.Deltas.{fail, atoms, is_fail, key_of, smash_of, merge_of, joint_atoms, clash};
 ghost use Rattle.hera_meaning.specs.Values.{same_sign};
 ghost use Rattle.delta_atoms.specs.Atoms.{atoms_in};
+ghost use Rattle.delta_atoms.specs.Edits.{gives, turned};
 ghost use Rattle.delta_atoms.specs.Refs.{atom_in};
 
-use delta_atoms::{AtomRef, Delta};
+use delta_atoms::{AtomMark, AtomRef, Delta};
 use hera_meaning::Sign;
 use hera_sets::is_below;
 use std::alloc::{AllocError, Global};
@@ -52,6 +53,64 @@ pub fn smash_into(a: &mut Delta, b: &Delta) -> Result<(), AllocError>
     a.smash_with(b)
 }
 
+/// Makes the second delta the smash of both. It costs a search in the second delta for each atom of the first. Without
+/// memory the second delta is as before.
+pub fn smash_under(b: &mut Delta, a: &Delta) -> Result<(), AllocError>
+    ensures ok { OnOk result (b.new ≡ smash_of a.now b.old) }
+    ensures err { OnErr result (b.new ≡ b.old) }
+{
+    b.smash_under(a)
+}
+
+/// Makes the first delta the merge of both, which does not ask in what order they come. It costs a search in the first
+/// delta for each atom of the second. Without memory the first delta is as before.
+pub fn merge_into(a: &mut Delta, b: &Delta) -> Result<(), AllocError>
+    ensures ok { OnOk result (a.new ≡ merge_of a.old b.now) }
+    ensures either { OnOk result (a.new ≡ merge_of b.now a.old) }
+    ensures err { OnErr result (a.new ≡ a.old) }
+{
+    if a.is_fail() {
+        return Ok(());
+    }
+    if b.is_fail() {
+        a.make_fail();
+        return Ok(());
+    }
+    if clash(a, b) {
+        a.make_fail();
+        return Ok(());
+    }
+    smash_into(a, b)
+}
+
+/// Whether some relation and row stand in both with different signs. It searches the first for each atom of the second.
+fn clash(a: &Delta, b: &Delta) -> bool
+    requires { is_fail a.now ≡ false }
+    ensures { result ≡ clash (atoms_in a.now) (atoms_in b.now) }
+{
+    // for the proof alone: the atoms of the first ascend
+    let _fails = a.is_fail();
+    let mut last: Option<AtomRef<'_>> = None;
+    let mut mark = AtomMark::start();
+    while let Some(atom) = b.above_from(last, &mut mark) {
+        if crosses(a.sign(atom.rel, atom.row), atom.sign) {
+            return true;
+        }
+        last = Some(atom);
+    }
+    false
+}
+
+/// Whether it is the other sign that is there.
+fn crosses(there: Option<Sign>, sign: Sign) -> bool
+    ensures { result ≡ gives there (turned true sign) }
+{
+    match (there, sign) {
+        (Some(Sign::Plus), Sign::Minus) | (Some(Sign::Minus), Sign::Plus) => true,
+        _ => false,
+    }
+}
+
 /// The atoms of both deltas, in a joint walk in which the second one's win. It stops where two clash,
 /// if that makes it `fail`.
 fn joint(alloc: Global, a: &Delta, b: &Delta, clash_fails: bool) -> Result<Delta, AllocError>
@@ -60,8 +119,13 @@ fn joint(alloc: Global, a: &Delta, b: &Delta, clash_fails: bool) -> Result<Delta
     let mut both = Delta::empty(alloc);
     let mut left: Option<AtomRef<'_>> = None;
     let mut right: Option<AtomRef<'_>> = None;
+    let mut ours = AtomMark::start();
+    let mut theirs = AtomMark::start();
     loop {
-        match (a.above(left), b.above(right)) {
+        match (
+            a.above_from(left, &mut ours),
+            b.above_from(right, &mut theirs),
+        ) {
             (None, None) => return Ok(both),
             (Some(x), None) => {
                 both.push_last(x.sign, x.rel, x.row)?;
@@ -127,6 +191,13 @@ mod tests {
         smash_into(&mut place, &minus)?;
         assert!(rt; place.equal(&minus) && smash(alloc, &plus, &minus)?.equal(&minus));
         assert!(rt; merge(alloc, &plus, &minus)?.is_fail());
+        smash_under(&mut place, &plus)?;
+        assert!(rt; place.equal(&minus));
+        let other = Delta::atom(alloc, Sign::Minus, RelId(1), b"a")?;
+        merge_into(&mut place, &other)?;
+        assert!(rt; place.equal(&merge(alloc, &other, &minus)?) && place.count() == 2);
+        merge_into(&mut place, &plus)?;
+        assert!(rt; place.is_fail());
         Ok(())
     }
 }

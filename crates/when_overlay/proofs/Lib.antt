@@ -1,6 +1,5 @@
 pub mod Layering
 pub mod Signing
 pub mod Meeting
-pub mod Placings
 pub mod Viewing
 pub mod Counting

@@ -83,7 +83,7 @@ was_met None false p g e = cc
 was_met (Some Plus) h p g e = or_right h p (g refl)
 was_met (Some Minus) h p g e = cc
 
-after_met : (r : ℕ) (rows : List Row) (ds : List Delta) (q : Row) → holds (rows_after r rows ds) q ≡ true → holds (met r rows ds) q ≡ true
+pub after_met : (r : ℕ) (rows : List Row) (ds : List Delta) (q : Row) → holds (rows_after r rows ds) q ≡ true → holds (met r rows ds) q ≡ true
 after_met r rows ds q e =
     holds-normal (rows ++ pluses r ds) q ∙ holds-append rows (pluses r ds) q
     ∙ was_met (sign_over r ds q) (holds rows q) (holds (pluses r ds) q) (over_named r Plus ds q) (sym (holds-after r rows ds q) ∙ e)

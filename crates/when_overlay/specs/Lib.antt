@@ -1,5 +1,5 @@
 pub mod Changed
 pub mod Layered
 pub mod Seeking
-pub mod Placing
 pub mod Counting
+pub mod Committed

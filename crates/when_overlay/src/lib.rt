@@ -11,10 +11,12 @@ mod layers;
 mod marks;
 mod seeks;
 mod signs;
+mod stored;
 mod views;
 
 pub use layers::Layers;
 pub use marks::{Found, Mark};
+pub use stored::Stored;
 pub use views::{Hyp, View};
 
 #[cfg(test)]
@@ -22,7 +24,7 @@ mod tests {
     use super::*;
     use delta_atoms::Delta;
     use hera_meaning::{RelId, Sign};
-    use hera_rows::{RowSet, Sorted, collect};
+    use hera_rows::{RowSet, Sorted, Spot, collect};
     use rel_pages::{Base, read_half};
     use std::alloc::Global;
     use std::process::Abort;
@@ -127,9 +129,12 @@ mod tests {
             let row = rows.row(i);
             assert_eq!(rt; next.row, Some(row));
             let behind = rel.above(Some(row));
-            for put_in in [0, 1, 2, 4, usize::MAX] {
+            for n in [0, 1, 2, 4, usize::MAX] {
                 let mark = Mark {
-                    put_in,
+                    put_in: Spot {
+                        block: n / 2,
+                        row: n,
+                    },
                     ..next.mark
                 };
                 assert_eq!(rt; rel.above_near(Some(row), mark).row, behind);

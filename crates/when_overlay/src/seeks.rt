@@ -10,7 +10,7 @@ ghost use Rattle.when_overlay.specs.Layered.{IsTip, path};
 ghost use Rattle.when_overlay.specs.Seeking.{named_in, named, met, next_of, sign_over, stands};
 
 use crate::Layers;
-use crate::marks::{Found, Mark, put_in_near, row_near};
+use crate::marks::{Found, Mark, put_in_near};
 use crate::signs::sign_of;
 use delta_atoms::Delta;
 use hera_meaning::{RelId, Sign};
@@ -251,7 +251,7 @@ fn met_under<'s>(
     let row = lesser(near.row, own.row);
     let mark = Mark {
         pages: near.place,
-        put_in: own.before,
+        put_in: own.spot,
     };
     Met {
         found: Found { row, mark },
@@ -346,9 +346,9 @@ fn above_alone<'s>(rows: &'s RowSet, bound: Option<&[u8]>, mark: Mark) -> Found<
     ensures next { option_copied result.row ≡ find (is_past (option_copied bound.entry)) rows.now }
     ensures ordered { IsAscending rows.now }
 {
-    let own = row_near(rows, bound, mark.put_in);
+    let own = rows.above_near(bound, mark.put_in);
     let mark = Mark {
-        put_in: own.before,
+        put_in: own.spot,
         ..mark
     };
     Found { row: own.row, mark }

@@ -72,6 +72,16 @@ impl<'a> Sorted for Hyp<'a> {
         self.above_near(bound, Mark::nowhere()).row
     }
 
+    fn above_from<'s>(
+        &'s self,
+        bound: Option<&[u8]>,
+        mark: &mut hera_rows::Mark,
+    ) -> Option<&'s [u8]> {
+        let found = self.above_near(bound, Mark::of(mark.first));
+        mark.first = found.mark.side();
+        found.row
+    }
+
     fn has(&self, row: &[u8]) -> bool {
         seeks::has(
             &self.pages,

@@ -13,19 +13,19 @@ use crate::events::{End, Told};
 use delta_atoms::Delta;
 use hera_code::{BodyInfo, Code};
 use hera_frames::Point;
-use rel_pages::Base;
 use std::alloc::AllocError;
+use when_overlay::Stored;
 
-impl Running {
+impl Running<'_> {
     pub(super) fn call(
         &mut self,
         code: &Code,
-        base: &Base,
-        commits: &[Delta],
+        stored: &Stored<'_>,
         k: u32,
     ) -> Result<Told, AllocError>
         requires { self.old.at + 1 < 2 ^ 64 }
-        ensures { let s = state_over base.now.state commits.now in IfOk result (λ told. step_at s told self.new ≡ calls_body (slice_get code.now.bodies k) (machine_at s self.old)) }
+        ensures step { let s = stored.now.state in IfOk result (λ told. step_at s told self.new ≡ calls_body (slice_get code.now.bodies k) (machine_at s self.old)) }
+        ensures relations { self.new.relations ≡ self.old.relations }
     {
         let Some(body) = code.bodies.get(k as usize) else {
             return stuck();
@@ -39,21 +39,22 @@ impl Running {
         if self.turns == 0 {
             return Ok(Told::Ended(End::Spent));
         }
-        self.hold(body.params as usize, base, commits)?;
+        self.hold(body.params as usize, stored)?;
         self.begin_anew(&body)?;
         Ok(Told::Quiet)
     }
 
     /// Collects what the newest `n` operands name, which are there.
-    fn hold(&mut self, n: usize, base: &Base, commits: &[Delta]) -> Result<(), AllocError>
+    fn hold(&mut self, n: usize, stored: &Stored<'_>) -> Result<(), AllocError>
         requires { n ≤ length self.old.operands }
-        ensures same { let s = state_over base.now.state commits.now in machine_at s self.new ≡ machine_at s self.old }
+        ensures same { let s = stored.now.state in machine_at s self.new ≡ machine_at s self.old }
         ensures at { self.new.at ≡ self.old.at }
         ensures turns { self.new.turns ≡ self.old.turns }
         ensures held { OnOk result (AreHeld (take n self.new.operands)) }
+        ensures relations { self.new.relations ≡ self.old.relations }
     {
         self.operands
-            .hold_newest(n, self.alloc, &self.changes, base, commits)
+            .hold_newest(n, self.alloc, &self.changes, stored)
     }
 
     /// Calls a body whose arguments are there and name nothing, where a turn is left. The memory for one more
@@ -64,7 +65,8 @@ impl Running {
         requires there { body.now.params ≤ length self.old.operands }
         requires held { AreHeld (take body.now.params self.old.operands) }
         requires turn { 1 ≤ self.old.turns }
-        ensures { (s : State) → OnOk result (quiet (machine_at s self.new) ≡ calls_body (Some body.now) (machine_at s self.old)) }
+        ensures step { (s : State) → OnOk result (quiet (machine_at s self.new) ≡ calls_body (Some body.now) (machine_at s self.old)) }
+        ensures relations { self.new.relations ≡ self.old.relations }
     {
         let names = any_names(self.names_below, &self.operands, &self.walks);
         let point = Point {
@@ -92,13 +94,15 @@ impl Running {
 
     /// Goes back to the frame that waits, if there is one. It takes no memory.
     fn go_back(&mut self) -> bool
-        ensures { (s : State) → goes_back (machine_at s self.old).callers [] (machine_at s self.old) ≡ (if result then quiet (machine_at s self.new) else ends stuck) }
+        ensures step { (s : State) → goes_back (machine_at s self.old).callers [] (machine_at s self.old) ≡ (if result then quiet (machine_at s self.new) else ends stuck) }
+        ensures relations { self.new.relations ≡ self.old.relations }
     {
         self.resume(None)
     }
 
     pub(super) fn ret(&mut self) -> Result<Told, AllocError>
-        ensures { (s : State) → IfOk result (λ told. step_at s told self.new ≡ goes_back (machine_at s self.old).callers [] (machine_at s self.old)) }
+        ensures step { (s : State) → IfOk result (λ told. step_at s told self.new ≡ goes_back (machine_at s self.old).callers [] (machine_at s self.old)) }
+        ensures relations { self.new.relations ≡ self.old.relations }
     {
         if self.go_back() {
             Ok(Told::Quiet)
@@ -107,13 +111,11 @@ impl Running {
         }
     }
 
-    pub(super) fn ret_val(&mut self, base: &Base, commits: &[Delta]) -> Result<Told, AllocError>
-        ensures { let s = state_over base.now.state commits.now in IfOk result (λ told. step_at s told self.new ≡ on_top (machine_at s self.old).operands (λ v vs. goes_back (machine_at s self.old).callers (v ∷ []) (machine_at s self.old))) }
+    pub(super) fn ret_val(&mut self, stored: &Stored<'_>) -> Result<Told, AllocError>
+        ensures step { let s = stored.now.state in IfOk result (λ told. step_at s told self.new ≡ on_top (machine_at s self.old).operands (λ v vs. goes_back (machine_at s self.old).callers (v ∷ []) (machine_at s self.old))) }
+        ensures relations { self.new.relations ≡ self.old.relations }
     {
-        let Some(v) = self
-            .operands
-            .pop_value(self.alloc, &self.changes, base, commits)?
-        else {
+        let Some(v) = self.operands.pop_value(self.alloc, &self.changes, stored)? else {
             return stuck();
         };
         if !self.go_back() {

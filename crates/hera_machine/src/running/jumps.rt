@@ -10,9 +10,10 @@ use crate::events::{End, Told};
 use hera_code::Code;
 use std::alloc::AllocError;
 
-impl Running {
+impl Running<'_> {
     pub(super) fn jump(&mut self, code: &Code, a: u32) -> Result<Told, AllocError>
-        ensures { (s : State) → IfOk result (λ told. step_at s told self.new ≡ goes_to code.now a (machine_at s self.old)) }
+        ensures step { (s : State) → IfOk result (λ told. step_at s told self.new ≡ goes_to code.now a (machine_at s self.old)) }
+        ensures relations { self.new.relations ≡ self.old.relations }
     {
         if (a as usize) >= code.instrs.len() {
             return stuck();
@@ -23,7 +24,8 @@ impl Running {
 
     pub(super) fn unless(&mut self, code: &Code, a: u32) -> Result<Told, AllocError>
         requires { self.old.at + 1 < 2 ^ 64 }
-        ensures { (s : State) → IfOk result (λ told. step_at s told self.new ≡ on_top (machine_at s self.old).operands (λ v vs. needs_address code.now a (by_bool v (quiet (on_with vs (machine_at s self.old))) (quiet (record (machine_at s self.old) { at = a; operands = vs }))))) }
+        ensures step { (s : State) → IfOk result (λ told. step_at s told self.new ≡ on_top (machine_at s self.old).operands (λ v vs. needs_address code.now a (by_bool v (quiet (on_with vs (machine_at s self.old))) (quiet (record (machine_at s self.old) { at = a; operands = vs }))))) }
+        ensures relations { self.new.relations ≡ self.old.relations }
     {
         let Some(v) = self.operands.pop() else {
             return stuck();
@@ -45,7 +47,8 @@ impl Running {
     }
 
     pub(super) fn back(&mut self, code: &Code, a: u32) -> Result<Told, AllocError>
-        ensures { (s : State) → IfOk result (λ told. step_at s told self.new ≡ needs_address code.now a (spends (machine_at s self.old).turns (λ n. quiet (record (machine_at s self.old) { at = a; turns = n })))) }
+        ensures step { (s : State) → IfOk result (λ told. step_at s told self.new ≡ needs_address code.now a (spends (machine_at s self.old).turns (λ n. quiet (record (machine_at s self.old) { at = a; turns = n })))) }
+        ensures relations { self.new.relations ≡ self.old.relations }
     {
         if (a as usize) >= code.instrs.len() {
             return stuck();

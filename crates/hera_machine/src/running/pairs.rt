@@ -21,7 +21,7 @@ use hera_code::{Code, Instr};
 use hera_flat::{Flat, flat_two};
 use hera_meaning::{Const, Op, Scalar, Schema};
 
-impl Running {
+impl Running<'_> {
     /// Loads a tuple and takes one of its fields, where that is an int or a bool.
     #[inline]
     fn loaded_field(&mut self, i: u32, schema: &Schema, field: usize) -> bool
@@ -30,6 +30,7 @@ impl Running {
         ensures done { (s : State) → (place : ℕ) → result ≡ true → quiet (machine_at s self.new) ≡ with_value place (Op.Field schema.now field) (slot_in (slice_get self.old.locals i)) (machine_at s self.old) }
         ensures past { result ≡ true → IsPast self.old self.new }
         ensures kept { result ≡ false → self.new ≡ self.old }
+        ensures relations { self.new.relations ≡ self.old.relations }
     {
         let Some(v) = self.locals.field_at(i as usize, schema, field) else {
             return false;
@@ -41,6 +42,27 @@ impl Running {
         true
     }
 
+    /// Loads a relation and tells whether the newest operand, a tuple, is one of its rows. None of them is copied.
+    #[inline]
+    fn loaded_asked(&mut self, i: u32) -> bool
+        requires { self.old.at + 2 < 2 ^ 64 }
+        ensures there { result ≡ true → slice_get self.old.locals i ≡ Some (slot_in (slice_get self.old.locals i)) }
+        ensures done { (s : State) → (place : ℕ) → result ≡ true → quiet (machine_at s self.new) ≡ with_value place Op.In (slot_in (slice_get self.old.locals i)) (machine_at s self.old) }
+        ensures past { result ≡ true → IsPast self.old self.new }
+        ensures kept { result ≡ false → self.new ≡ self.old }
+        ensures relations { self.new.relations ≡ self.old.relations }
+    {
+        let Some(rows) = self.locals.rows_at(i as usize) else {
+            return false;
+        };
+        let Some(found) = self.operands.newest_is_in(rows) else {
+            return false;
+        };
+        self.operands.replace_tuple(Flat::Bool(found));
+        self.at += 2;
+        true
+    }
+
     /// Pushes an int and does an operation on it and the newest operand, where that is an int or a bool.
     #[inline]
     fn computed_with(&mut self, n: i64, op: &Op) -> bool
@@ -48,6 +70,7 @@ impl Running {
         ensures done { (s : State) → (place : ℕ) → result ≡ true → quiet (machine_at s self.new) ≡ with_value place op.now (int_value n) (machine_at s self.old) }
         ensures past { result ≡ true → IsPast self.old self.new }
         ensures kept { result ≡ false → self.new ≡ self.old }
+        ensures relations { self.new.relations ≡ self.old.relations }
     {
         let Some(first) = self.operands.newest_int() else {
             return false;
@@ -67,6 +90,7 @@ impl Running {
         requires { self.old.at + 3 < 2 ^ 64 }
         ensures done { (s : State) → (place : ℕ) → result ≡ true → quiet (machine_at s self.new) ≡ then_parts code.now a (with_value place op.now (int_value n) (machine_at s self.old)) }
         ensures kept { result ≡ false → self.new ≡ self.old }
+        ensures relations { self.new.relations ≡ self.old.relations }
     {
         let Some(first) = self.operands.newest_int() else {
             return false;
@@ -87,13 +111,14 @@ impl Running {
     }
 
     /// Loads the slot of this number, where the instruction at hand says so, and takes the field of its tuple that the
-    /// next one names.
+    /// next one names, or asks its relation for the newest operand, where the next one says that.
     #[inline]
     fn loaded_next(&mut self, code: &Code, i: u32) -> bool
         requires { slice_get code.now.instrs self.old.at ≡ Some (Instr.Load i) }
         ensures quietly { (rels : List PlainDecl) → (hosts : Hosts) → (s : State) → result ≡ true → GoesQuietly code.now rels hosts s (machine_at s self.old) (machine_at s self.new) }
         ensures less { result ≡ true → left (length code.now.instrs) (machine_at [] self.new) < left (length code.now.instrs) (machine_at [] self.old) }
         ensures kept { result ≡ false → self.new ≡ self.old }
+        ensures relations { self.new.relations ≡ self.old.relations }
     {
         // for the proof alone: addresses of code are below 2^64 - 1
         let _len = code.instrs.len();
@@ -101,6 +126,7 @@ impl Running {
             Some(Instr::Prim(Op::Field(schema, field), _)) => {
                 self.loaded_field(i, schema, *field)
             }
+            Some(Instr::Prim(Op::In, _)) => self.loaded_asked(i),
             _ => false,
         }
     }
@@ -112,6 +138,7 @@ impl Running {
         ensures quietly { (rels : List PlainDecl) → (hosts : Hosts) → (s : State) → result ≡ true → GoesQuietly code.now rels hosts s (machine_at s self.old) (machine_at s self.new) }
         ensures less { result ≡ true → left (length code.now.instrs) (machine_at [] self.new) < left (length code.now.instrs) (machine_at [] self.old) }
         ensures kept { result ≡ false → self.new ≡ self.old }
+        ensures relations { self.new.relations ≡ self.old.relations }
     {
         // for the proof alone: addresses of code are below 2^64 - 1
         let _len = code.instrs.len();
@@ -129,6 +156,7 @@ impl Running {
         ensures quietly { (rels : List PlainDecl) → (hosts : Hosts) → (s : State) → result ≡ true → GoesQuietly code.now rels hosts s (machine_at s self.old) (machine_at s self.new) }
         ensures less { Forward code.now → result ≡ true → left (length code.now.instrs) (machine_at [] self.new) < left (length code.now.instrs) (machine_at [] self.old) }
         ensures kept { result ≡ false → self.new ≡ self.old }
+        ensures relations { self.new.relations ≡ self.old.relations }
     {
         // for the proof alone: addresses of code are below 2^64 - 1
         let _len = code.instrs.len();
@@ -148,6 +176,7 @@ impl Running {
         ensures quietly { (rels : List PlainDecl) → (hosts : Hosts) → (s : State) → result ≡ true → GoesQuietly code.now rels hosts s (machine_at s self.old) (machine_at s self.new) }
         ensures less { Forward code.now → result ≡ true → left (length code.now.instrs) (machine_at [] self.new) < left (length code.now.instrs) (machine_at [] self.old) }
         ensures kept { result ≡ false → self.new ≡ self.old }
+        ensures relations { self.new.relations ≡ self.old.relations }
     {
         match instr {
             Instr::Load(i) => self.loaded_next(code, *i),

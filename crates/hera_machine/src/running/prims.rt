@@ -14,46 +14,41 @@ use delta_atoms::Delta;
 use hera_frames::Datum;
 use hera_meaning::Op;
 use hera_prims::{Args, PrimEnd, arity, fits, prim};
-use rel_pages::Base;
 use std::alloc::AllocError;
+use when_overlay::Stored;
 
-impl Running {
+impl Running<'_> {
     /// An operation. Relations are read where they stand, but by one that makes a delta of them.
-    pub(super) fn prim(
-        &mut self,
-        base: &Base,
-        commits: &[Delta],
-        op: &Op,
-        at: u32,
-    ) -> Result<Told, AllocError>
+    pub(super) fn prim(&mut self, stored: &Stored<'_>, op: &Op, at: u32) -> Result<Told, AllocError>
         requires { self.old.at + 1 < 2 ^ 64 }
-        ensures step { let s = state_over base.now.state commits.now in IfOk result (λ told. step_at s told self.new ≡ on_some (arity op.now) (machine_at s self.old).operands (λ args vs. answers at op.now args vs (machine_at s self.old))) }
+        ensures step { let s = stored.now.state in IfOk result (λ told. step_at s told self.new ≡ on_some (arity op.now) (machine_at s self.old).operands (λ args vs. answers at op.now args vs (machine_at s self.old))) }
         ensures no_copy { takes_memory op.now ≡ false → IsOk result }
+        ensures relations { self.new.relations ≡ self.old.relations }
     {
         match op {
-            Op::Count => self.measure(base, commits, op, at),
-            Op::Empty => self.measure(base, commits, op, at),
-            Op::In => self.ask(base, commits, at),
-            Op::Bulk(_, _) => self.compute(base, commits, op, at),
-            _ => self.relate(base, commits, op, at),
+            Op::Count => self.measure(stored, op, at),
+            Op::Empty => self.measure(stored, op, at),
+            Op::In => self.ask(stored, at),
+            Op::Bulk(_, _) => self.compute(stored, op, at),
+            _ => self.relate(stored, op, at),
         }
     }
 
     /// An operation, whose operands are taken off as values.
     pub(super) fn compute(
         &mut self,
-        base: &Base,
-        commits: &[Delta],
+        stored: &Stored<'_>,
         op: &Op,
         at: u32,
     ) -> Result<Told, AllocError>
         requires { self.old.at + 1 < 2 ^ 64 }
-        ensures { let s = state_over base.now.state commits.now in IfOk result (λ told. step_at s told self.new ≡ on_some (arity op.now) (machine_at s self.old).operands (λ args vs. answers at op.now args vs (machine_at s self.old))) }
+        ensures step { let s = stored.now.state in IfOk result (λ told. step_at s told self.new ≡ on_some (arity op.now) (machine_at s self.old).operands (λ args vs. answers at op.now args vs (machine_at s self.old))) }
+        ensures relations { self.new.relations ≡ self.old.relations }
     {
         let count = arity(op);
         match self
             .operands
-            .take(self.alloc, &self.changes, base, commits, count)?
+            .take(self.alloc, &self.changes, stored, count)?
         {
             None => Ok(Told::Ended(End::Stuck)),
             Some(args) => self.operate(op, at, args),
@@ -63,7 +58,8 @@ impl Running {
     /// An operation on values that were taken off the operands.
     fn operate(&mut self, op: &Op, at: u32, args: Args) -> Result<Told, AllocError>
         requires { self.old.at + 1 < 2 ^ 64 }
-        ensures { (s : State) → IfOk result (λ told. step_at s told self.new ≡ answers at op.now args (machine_at s self.old).operands (machine_at s self.old)) }
+        ensures step { (s : State) → IfOk result (λ told. step_at s told self.new ≡ answers at op.now args (machine_at s self.old).operands (machine_at s self.old)) }
+        ensures relations { self.new.relations ≡ self.old.relations }
     {
         if !fits(op, &args) {
             return stuck();

@@ -20,21 +20,22 @@ use delta_atoms::Delta;
 use hera_code::{Code, Instr};
 use hera_flat::{Flat, flat_one, flat_two};
 use hera_meaning::{Const, Op, Scalar, Schema};
-use rel_pages::Base;
+use when_overlay::Stored;
 
 /// How often one instruction is executed, or two or three at once, before the machine makes a step of its own.
 const AT_ONCE: usize = 4096;
 
-impl Running {
+impl Running<'_> {
     /// Executes the instructions at hand, as long as they are common ones on ints, bools and tuples, and at
     /// most 12,288 of them. It stops in front of one for which memory is refused.
     #[inline(never)]
-    pub(crate) fn hurry(&mut self, code: &Code, base: &Base, commits: &[Delta])
-        ensures quietly { (rels : List PlainDecl) → (hosts : Hosts) → let s = state_over base.now.state commits.now in GoesQuietly code.now rels hosts s (machine_at s self.old) (machine_at s self.new) }
+    pub(crate) fn hurry(&mut self, code: &Code, stored: &Stored<'_>)
+        ensures quietly { (rels : List PlainDecl) → (hosts : Hosts) → let s = stored.now.state in GoesQuietly code.now rels hosts s (machine_at s self.old) (machine_at s self.new) }
         ensures less { Forward code.now → left (length code.now.instrs) (machine_at [] self.new) ≤ left (length code.now.instrs) (machine_at [] self.old) }
+        ensures relations { self.new.relations ≡ self.old.relations }
     {
         for _ in 0..AT_ONCE {
-            if !self.quick(code, base, commits) {
+            if !self.quick(code, stored) {
                 return;
             }
         }
@@ -43,25 +44,27 @@ impl Running {
     /// Executes the instruction at hand, if that is a common one on ints, bools and tuples, and the next one or two too
     /// where they are done at once. Where memory for it is refused nothing has changed.
     #[inline]
-    fn quick(&mut self, code: &Code, base: &Base, commits: &[Delta]) -> bool
-        ensures quietly { (rels : List PlainDecl) → (hosts : Hosts) → let s = state_over base.now.state commits.now in result ≡ true → GoesQuietly code.now rels hosts s (machine_at s self.old) (machine_at s self.new) }
+    fn quick(&mut self, code: &Code, stored: &Stored<'_>) -> bool
+        ensures quietly { (rels : List PlainDecl) → (hosts : Hosts) → let s = stored.now.state in result ≡ true → GoesQuietly code.now rels hosts s (machine_at s self.old) (machine_at s self.new) }
         ensures less { Forward code.now → result ≡ true → left (length code.now.instrs) (machine_at [] self.new) < left (length code.now.instrs) (machine_at [] self.old) }
         ensures kept { result ≡ false → self.new ≡ self.old }
+        ensures relations { self.new.relations ≡ self.old.relations }
     {
         // for the proof alone: addresses of code are below 2^64 - 1
         let _len = code.instrs.len();
         match code.instrs.get(self.at) {
             None => false,
-            Some(instr) => { self.paired(instr, code) || self.hasten(instr, code, base, commits) }
+            Some(instr) => { self.paired(instr, code) || self.hasten(instr, code, stored) }
         }
     }
 
     /// Executes an instruction, if it is a common one on ints, bools and tuples.
     #[inline]
-    fn hasten(&mut self, instr: &Instr, code: &Code, base: &Base, commits: &[Delta]) -> bool
+    fn hasten(&mut self, instr: &Instr, code: &Code, stored: &Stored<'_>) -> bool
         requires { self.old.at + 1 < 2 ^ 64 }
-        ensures act { (rels : List PlainDecl) → (hosts : Hosts) → let s = state_over base.now.state commits.now in result ≡ true → quiet (machine_at s self.new) ≡ machine.act code.now rels hosts (Some instr.now) s (machine_at s self.old) }
+        ensures act { (rels : List PlainDecl) → (hosts : Hosts) → let s = stored.now.state in result ≡ true → quiet (machine_at s self.new) ≡ machine.act code.now rels hosts (Some instr.now) s (machine_at s self.old) }
         ensures kept { result ≡ false → self.new ≡ self.old }
+        ensures relations { self.new.relations ≡ self.old.relations }
     {
         match instr {
             Instr::Push(Const::Scalar(Scalar::Int(n))) => self.pushed(Flat::Int(*n)),
@@ -73,7 +76,7 @@ impl Running {
             Instr::Jump(a) => self.jumped(code, *a),
             Instr::Unless(a) => self.parted(code, *a),
             Instr::Back(a) => self.went_back(code, *a),
-            Instr::Next(i, a) => self.went_on(code, base, commits, *i, *a),
+            Instr::Next(i, a) => self.went_on(code, stored, *i, *a),
             Instr::Keep => self.kept(),
             Instr::Call(k) => self.called(code, *k),
             Instr::Ret => self.returned_nothing(),
@@ -87,6 +90,7 @@ impl Running {
         requires { self.old.at + 1 < 2 ^ 64 }
         ensures done { (s : State) → result ≡ true → quiet (machine_at s self.new) ≡ pushes (Some (flat_value v)) (machine_at s self.old) }
         ensures kept { result ≡ false → self.new ≡ self.old }
+        ensures relations { self.new.relations ≡ self.old.relations }
     {
         if !self.operands.push_flat(v) {
             return false;
@@ -100,6 +104,7 @@ impl Running {
         requires { self.old.at + 1 < 2 ^ 64 }
         ensures done { (s : State) → result ≡ true → quiet (machine_at s self.new) ≡ pushes (slice_get (machine_at s self.old).locals i) (machine_at s self.old) }
         ensures kept { result ≡ false → self.new ≡ self.old }
+        ensures relations { self.new.relations ≡ self.old.relations }
     {
         match self.locals.int_at(i as usize) {
             Some(n) => self.pushed(Flat::Int(n)),
@@ -113,6 +118,7 @@ impl Running {
         requires { self.old.at + 1 < 2 ^ 64 }
         ensures done { (s : State) → result ≡ true → quiet (machine_at s self.new) ≡ pushes (slice_get (machine_at s self.old).locals i) (machine_at s self.old) }
         ensures kept { result ≡ false → self.new ≡ self.old }
+        ensures relations { self.new.relations ≡ self.old.relations }
     {
         match self.locals.flat_at(i as usize) {
             Some(v) => self.pushed(v),
@@ -125,6 +131,7 @@ impl Running {
         requires { self.old.at + 1 < 2 ^ 64 }
         ensures done { (s : State) → result ≡ true → quiet (machine_at s self.new) ≡ pushes (slice_get (machine_at s self.old).locals i) (machine_at s self.old) }
         ensures kept { result ≡ false → self.new ≡ self.old }
+        ensures relations { self.new.relations ≡ self.old.relations }
     {
         let Some(row) = self.locals.row_at(i as usize) else {
             return false;
@@ -141,6 +148,7 @@ impl Running {
         requires { self.old.at + 1 < 2 ^ 64 }
         ensures done { (s : State) → result ≡ true → quiet (machine_at s self.new) ≡ on_top (machine_at s self.old).operands (λ v vs. needs_slot i (machine_at s self.old) (quiet (record (machine_at s self.old) { at = (machine_at s self.old).at + 1; operands = vs; locals = set_local (machine_at s self.old).locals i v }))) }
         ensures kept { result ≡ false → self.new ≡ self.old }
+        ensures relations { self.new.relations ≡ self.old.relations }
     {
         let Some(n) = self.operands.newest_int() else {
             return self.stored_bool(i);
@@ -160,6 +168,7 @@ impl Running {
         requires { self.old.at + 1 < 2 ^ 64 }
         ensures done { (s : State) → result ≡ true → quiet (machine_at s self.new) ≡ on_top (machine_at s self.old).operands (λ v vs. needs_slot i (machine_at s self.old) (quiet (record (machine_at s self.old) { at = (machine_at s self.old).at + 1; operands = vs; locals = set_local (machine_at s self.old).locals i v }))) }
         ensures kept { result ≡ false → self.new ≡ self.old }
+        ensures relations { self.new.relations ≡ self.old.relations }
     {
         let Some(v) = self.operands.newest_flat() else {
             return false;
@@ -178,6 +187,7 @@ impl Running {
         requires { self.old.at + 1 < 2 ^ 64 }
         ensures done { (s : State) → result ≡ true → quiet (machine_at s self.new) ≡ on_some (arity op.now) (machine_at s self.old).operands (λ args vs. answers at op.now args vs (machine_at s self.old)) }
         ensures kept { result ≡ false → self.new ≡ self.old }
+        ensures relations { self.new.relations ≡ self.old.relations }
     {
         let Some((left, right)) = self.operands.newest_ints() else {
             return self.computed_flats(op, at);
@@ -196,6 +206,7 @@ impl Running {
         requires { self.old.at + 1 < 2 ^ 64 }
         ensures done { (s : State) → result ≡ true → quiet (machine_at s self.new) ≡ on_some (arity op.now) (machine_at s self.old).operands (λ args vs. answers at op.now args vs (machine_at s self.old)) }
         ensures kept { result ≡ false → self.new ≡ self.old }
+        ensures relations { self.new.relations ≡ self.old.relations }
     {
         match self.operands.newest_two() {
             None => self.computed_one(op, at),
@@ -216,6 +227,7 @@ impl Running {
         requires { self.old.at + 1 < 2 ^ 64 }
         ensures done { (s : State) → result ≡ true → quiet (machine_at s self.new) ≡ on_some (arity op.now) (machine_at s self.old).operands (λ args vs. answers at op.now args vs (machine_at s self.old)) }
         ensures kept { result ≡ false → self.new ≡ self.old }
+        ensures relations { self.new.relations ≡ self.old.relations }
     {
         // named for the contract alone: the operation does not trap here
         let _at = at;
@@ -235,6 +247,7 @@ impl Running {
         requires { self.old.at + 1 < 2 ^ 64 }
         ensures done { (s : State) → result ≡ true → quiet (machine_at s self.new) ≡ on_some 1 (machine_at s self.old).operands (λ args vs. answers at (Op.Field schema.now i) args vs (machine_at s self.old)) }
         ensures kept { result ≡ false → self.new ≡ self.old }
+        ensures relations { self.new.relations ≡ self.old.relations }
     {
         // named for the contract alone: the operation does not trap
         let _at = at;
@@ -250,6 +263,7 @@ impl Running {
     fn jumped(&mut self, code: &Code, a: u32) -> bool
         ensures done { (s : State) → result ≡ true → quiet (machine_at s self.new) ≡ goes_to code.now a (machine_at s self.old) }
         ensures kept { result ≡ false → self.new ≡ self.old }
+        ensures relations { self.new.relations ≡ self.old.relations }
     {
         if (a as usize) >= code.instrs.len() {
             return false;
@@ -263,6 +277,7 @@ impl Running {
         requires { self.old.at + 1 < 2 ^ 64 }
         ensures done { (s : State) → result ≡ true → quiet (machine_at s self.new) ≡ on_top (machine_at s self.old).operands (λ v vs. needs_address code.now a (by_bool v (quiet (on_with vs (machine_at s self.old))) (quiet (record (machine_at s self.old) { at = a; operands = vs })))) }
         ensures kept { result ≡ false → self.new ≡ self.old }
+        ensures relations { self.new.relations ≡ self.old.relations }
     {
         let Some(Flat::Bool(b)) = self.operands.newest_flat() else {
             return false;
@@ -283,6 +298,7 @@ impl Running {
     fn went_back(&mut self, code: &Code, a: u32) -> bool
         ensures done { (s : State) → result ≡ true → quiet (machine_at s self.new) ≡ needs_address code.now a (spends (machine_at s self.old).turns (λ n. quiet (record (machine_at s self.old) { at = a; turns = n }))) }
         ensures kept { result ≡ false → self.new ≡ self.old }
+        ensures relations { self.new.relations ≡ self.old.relations }
     {
         if (a as usize) >= code.instrs.len() || self.turns == 0 {
             return false;
@@ -293,16 +309,17 @@ impl Running {
     }
 
     #[inline]
-    fn went_on(&mut self, code: &Code, base: &Base, commits: &[Delta], i: u32, a: u32) -> bool
+    fn went_on(&mut self, code: &Code, stored: &Stored<'_>, i: u32, a: u32) -> bool
         requires { self.old.at + 1 < 2 ^ 64 }
-        ensures done { let s = state_over base.now.state commits.now in result ≡ true → quiet (machine_at s self.new) ≡ on_walk (machine_at s self.old).walks (λ w ws. needs_slot i (machine_at s self.old) (needs_address code.now a (next_row i a w.rows w ws (machine_at s self.old)))) }
+        ensures done { let s = stored.now.state in result ≡ true → quiet (machine_at s self.new) ≡ on_walk (machine_at s self.old).walks (λ w ws. needs_slot i (machine_at s self.old) (needs_address code.now a (next_row i a w.rows w ws (machine_at s self.old)))) }
         ensures kept { result ≡ false → self.new ≡ self.old }
+        ensures relations { self.new.relations ≡ self.old.relations }
     {
         if (a as usize) >= code.instrs.len() {
             return false;
         }
         let Some(row) = self.walks.coming() else {
-            return self.hopped(code, base, commits, i, a);
+            return self.hopped(code, stored, i, a);
         };
         if !self.locals.fit_tuple(i as usize, row) {
             return false;
@@ -314,17 +331,18 @@ impl Running {
 
     /// Goes on to the next row of a relation that a walk names.
     #[inline(never)]
-    fn hopped(&mut self, code: &Code, base: &Base, commits: &[Delta], i: u32, a: u32) -> bool
+    fn hopped(&mut self, code: &Code, stored: &Stored<'_>, i: u32, a: u32) -> bool
         requires next { self.old.at + 1 < 2 ^ 64 }
         requires address { a < length code.now.instrs }
-        ensures done { let s = state_over base.now.state commits.now in result ≡ true → quiet (machine_at s self.new) ≡ on_walk (machine_at s self.old).walks (λ w ws. needs_slot i (machine_at s self.old) (needs_address code.now a (next_row i a w.rows w ws (machine_at s self.old)))) }
+        ensures done { let s = stored.now.state in result ≡ true → quiet (machine_at s self.new) ≡ on_walk (machine_at s self.old).walks (λ w ws. needs_slot i (machine_at s self.old) (needs_address code.now a (next_row i a w.rows w ws (machine_at s self.old)))) }
         ensures kept { result ≡ false → self.new ≡ self.old }
+        ensures relations { self.new.relations ≡ self.old.relations }
     {
         // named for the contract alone: a row is left here
         let _end = a;
         if !self
             .walks
-            .hop(&mut self.locals, i as usize, &self.changes, base, commits)
+            .hop(&mut self.locals, i as usize, &self.changes, stored)
         {
             return false;
         }
@@ -337,6 +355,7 @@ impl Running {
         requires { self.old.at + 1 < 2 ^ 64 }
         ensures done { (s : State) → result ≡ true → quiet (machine_at s self.new) ≡ on_walk (machine_at s self.old).walks (λ w ws. on_top (machine_at s self.old).operands (λ v vs. keeps v vs w ws (machine_at s self.old))) }
         ensures kept { result ≡ false → self.new ≡ self.old }
+        ensures relations { self.new.relations ≡ self.old.relations }
     {
         let Some(Flat::Bool(b)) = self.operands.newest_flat() else {
             return false;

@@ -26,13 +26,14 @@ pub(super) fn any_names(below: bool, operands: &Operands, walks: &Stack<Walk>) -
     any_named(walks)
 }
 
-impl Running {
+impl Running<'_> {
     /// Calls the body of this number.
     #[inline(never)]
     pub(super) fn called(&mut self, code: &Code, k: u32) -> bool
         requires { self.old.at + 1 < 2 ^ 64 }
         ensures done { (s : State) → result ≡ true → quiet (machine_at s self.new) ≡ calls_body (slice_get code.now.bodies k) (machine_at s self.old) }
         ensures kept { result ≡ false → self.new ≡ self.old }
+        ensures relations { self.new.relations ≡ self.old.relations }
     {
         match code.bodies.get(k as usize) {
             None => false,
@@ -46,6 +47,7 @@ impl Running {
         requires { self.old.at + 1 < 2 ^ 64 }
         ensures done { (s : State) → result ≡ true → quiet (machine_at s self.new) ≡ calls_body (Some body.now) (machine_at s self.old) }
         ensures kept { result ≡ false → self.new ≡ self.old }
+        ensures relations { self.new.relations ≡ self.old.relations }
     {
         if body.params > body.slots || self.turns == 0 {
             return false;
@@ -80,6 +82,7 @@ impl Running {
     pub(super) fn returned_nothing(&mut self) -> bool
         ensures done { (s : State) → result ≡ true → quiet (machine_at s self.new) ≡ goes_back (machine_at s self.old).callers [] (machine_at s self.old) }
         ensures kept { result ≡ false → self.new ≡ self.old }
+        ensures relations { self.new.relations ≡ self.old.relations }
     {
         self.resume(None)
     }
@@ -89,6 +92,7 @@ impl Running {
     pub(super) fn returned(&mut self) -> bool
         ensures done { (s : State) → result ≡ true → quiet (machine_at s self.new) ≡ on_top (machine_at s self.old).operands (λ v vs. goes_back (machine_at s self.old).callers (v ∷ []) (machine_at s self.old)) }
         ensures kept { result ≡ false → self.new ≡ self.old }
+        ensures relations { self.new.relations ≡ self.old.relations }
     {
         match self.operands.newest_flat() {
             None => false,
@@ -103,6 +107,7 @@ impl Running {
         ensures done { (s : State) → result ≡ true → quiet (machine_at s self.new) ≡ goes_back (machine_at s self.old).callers (answer_values answer) (machine_at s self.old) }
         ensures kept { result ≡ false → self.new ≡ self.old }
         ensures none { answer ≡ None → result ≡ false → self.old.callers ≡ [] }
+        ensures relations { self.new.relations ≡ self.old.relations }
     {
         let Some(point) = self.callers.resume(
             answer,

@@ -19,8 +19,8 @@ use hera_frames::{Datum, Seen, fits_seen, let_go};
 use hera_meaning::{Op, TrapName};
 use hera_prims::{PrimEnd, arity, prim_rel};
 use hera_rows::Sorted;
-use rel_pages::Base;
 use std::alloc::{AllocError, Global};
+use when_overlay::Stored;
 
 /// What an operation finds of its operands.
 #[derive(Drop)]
@@ -72,21 +72,21 @@ fn measured(alloc: Global, op: &Op, rows: &Seen<'_>) -> Result<Found, AllocError
     }
 }
 
-impl Running {
+impl Running<'_> {
     /// Counts the tuples of the newest operand, or tells whether it has none. It takes no memory.
     pub(super) fn measure(
         &mut self,
-        base: &Base,
-        commits: &[Delta],
+        stored: &Stored<'_>,
         op: &Op,
         at: u32,
     ) -> Result<Told, AllocError>
         requires next { self.old.at + 1 < 2 ^ 64 }
         requires op { is_measure op.now ≡ true }
-        ensures step { let s = state_over base.now.state commits.now in IfOk result (λ told. step_at s told self.new ≡ on_some 1 (machine_at s self.old).operands (λ args vs. answers at op.now args vs (machine_at s self.old))) }
+        ensures step { let s = stored.now.state in IfOk result (λ told. step_at s told self.new ≡ on_some 1 (machine_at s self.old).operands (λ args vs. answers at op.now args vs (machine_at s self.old))) }
         ensures no_copy { IsOk result }
+        ensures relations { self.new.relations ≡ self.old.relations }
     {
-        match self.measured_here(base, commits, op)? {
+        match self.measured_here(stored, op)? {
             None => Ok(Told::Ended(End::Stuck)),
             Some(found) => self.answer(1, found, at),
         }
@@ -94,35 +94,26 @@ impl Running {
 
     /// What a count, or a test for no tuples, gives of the newest operand; nothing where that is no relation.
     /// It takes no memory.
-    fn measured_here(
-        &self,
-        base: &Base,
-        commits: &[Delta],
-        op: &Op,
-    ) -> Result<Option<Found>, AllocError>
+    fn measured_here(&self, stored: &Stored<'_>, op: &Op) -> Result<Option<Found>, AllocError>
         requires { is_measure op.now ≡ true }
-        ensures found { let s = state_over base.now.state commits.now in IfOk result (λ r. MatchOption r ((at : ℕ) → ends stuck ≡ on_some 1 (machine_at s self.now).operands (λ args vs. answers at op.now args vs (machine_at s self.now))) (λ found. (self.now.operands ≢ []) × ((at : ℕ) → found_step at (drop 1 (machine_at s self.now).operands) (machine_at s self.now) found ≡ on_some 1 (machine_at s self.now).operands (λ args vs. answers at op.now args vs (machine_at s self.now))))) }
+        ensures found { let s = stored.now.state in IfOk result (λ r. MatchOption r ((at : ℕ) → ends stuck ≡ on_some 1 (machine_at s self.now).operands (λ args vs. answers at op.now args vs (machine_at s self.now))) (λ found. (self.now.operands ≢ []) × ((at : ℕ) → found_step at (drop 1 (machine_at s self.now).operands) (machine_at s self.now) found ≡ on_some 1 (machine_at s self.now).operands (λ args vs. answers at op.now args vs (machine_at s self.now))))) }
         ensures spared { IsOk result }
     {
         let Some(newest) = self.operands.newest(0) else {
             return Ok(None);
         };
-        let Some(rows) = newest.seen(&self.changes, base, commits) else {
+        let Some(rows) = newest.seen(&self.changes, stored) else {
             return Ok(None);
         };
         Ok(Some(measured(self.alloc, op, &rows)?))
     }
 
     /// Tells whether the tuple before the newest operand is one of this relation's. It takes no memory.
-    pub(super) fn ask(
-        &mut self,
-        base: &Base,
-        commits: &[Delta],
-        at: u32,
-    ) -> Result<Told, AllocError>
+    pub(super) fn ask(&mut self, stored: &Stored<'_>, at: u32) -> Result<Told, AllocError>
         requires { self.old.at + 1 < 2 ^ 64 }
-        ensures step { let s = state_over base.now.state commits.now in IfOk result (λ told. step_at s told self.new ≡ on_some 2 (machine_at s self.old).operands (λ args vs. answers at Op.In args vs (machine_at s self.old))) }
+        ensures step { let s = stored.now.state in IfOk result (λ told. step_at s told self.new ≡ on_some 2 (machine_at s self.old).operands (λ args vs. answers at Op.In args vs (machine_at s self.old))) }
         ensures no_copy { IsOk result }
+        ensures relations { self.new.relations ≡ self.old.relations }
     {
         let Some(relation) = self.operands.pop() else {
             return stuck();
@@ -133,7 +124,7 @@ impl Running {
         let Some(row) = tuple.into_row() else {
             return stuck();
         };
-        match relation.seen(&self.changes, base, commits) {
+        match relation.seen(&self.changes, stored) {
             None => stuck(),
             Some(rows) => {
                 self.operands.push(Datum::Bool(rows.has(row.bytes())))?;
@@ -146,30 +137,30 @@ impl Running {
     /// An operation other than a count, a test for no tuples, `in` and one that makes a delta of tuples.
     pub(super) fn relate(
         &mut self,
-        base: &Base,
-        commits: &[Delta],
+        stored: &Stored<'_>,
         op: &Op,
         at: u32,
     ) -> Result<Told, AllocError>
         requires next { self.old.at + 1 < 2 ^ 64 }
         requires op { takes_relations op.now ≡ is_relational op.now }
-        ensures { let s = state_over base.now.state commits.now in IfOk result (λ told. step_at s told self.new ≡ on_some (arity op.now) (machine_at s self.old).operands (λ args vs. answers at op.now args vs (machine_at s self.old))) }
+        ensures step { let s = stored.now.state in IfOk result (λ told. step_at s told self.new ≡ on_some (arity op.now) (machine_at s self.old).operands (λ args vs. answers at op.now args vs (machine_at s self.old))) }
+        ensures relations { self.new.relations ≡ self.old.relations }
     {
-        match self.related(base, commits, op)? {
-            None => self.compute(base, commits, op, at),
+        match self.related(stored, op)? {
+            None => self.compute(stored, op, at),
             Some(found) => self.answer(arity(op), found, at),
         }
     }
 
     /// What an operation with one operand, or two, finds of relations; nothing of other operands.
-    fn related(&self, base: &Base, commits: &[Delta], op: &Op) -> Result<Option<Found>, AllocError>
+    fn related(&self, stored: &Stored<'_>, op: &Op) -> Result<Option<Found>, AllocError>
         requires op { takes_relations op.now ≡ is_relational op.now }
-        ensures { let s = state_over base.now.state commits.now in IfOk result (λ r. MatchOption r (Unit {0}) (λ found. ((arity op.now ≡ 1) ⊎ (arity op.now ≡ 2)) × (self.now.operands ≢ []) × ((at : ℕ) → found_step at (drop (arity op.now) (machine_at s self.now).operands) (machine_at s self.now) found ≡ on_some (arity op.now) (machine_at s self.now).operands (λ args vs. answers at op.now args vs (machine_at s self.now))))) }
+        ensures { let s = stored.now.state in IfOk result (λ r. MatchOption r (Unit {0}) (λ found. ((arity op.now ≡ 1) ⊎ (arity op.now ≡ 2)) × (self.now.operands ≢ []) × ((at : ℕ) → found_step at (drop (arity op.now) (machine_at s self.now).operands) (machine_at s self.now) found ≡ on_some (arity op.now) (machine_at s self.now).operands (λ args vs. answers at op.now args vs (machine_at s self.now))))) }
     {
         let Some(newest) = self.operands.newest(0) else {
             return Ok(None);
         };
-        let Some(right) = newest.seen(&self.changes, base, commits) else {
+        let Some(right) = newest.seen(&self.changes, stored) else {
             return Ok(None);
         };
         if arity(op) == 1 {
@@ -178,7 +169,7 @@ impl Running {
         let Some(before) = self.operands.newest(1) else {
             return Ok(None);
         };
-        let Some(left) = before.seen(&self.changes, base, commits) else {
+        let Some(left) = before.seen(&self.changes, stored) else {
             return Ok(None);
         };
         if arity(op) != 2 {
@@ -194,6 +185,7 @@ impl Running {
         requires some { self.old.operands ≢ [] }
         ensures step { (s : State) → IfOk result (λ told. step_at s told self.new ≡ found_step at (drop count (machine_at s self.old).operands) (machine_at s self.old) found) }
         ensures no_copy { IsOk result }
+        ensures relations { self.new.relations ≡ self.old.relations }
     {
         match found {
             Found::Misfit => stuck(),
@@ -212,6 +204,7 @@ impl Running {
         requires some { self.old.operands ≢ [] }
         ensures items { OnOk result (self.new ≡ record self.old { operands = held (plain_of v) ∷ drop count self.old.operands; spare = self.new.spare }) }
         ensures no_copy { IsOk result }
+        ensures relations { self.new.relations ≡ self.old.relations }
     {
         if count == 2 {
             let_go(self.operands.pop());

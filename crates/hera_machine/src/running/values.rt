@@ -20,13 +20,14 @@ use hera_host::HostTable;
 use hera_meaning::{Const, RelDecl, RelId, Shape, TrapName};
 use hera_prims::has_shape;
 use hera_print::value_line;
-use rel_pages::Base;
 use std::alloc::AllocError;
+use when_overlay::Stored;
 
-impl Running {
+impl Running<'_> {
     pub(super) fn push(&mut self, constant: &Const) -> Result<Told, AllocError>
         requires { self.old.at + 1 < 2 ^ 64 }
-        ensures { (s : State) → IfOk result (λ told. step_at s told self.new ≡ pushes (Some (const_value constant.now)) (machine_at s self.old)) }
+        ensures step { (s : State) → IfOk result (λ told. step_at s told self.new ≡ pushes (Some (const_value constant.now)) (machine_at s self.old)) }
+        ensures relations { self.new.relations ≡ self.old.relations }
     {
         self.operands.push(const_of(self.alloc, constant)?)?;
         self.at += 1;
@@ -35,7 +36,8 @@ impl Running {
 
     pub(super) fn load(&mut self, i: u32) -> Result<Told, AllocError>
         requires { self.old.at + 1 < 2 ^ 64 }
-        ensures { (s : State) → IfOk result (λ told. step_at s told self.new ≡ pushes (slice_get (machine_at s self.old).locals i) (machine_at s self.old)) }
+        ensures step { (s : State) → IfOk result (λ told. step_at s told self.new ≡ pushes (slice_get (machine_at s self.old).locals i) (machine_at s self.old)) }
+        ensures relations { self.new.relations ≡ self.old.relations }
     {
         let Some(v) = self.locals.copy_of(self.alloc, i as usize)? else {
             return stuck();
@@ -45,19 +47,12 @@ impl Running {
         Ok(Told::Quiet)
     }
 
-    pub(super) fn store(
-        &mut self,
-        base: &Base,
-        commits: &[Delta],
-        i: u32,
-    ) -> Result<Told, AllocError>
+    pub(super) fn store(&mut self, stored: &Stored<'_>, i: u32) -> Result<Told, AllocError>
         requires { self.old.at + 1 < 2 ^ 64 }
-        ensures { let s = state_over base.now.state commits.now in IfOk result (λ told. step_at s told self.new ≡ on_top (machine_at s self.old).operands (λ v vs. needs_slot i (machine_at s self.old) (quiet (record (machine_at s self.old) { at = (machine_at s self.old).at + 1; operands = vs; locals = set_local (machine_at s self.old).locals i v })))) }
+        ensures step { let s = stored.now.state in IfOk result (λ told. step_at s told self.new ≡ on_top (machine_at s self.old).operands (λ v vs. needs_slot i (machine_at s self.old) (quiet (record (machine_at s self.old) { at = (machine_at s self.old).at + 1; operands = vs; locals = set_local (machine_at s self.old).locals i v })))) }
+        ensures relations { self.new.relations ≡ self.old.relations }
     {
-        let Some(v) = self
-            .operands
-            .pop_value(self.alloc, &self.changes, base, commits)?
-        else {
+        let Some(v) = self.operands.pop_value(self.alloc, &self.changes, stored)? else {
             return stuck();
         };
         if !self.locals.put(i as usize, v) {
@@ -69,19 +64,15 @@ impl Running {
 
     /// Names a relation as it is in the state that the machine reads. It takes no memory where there is
     /// the place for one more operand.
-    pub(super) fn rel(
-        &mut self,
-        base: &Base,
-        commits: &[Delta],
-        r: RelId,
-    ) -> Result<Told, AllocError>
+    pub(super) fn rel(&mut self, stored: &Stored<'_>, r: RelId) -> Result<Told, AllocError>
         requires { self.old.at + 1 < 2 ^ 64 }
-        ensures step { let s = state_over base.now.state commits.now in IfOk result (λ told. step_at s told self.new ≡ pushes (rows_value (slice_get (current_state s (machine_at s self.old)) r.0)) (machine_at s self.old)) }
+        ensures step { let s = stored.now.state in IfOk result (λ told. step_at s told self.new ≡ pushes (rows_value (slice_get (current_state s (machine_at s self.old)) r.0)) (machine_at s self.old)) }
         ensures no_copy { 0 < self.old.spare → IsOk result }
+        ensures relations { self.new.relations ≡ self.old.relations }
     {
         // for the contract alone: which relations there are, commits do not change
-        let _commits = commits;
-        if usize::from(r.0) >= base.catalogue().len() {
+        let _stored = stored;
+        if usize::from(r.0) >= stored.len() {
             return stuck();
         }
         self.operands.push_named(r, self.changes.tip())?;
@@ -92,7 +83,8 @@ impl Running {
     /// Asks a host function for the newest operand.
     pub(super) fn host(&mut self, hosts: &HostTable, h: u32) -> Result<Told, AllocError>
         requires { self.old.at + 1 < 2 ^ 64 }
-        ensures { (s : State) → IfOk result (λ told. step_at s told self.new ≡ on_top (machine_at s self.old).operands (λ v vs. asks_host (host_at (specs_of hosts.now.names) h) v vs (machine_at s self.old))) }
+        ensures step { (s : State) → IfOk result (λ told. step_at s told self.new ≡ on_top (machine_at s self.old).operands (λ v vs. asks_host (host_at (specs_of hosts.now.names) h) v vs (machine_at s self.old))) }
+        ensures relations { self.new.relations ≡ self.old.relations }
     {
         match self.operands.pop() {
             None => stuck(),
@@ -115,7 +107,8 @@ impl Running {
 
     pub(super) fn claim(&mut self, at: u32) -> Result<Told, AllocError>
         requires { self.old.at + 1 < 2 ^ 64 }
-        ensures { (s : State) → IfOk result (λ told. step_at s told self.new ≡ on_top (machine_at s self.old).operands (λ v vs. by_bool v (quiet (on_with vs (machine_at s self.old))) (ends (ended (stopped TrapName.Assert at))))) }
+        ensures step { (s : State) → IfOk result (λ told. step_at s told self.new ≡ on_top (machine_at s self.old).operands (λ v vs. by_bool v (quiet (on_with vs (machine_at s self.old))) (ends (ended (stopped TrapName.Assert at))))) }
+        ensures relations { self.new.relations ≡ self.old.relations }
     {
         let Some(v) = self.operands.pop() else {
             return stuck();
@@ -130,27 +123,19 @@ impl Running {
         }
     }
 
-    pub(super) fn print(
-        &mut self,
-        relations: &[RelDecl],
-        base: &Base,
-        commits: &[Delta],
-        shape: &Shape,
-    ) -> Result<Told, AllocError>
+    pub(super) fn print(&mut self, stored: &Stored<'_>, shape: &Shape) -> Result<Told, AllocError>
         requires { self.old.at + 1 < 2 ^ 64 }
-        ensures { let s = state_over base.now.state commits.now in IfOk result (λ told. step_at s told self.new ≡ on_top (machine_at s self.old).operands (λ v vs. prints relations.now v vs (machine_at s self.old) shape.now)) }
+        ensures step { let s = stored.now.state in IfOk result (λ told. step_at s told self.new ≡ on_top (machine_at s self.old).operands (λ v vs. prints self.old.relations v vs (machine_at s self.old) shape.now)) }
+        ensures relations { self.new.relations ≡ self.old.relations }
     {
-        let Some(v) = self
-            .operands
-            .pop_value(self.alloc, &self.changes, base, commits)?
-        else {
+        let Some(v) = self.operands.pop_value(self.alloc, &self.changes, stored)? else {
             return stuck();
         };
         let v = v.into_value();
-        if !has_shape(shape, &v, relations) {
+        if !has_shape(shape, &v, self.changes.catalogue()) {
             return stuck();
         }
-        let line = value_line(self.alloc, shape, &v, relations)?;
+        let line = value_line(self.alloc, shape, &v, self.changes.catalogue())?;
         self.at += 1;
         Ok(Told::Out(line))
     }

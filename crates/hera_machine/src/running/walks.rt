@@ -12,8 +12,8 @@ use crate::events::Told;
 use delta_atoms::{Delta, Value};
 use hera_code::{Code, Instr};
 use hera_frames::{Datum, Operand, Walk, into_rel, let_go};
-use rel_pages::Base;
 use std::alloc::AllocError;
+use when_overlay::Stored;
 
 /// Whether the walk that is opened at this address is that of a loop of statements: such a one is dropped
 /// where no tuple is left.
@@ -26,17 +26,13 @@ fn is_of_loop(code: &Code, at: usize) -> bool
     }
 }
 
-impl Running {
+impl Running<'_> {
     /// Opens a walk over the newest operand. A relation that is named stays so, but in a loop of
     /// statements.
-    pub(super) fn open_walk(
-        &mut self,
-        code: &Code,
-        base: &Base,
-        commits: &[Delta],
-    ) -> Result<Told, AllocError>
+    pub(super) fn open_walk(&mut self, code: &Code, stored: &Stored<'_>) -> Result<Told, AllocError>
         requires { self.old.at + 1 < 2 ^ 64 }
-        ensures { let s = state_over base.now.state commits.now in IfOk result (λ told. step_at s told self.new ≡ on_top (machine_at s self.old).operands (λ v vs. opens_walk v vs (machine_at s self.old))) }
+        ensures step { let s = stored.now.state in IfOk result (λ told. step_at s told self.new ≡ on_top (machine_at s self.old).operands (λ v vs. opens_walk v vs (machine_at s self.old))) }
+        ensures relations { self.new.relations ≡ self.old.relations }
     {
         match self.operands.pop() {
             None => stuck(),
@@ -46,7 +42,7 @@ impl Running {
                 Ok(Told::Quiet)
             }
             Some(operand) => {
-                let v = operand.collect(self.alloc, &self.changes, base, commits)?;
+                let v = operand.collect(self.alloc, &self.changes, stored)?;
                 let Some(rows) = into_rel(v) else {
                     return stuck();
                 };
@@ -60,13 +56,13 @@ impl Running {
     pub(super) fn next(
         &mut self,
         code: &Code,
-        base: &Base,
-        commits: &[Delta],
+        stored: &Stored<'_>,
         i: u32,
         a: u32,
     ) -> Result<Told, AllocError>
         requires { self.old.at + 1 < 2 ^ 64 }
-        ensures { let s = state_over base.now.state commits.now in IfOk result (λ told. step_at s told self.new ≡ on_walk (machine_at s self.old).walks (λ w ws. needs_slot i (machine_at s self.old) (needs_address code.now a (next_row i a w.rows w ws (machine_at s self.old))))) }
+        ensures step { let s = stored.now.state in IfOk result (λ told. step_at s told self.new ≡ on_walk (machine_at s self.old).walks (λ w ws. needs_slot i (machine_at s self.old) (needs_address code.now a (next_row i a w.rows w ws (machine_at s self.old))))) }
+        ensures relations { self.new.relations ≡ self.old.relations }
     {
         if self.walks.len() == 0 {
             return stuck();
@@ -77,7 +73,7 @@ impl Running {
         if (a as usize) >= code.instrs.len() {
             return stuck();
         }
-        self.walks.next(self.alloc, &self.changes, base, commits)?;
+        self.walks.next(self.alloc, &self.changes, stored)?;
         match self.walks.current() {
             None => {
                 self.at = a as usize;
@@ -93,7 +89,8 @@ impl Running {
 
     pub(super) fn keep(&mut self) -> Result<Told, AllocError>
         requires { self.old.at + 1 < 2 ^ 64 }
-        ensures { (s : State) → IfOk result (λ told. step_at s told self.new ≡ on_walk (machine_at s self.old).walks (λ w ws. on_top (machine_at s self.old).operands (λ v vs. keeps v vs w ws (machine_at s self.old)))) }
+        ensures step { (s : State) → IfOk result (λ told. step_at s told self.new ≡ on_walk (machine_at s self.old).walks (λ w ws. on_top (machine_at s self.old).operands (λ v vs. keeps v vs w ws (machine_at s self.old)))) }
+        ensures relations { self.new.relations ≡ self.old.relations }
     {
         if self.walks.len() == 0 {
             return stuck();
@@ -119,7 +116,8 @@ impl Running {
 
     pub(super) fn gather(&mut self) -> Result<Told, AllocError>
         requires { self.old.at + 1 < 2 ^ 64 }
-        ensures { (s : State) → IfOk result (λ told. step_at s told self.new ≡ on_walk (machine_at s self.old).walks (λ w ws. on_top (machine_at s self.old).operands (λ v vs. gathers v vs w ws (machine_at s self.old)))) }
+        ensures step { (s : State) → IfOk result (λ told. step_at s told self.new ≡ on_walk (machine_at s self.old).walks (λ w ws. on_top (machine_at s self.old).operands (λ v vs. gathers v vs w ws (machine_at s self.old)))) }
+        ensures relations { self.new.relations ≡ self.old.relations }
     {
         if self.walks.len() == 0 {
             return stuck();
@@ -137,7 +135,8 @@ impl Running {
 
     pub(super) fn yield_set(&mut self) -> Result<Told, AllocError>
         requires { self.old.at + 1 < 2 ^ 64 }
-        ensures { (s : State) → IfOk result (λ told. step_at s told self.new ≡ on_walk (machine_at s self.old).walks (λ w ws. quiet (record (machine_at s self.old) { at = (machine_at s self.old).at + 1; operands = table w.gathered ∷ (machine_at s self.old).operands; walks = ws }))) }
+        ensures step { (s : State) → IfOk result (λ told. step_at s told self.new ≡ on_walk (machine_at s self.old).walks (λ w ws. quiet (record (machine_at s self.old) { at = (machine_at s self.old).at + 1; operands = table w.gathered ∷ (machine_at s self.old).operands; walks = ws }))) }
+        ensures relations { self.new.relations ≡ self.old.relations }
     {
         let Some(walk) = self.walks.pop() else {
             return stuck();
@@ -150,7 +149,8 @@ impl Running {
 
     pub(super) fn drop_walk(&mut self) -> Result<Told, AllocError>
         requires { self.old.at + 1 < 2 ^ 64 }
-        ensures { (s : State) → IfOk result (λ told. step_at s told self.new ≡ on_walk (machine_at s self.old).walks (λ w ws. quiet (record (machine_at s self.old) { at = (machine_at s self.old).at + 1; walks = ws }))) }
+        ensures step { (s : State) → IfOk result (λ told. step_at s told self.new ≡ on_walk (machine_at s self.old).walks (λ w ws. quiet (record (machine_at s self.old) { at = (machine_at s self.old).at + 1; walks = ws }))) }
+        ensures relations { self.new.relations ≡ self.old.relations }
     {
         let Some(walk) = self.walks.pop() else {
             return stuck();

@@ -4,7 +4,7 @@ ghost use Rattle.std.specs.Prelude.{◌≡◌, ◌++◌};
 ghost use Rattle.std.specs.List.{flat_map};
 ghost use Rattle.hera_syntax.specs.Grammar as phrases;
 ghost use Rattle.hera_syntax.specs.Outline.{expr_outline, hold, node, skip, some_args_outline};
-ghost use Rattle.hera_syntax.specs.Programs.{attr_outline, attr_row, attrs_outline, block_outline, else_if_row, func_outline, func_row, kind_outline, last_else, last_main_outline, main_outline, outline, param_outline, param_row, params_outline, proc_outline, proc_row, relation_outline, relation_row, schema_outline, some_params_outline, some_value_outline, stmt_outline, stmt_row, type_outline};
+ghost use Rattle.hera_syntax.specs.Programs.{attr_outline, attr_row, attrs_outline, block_outline, else_if_row, func_outline, func_row, kind_outline, last_else, last_main_outline, main_outline, outline, param_outline, param_row, params_outline, proc_outline, proc_row, relation_outline, relation_row, schema_outline, some_params_outline, some_text_outline, some_value_outline, stmt_outline, stmt_row, type_outline};
 
 use super::*;
 
@@ -111,7 +111,7 @@ impl Block {
 impl ElseIf {
     /// An `else if`.
     pub fn new(word: Token, bracket: Token, condition: Expr, block: Block) -> ElseIf
-        ensures { else_if_row result ≡ node phrases.else_part 0 ++ skip (phrases.word 11) ++ node phrases.after_else 0 ++ hold word ++ hold bracket ++ expr_outline condition ++ skip phrases.close_paren ++ block_outline block }
+        ensures { else_if_row result ≡ node phrases.else_part 0 ++ skip phrases.else_word ++ node phrases.after_else 0 ++ hold word ++ hold bracket ++ expr_outline condition ++ skip phrases.close_paren ++ block_outline block }
     {
         ElseIf {
             word,
@@ -219,11 +219,11 @@ impl StmtTree {
         StmtTree::Assert { word, value }
     }
 
-    /// A `commit`.
-    pub fn commit(word: Token) -> StmtTree
-        ensures { stmt_outline result ≡ node phrases.stmt 8 ++ hold word ++ skip phrases.semicolon }
+    /// A `commit`, with or without a label.
+    pub fn commit(word: Token, label: Option<Token>) -> StmtTree
+        ensures { stmt_outline result ≡ node phrases.stmt 8 ++ hold word ++ some_text_outline label ++ skip phrases.semicolon }
     {
-        StmtTree::Commit(word)
+        StmtTree::Commit { word, label }
     }
 
     /// A `rollback`.

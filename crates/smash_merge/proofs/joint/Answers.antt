@@ -1,5 +1,5 @@
-use Rattle.std.proofs.Common.{◌≡◌, ◌∙◌, refl, sym, ap, arith, [], ◌∷◌, ◌++◌, List, true, false}
-use Rattle.hera_meaning.specs.Deltas.{Atom, Delta, atoms, key_of, joint_atoms}
+use Rattle.std.proofs.Common.{◌∙◌, refl, sym, ap, arith, [], ◌∷◌, ◌++◌}
+use Rattle.hera_meaning.specs.Deltas.{Delta, atoms, key_of, joint_atoms}
 use Rattle.hera_meaning.specs.Values.{same_sign}
 use Rattle.delta_atoms.specs.Atoms.{atoms_in, with_last}
 use Rattle.delta_atoms.specs.Refs.{atom_in, bound_of}

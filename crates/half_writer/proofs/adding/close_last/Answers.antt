@@ -1,4 +1,5 @@
 use Rattle.std.proofs.Common.{◌≡◌, ◌≤◌, ◌++◌, ℕ, sym, ap, ◌∙◌, arith}
+use Rattle.rel_format.specs.declared.version.TheConstants.{PAGE_TWO}
 use Rattle.std.proofs.lemmas.Result.{err_from_is_err_and}
 use Rattle.rel_format.specs.Pages.{page_bytes}
 use Rattle.half_writer.proofs.Pagings.{last_bytes, last_count, last_full}
@@ -13,7 +14,7 @@ returns-in_err-next-clause-full c = λ t q.
 pub returns-clause-pages : goal.returns-clause-pages
 returns-clause-pages c = λ t same q.
     let some : 1 ≤ c.args.page.count = omega arith in
-    let grown : c.turn.new.bytes.items ≡ c.args.bytes.now.items ++ page_bytes 8192 t.rel q.held = c.in_ok-next.ensures.page q.held q.count q.rows ∙ ap (λ (r : ℕ). c.args.bytes.now.items ++ page_bytes 8192 r q.held) (sym same) in
+    let grown : c.turn.new.bytes.items ≡ c.args.bytes.now.items ++ page_bytes PAGE_TWO t.rel q.held = c.in_ok-next.ensures.page q.held q.count q.rows ∙ ap (λ (r : ℕ). c.args.bytes.now.items ++ page_bytes PAGE_TWO r q.held) (sym same) in
     last_bytes t c.args.bytes.now.items c.turn.new.bytes.items c.args.page q some c.args.page.fits grown
 
 pub returns-clause-count : goal.returns-clause-count

@@ -5,7 +5,7 @@ use Rattle.hera_sets.proofs.Lists.{filter_past_none, walk_step, walk_end, walk_f
 use Rattle.hera_meaning.specs.Rows.{IsRow, field_at}
 use Rattle.hera_meaning.specs.Aggregates.{column}
 use Rattle.hera_row.specs.Fields.{told}
-use Rattle.hera_aggregate.specs.Behind.{rows_behind}
+use Rattle.rel_algebra.specs.Fronts.{rows_behind}
 use Rattle.hera_aggregate.specs.Extremes.{found_greatest}
 use Rattle.hera_aggregate.proofs.Totals.{all_found}
 use Rattle.hera_aggregate.proofs.Bests.{greatest_more}

@@ -4,7 +4,7 @@ use Rattle.std.specs.Option.{option_copied, option_map}
 use Rattle.hera_sets.specs.Rows.{is_past}
 use Rattle.hera_meaning.specs.Aggregates.{column}
 use Rattle.hera_row.specs.Fields.{told}
-use Rattle.hera_aggregate.specs.Behind.{rows_behind}
+use Rattle.rel_algebra.specs.Fronts.{rows_behind}
 use Rattle.hera_aggregate.specs.Extremes.{found_greatest}
 use Rattle.hera_aggregate.proofs.extremes.greatest_field.Given as goal
 

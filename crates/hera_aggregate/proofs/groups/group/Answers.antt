@@ -2,7 +2,6 @@ use Rattle.std.proofs.Common.{◌≡◌, ℕ, true, List, [], ◌∷◌, ◌++�
 use Rattle.std.specs.List.{find, list_all}
 use Rattle.std.specs.Option.{option_copied}
 use Rattle.std.proofs.lemmas.Bool.{and_from, and_right}
-use Rattle.std.proofs.lemmas.List.{map_push}
 use Rattle.std.proofs.lemmas.List.Elements.{All-filter}
 use Rattle.std.proofs.lemmas.Result.{err_from_is_err_and}
 use Rattle.hera_sets.specs.Rows.{is_past, is_same, normal}
@@ -11,15 +10,15 @@ use Rattle.hera_sets.proofs.Members.{ascending_normal}
 use Rattle.hera_meaning.specs.Rows.{IsRow}
 use Rattle.hera_meaning.specs.Relations.{at_places, project_of}
 use Rattle.hera_meaning.specs.Aggregates.{is_few, rows_of_key, group_row, are_sums_in_range}
-use Rattle.rel_algebra.specs.Fronts.{begun_of}
-use Rattle.hera_aggregate.specs.Behind.{rows_behind}
+use Rattle.rel_algebra.specs.Fronts.{begun_of, rows_behind}
 use Rattle.hera_aggregate.specs.Groups.{aggs_bytes, are_aggs_in_range}
+use Rattle.rel_algebra.proofs.Gathered.{image_more}
 use Rattle.hera_aggregate.proofs.GroupLemmas.{few_of_key, passes_more, fails_found, refused_at}
 use Rattle.hera_aggregate.proofs.KeySteps.{behind_found}
 use Rattle.hera_aggregate.proofs.groups.group.Goals as goal
 
 pub loop-key-init : goal.loop-key-init
-loop-key-init g c = ([], filter_past_none (project_of c.args.schema.now c.args.by.now (g.A.Sorted.rows c.args.a.now)), c.new-groups.ensures.items, refl)
+loop-key-init g c = ([], filter_past_none (project_of c.args.schema.now c.args.by.now (g.A.Sorted.rows c.args.a.now)), c.new-groups.ensures, refl)
 
 pub group_row-requires-clause-rows : goal.group_row-requires-clause-rows
 group_row-requires-clause-rows g c =
@@ -84,7 +83,7 @@ loop-key-preserved g c =
     let fits : are_aggs_in_range schema (rows_of_key schema by key rows) aggs ≡ true = sym (ap (λ rs. are_aggs_in_range schema rs aggs) behind) ∙ c.in_ok-row.ensures.fits in (
       done ++ key ∷ [],
       walk_step done (project_of schema by rows) last key (ascending_normal (map (at_places schema by) rows)) found c.loop-key.invariant.1,
-      c.in_ok-push.ensures.items ∙ (λ i. c.loop-key.invariant.2 i ++ row i ∷ []) ∙ sym (map_push (group_row schema by aggs rows) done key),
+      image_more (group_row schema by aggs rows) done key c.bytes.result.now c.loop-key.groups c.insert.new.self (c.bytes.ensures ∙ row) c.loop-key.invariant.2 c.in_ok-insert.ensures.ok,
       passes_more (λ k. are_aggs_in_range schema (rows_of_key schema by k rows) aggs) done key c.loop-key.invariant.3 fits,
     )
 
@@ -95,7 +94,7 @@ returns-clause-group g c =
     let rows = g.A.Sorted.rows c.args.a.now in
     let last = option_copied c.loop-key.last in
     let none : find (is_past last) (project_of schema by rows) ≡ None = ap (find (is_past last)) (sym c.in_ok-keys.ensures) ∙ sym c.in_default.ensures.next in
-    c.in_ok-set.ensures ∙ ap normal (c.loop-key.invariant.2 ∙ ap (map (group_row schema by c.args.aggs.now rows)) (walk_end c.loop-key.invariant.0 (project_of schema by rows) last none c.loop-key.invariant.1))
+    c.loop-key.invariant.2 ∙ ap (λ (ks : List (List ℕ)). normal (map (group_row schema by c.args.aggs.now rows) ks)) (walk_end c.loop-key.invariant.0 (project_of schema by rows) last none c.loop-key.invariant.1)
 
 pub returns-clause-fits : goal.returns-clause-fits
 returns-clause-fits g c =

@@ -1,7 +1,7 @@
 use Rattle.std.proofs.Common.{◌≡◌, List, ℕ, ◌++◌, length, map, true}
 use Rattle.std.specs.List.{filter, list_all}
 use Rattle.std.specs.Option.{option_copied}
-use Rattle.hera_sets.specs.Rows.{is_past}
+use Rattle.hera_sets.specs.Rows.{is_past, normal}
 use Rattle.hera_meaning.specs.Relations.{project_of}
 use Rattle.hera_meaning.specs.Aggregates.{group_row, rows_of_key}
 use Rattle.hera_aggregate.specs.Groups.{are_aggs_in_range}
@@ -11,7 +11,7 @@ use Rattle.hera_aggregate.proofs.groups.group.Given as goal
 abbrev pub invariant-loop-key : goal.invariant-loop-key
 invariant-loop-key g l =
     let rows = g.A.Sorted.rows l.a in
-    (done : List (List ℕ)) × (done ++ filter (is_past (option_copied l.last)) (project_of l.schema l.by rows) ≡ project_of l.schema l.by rows) × (l.groups.items ≡ map (group_row l.schema l.by l.aggs rows) done)
+    (done : List (List ℕ)) × (done ++ filter (is_past (option_copied l.last)) (project_of l.schema l.by rows) ≡ project_of l.schema l.by rows) × (l.groups ≡ normal (map (group_row l.schema l.by l.aggs rows) done))
     × (list_all (λ key. are_aggs_in_range l.schema (rows_of_key l.schema l.by key rows) l.aggs) done ≡ true)
 
 abbrev pub decreases-loop-key : goal.decreases-loop-key

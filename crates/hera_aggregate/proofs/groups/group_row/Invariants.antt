@@ -1,5 +1,5 @@
 use Rattle.std.proofs.Common.{◌≡◌, ◌++◌, length, take, true}
-use Rattle.hera_aggregate.specs.Behind.{rows_behind}
+use Rattle.rel_algebra.specs.Fronts.{rows_behind}
 use Rattle.hera_aggregate.specs.Groups.{aggs_bytes, are_aggs_in_range}
 use Rattle.hera_aggregate.proofs.groups.group_row.Given as goal
 

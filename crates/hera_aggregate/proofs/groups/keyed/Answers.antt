@@ -1,14 +1,13 @@
 use Rattle.std.proofs.Common.{◌≡◌, ℕ, List, [], ◌∷◌, ◌++◌, sym, ap, ◌∙◌, subst, map}
-use Rattle.std.specs.Result.{IfOk}
 use Rattle.std.specs.Option.{option_copied}
-use Rattle.std.proofs.lemmas.List.{map_push}
 use Rattle.hera_sets.specs.Rows.{normal}
 use Rattle.hera_sets.proofs.Lists.{filter_past_none, walk_step, walk_end, walk_falls}
+use Rattle.rel_algebra.proofs.Gathered.{image_more}
 use Rattle.hera_aggregate.specs.Groups.{keyed_row}
 use Rattle.hera_aggregate.proofs.groups.keyed.Goals as goal
 
 pub loop-row-init : goal.loop-row-init
-loop-row-init g c = ([], filter_past_none (g.A.Sorted.rows c.args.a.now), c.new-rows.ensures.items)
+loop-row-init g c = ([], filter_past_none (g.A.Sorted.rows c.args.a.now), c.new-set.ensures)
 
 pub loop-row-smaller : goal.loop-row-smaller
 loop-row-smaller g c = walk_falls (g.A.Sorted.rows c.args.a.now) (option_copied c.loop-row.last) c.in-Some.row.now c.in-Some.ensures.ordered (sym c.in-Some.ensures.next)
@@ -17,14 +16,13 @@ pub loop-row-preserved : goal.loop-row-preserved
 loop-row-preserved g c =
     let row = c.in-Some.row.now in
     let keyed = keyed_row c.args.schema.now c.args.by.now in
-    let bytes : c.from_vec.result ≡ keyed row = c.from_vec.ensures ∙ c.in_ok-extend_from_slice.ensures.items ∙ ap (λ t. t ++ row) (c.into_vec-bytes.ensures ∙ c.in_ok-key.ensures) in (
+    let bytes : c.deref.result.now ≡ keyed row = c.deref.ensures.value ∙ c.in_ok-extend_from_slice.ensures.items ∙ ap (λ t. t ++ row) (c.into_vec-bytes.ensures ∙ c.in_ok-key.ensures) in (
       c.loop-row.invariant.0 ++ row ∷ [],
       walk_step c.loop-row.invariant.0 (g.A.Sorted.rows c.args.a.now) (option_copied c.loop-row.last) row c.in-Some.ensures.ordered (sym c.in-Some.ensures.next) c.loop-row.invariant.1,
-      c.in_ok-push.ensures.items ∙ (λ i. c.loop-row.invariant.2 i ++ bytes i ∷ []) ∙ sym (map_push keyed c.loop-row.invariant.0 row),
+      image_more keyed c.loop-row.invariant.0 row c.deref.result.now c.loop-row.set c.insert.new.self bytes c.loop-row.invariant.2 c.in_ok-insert.ensures.ok,
     )
 
 pub returns-clause-set : goal.returns-clause-set
 returns-clause-set g c =
     let rows = g.A.Sorted.rows c.args.a.now in
-    let P : List (List ℕ) → Type 0 = λ keyed. IfOk c.set_of.result (λ set. set ≡ normal keyed) in
-    subst P (c.loop-row.invariant.2 ∙ ap (map (keyed_row c.args.schema.now c.args.by.now)) (walk_end c.loop-row.invariant.0 rows (option_copied c.loop-row.last) (sym c.in_default.ensures.next) c.loop-row.invariant.1)) c.set_of.ensures
+    c.loop-row.invariant.2 ∙ ap (λ (t : List (List ℕ)). normal (map (keyed_row c.args.schema.now c.args.by.now) t)) (walk_end c.loop-row.invariant.0 rows (option_copied c.loop-row.last) (sym c.in_default.ensures.next) c.loop-row.invariant.1)

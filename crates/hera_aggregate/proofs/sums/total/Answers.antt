@@ -7,7 +7,7 @@ use Rattle.hera_sets.specs.Rows.{is_past}
 use Rattle.hera_sets.proofs.Lists.{filter_past_none, walk_step, walk_end, walk_falls}
 use Rattle.hera_meaning.specs.Rows.{IsRow, field_at}
 use Rattle.hera_meaning.specs.Aggregates.{int_of, sum_of}
-use Rattle.hera_aggregate.specs.Behind.{rows_behind}
+use Rattle.rel_algebra.specs.Fronts.{rows_behind}
 use Rattle.hera_aggregate.proofs.Totals.{all_found, total_more, added, within_more, done_within}
 use Rattle.hera_aggregate.proofs.sums.total.Goals as goal
 

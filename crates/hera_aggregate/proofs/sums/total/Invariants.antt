@@ -3,7 +3,7 @@ use Rattle.std.specs.List.{filter}
 use Rattle.std.specs.Option.{option_copied}
 use Rattle.hera_sets.specs.Rows.{is_past}
 use Rattle.hera_meaning.specs.Aggregates.{sum_of}
-use Rattle.hera_aggregate.specs.Behind.{rows_behind}
+use Rattle.rel_algebra.specs.Fronts.{rows_behind}
 use Rattle.hera_aggregate.proofs.Totals.{IsWithin}
 use Rattle.hera_aggregate.proofs.sums.total.Given as goal
 

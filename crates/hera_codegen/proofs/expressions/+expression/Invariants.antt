@@ -1,4 +1,4 @@
-use Rattle.std.proofs.Common.{◌≡◌, ◌+◌, ◌++◌, length, drop, ◌≤◌}
+use Rattle.std.proofs.Common.{◌≡◌, ◌++◌, length, drop, ◌≤◌}
 use Rattle.hera_meaning.specs.Plain.{exprs_in, links_in, hypos_in}
 use Rattle.hera_code.specs.Scheme.{exprs_code, links_code, hypos_code, some_code}
 use Rattle.hera_codegen.specs.Holes.{every_front, every_holes, some_holes}

@@ -3,8 +3,8 @@ use Rattle.hera_codegen.proofs.programs.emit_program.Goals as goal
 
 pub loop-k-preserved : goal.loop-k-preserved
 loop-k-preserved c = (
-  bodies_go _ _ _ _ _ _ _ c.loop-k-test.true c.body-item.is c.place_at.ensures c.in_ok-emit_body.ensures c.loop-k.invariant.0,
-  infos_go _ _ _ _ _ _ c.in_ok-here.field-0 _ _ _ c.loop-k-test.true c.body-item.is c.place_at.ensures c.in_ok-emit_body.ensures c.in_ok-here.ensures c.in_ok-push.ensures.items c.loop-k.invariant.1,
+  bodies_go _ _ _ _ _ _ _ c.loop-k-test.true c.body-item.is c.role_at.ensures c.in_ok-emit_body.ensures c.loop-k.invariant.0,
+  infos_go _ _ _ _ _ _ c.in_ok-here.field-0 _ _ _ c.loop-k-test.true c.body-item.is c.role_at.ensures c.in_ok-emit_body.ensures c.in_ok-here.ensures c.in_ok-push.ensures.items c.loop-k.invariant.1,
 )
 
 pub returns : goal.returns

@@ -1,6 +1,6 @@
 use Rattle.std.proofs.Common.{◌≡◌, ◌++◌, map, length, drop}
 use Rattle.hera_meaning.specs.Plain.{body_of}
-use Rattle.hera_codegen.specs.Places_of.{bodies_code_from, infos_from}
+use Rattle.hera_codegen.specs.Roles.{bodies_code_from, infos_from}
 use Rattle.hera_codegen.proofs.programs.emit_program.Given as goal
 
 abbrev pub invariant-loop-k : goal.invariant-loop-k

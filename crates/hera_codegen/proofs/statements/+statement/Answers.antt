@@ -1,9 +1,9 @@
-use Rattle.std.proofs.Common.{◌+◌, ◌++◌, length, sym, ap, ◌∙◌}
+use Rattle.std.proofs.Common.{◌++◌, length, sym, ap, ◌∙◌}
 use Rattle.std.proofs.lemmas.Result.{on_ok_weaker}
 use Rattle.hera_meaning.specs.Plain.{expr_of, command_of, block_in, arms_in}
 use Rattle.hera_meaning.proofs.PlainLaws.{command_of-If}
 use Rattle.hera_code.specs.Scheme.{command_code}
-use Rattle.hera_codegen.specs.Places_of.{place_is}
+use Rattle.hera_codegen.specs.Roles.{role_is}
 use Rattle.hera_codegen.proofs.Commands.{block_go, while_closed, arm_closed, foreach_closed, arms_go, arms_go_holes, if_closed}
 use Rattle.hera_codegen.proofs.statements.+statement.Goals as goal
 
@@ -35,4 +35,4 @@ pub emit_stmt-returns-in_ok-emit_block-in-If : goal.emit_stmt-returns-in_ok-emit
 emit_stmt-returns-in_ok-emit_block-in-If t c =
     on_ok_weaker c.close_jumps.result
     (λ h. if_closed _ (arms_in c.in-If.arms.items) (block_in c.in-If.other.items) _ _ _ _ _ c.in_ok-holes-in-If.ensures.code (c.deref.ensures.value ∙ c.in_ok-holes-in-If.ensures.holes) c.in_ok-emit_block-in-If.ensures h
-    ∙ ap (λ x. c.args.code.now.items ++ command_code (place_is c.args.place) x (length c.args.code.now.items)) (sym (ap command_of c.in-If.is ∙ command_of-If c.in-If.arms c.in-If.other))) c.close_jumps.ensures
+    ∙ ap (λ x. c.args.code.now.items ++ command_code (role_is c.args.role) x (length c.args.code.now.items)) (sym (ap command_of c.in-If.is ∙ command_of-If c.in-If.arms c.in-If.other))) c.close_jumps.ensures

@@ -1,7 +1,6 @@
 use Rattle.std.proofs.Common.{◌+◌, ◌≡◌, ◌∙◌, Option, ap, sym, subst, arith}
 use Rattle.std.specs.Prelude.{MatchOption}
 use Rattle.std.specs.Vec.{vec_len, vec_capacity}
-use Rattle.when_overlay.specs.Changed.{after_all}
 use Rattle.hera_frames.specs.declared.values.Datum.{Datum}
 use Rattle.hera_frames.specs.declared.operands.Operand.{Operand}
 use Rattle.hera_frames.specs.Items.{item_of, held, plain_of, collected, IsHeld}
@@ -11,7 +10,7 @@ use Rattle.hera_frames.proofs.operands.collect_all.Goals as goal
 
 pub loop-i-preserved : goal.loop-i-preserved
 loop-i-preserved c =
-    let s = after_all c.args.base.now.state c.args.commits.now in
+    let s = c.args.stored.now.state in
     let ls = c.args.changes.now.layers in
     let told = λ (o : Option Datum). MatchOption o (collected s ls (item_of c.index.result.now) ≡ item_of c.index.result.now) (λ v. collected s ls (item_of c.index.result.now) ≡ held (plain_of v)) in
     elim c.match-branch-2.branch [
@@ -31,4 +30,4 @@ loop-i-preserved c =
 
 pub returns-clause-items : goal.returns-clause-items
 returns-clause-items c =
-    collecting_end (after_all c.args.base.now.state c.args.commits.now) c.args.changes.now.layers c.args.items.now.items c.loop-i.items.items c.loop-i.i (omega (arith, c.loop-i-test.false, c.loop-i.invariant.len, c.len-i-end.ensures)) c.loop-i.invariant.collecting
+    collecting_end c.args.stored.now.state c.args.changes.now.layers c.args.items.now.items c.loop-i.items.items c.loop-i.i (omega (arith, c.loop-i-test.false, c.loop-i.invariant.len, c.len-i-end.ensures)) c.loop-i.invariant.collecting

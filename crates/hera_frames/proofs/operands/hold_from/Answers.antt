@@ -1,7 +1,6 @@
 use Rattle.std.proofs.Common.{◌+◌, ◌-◌, ◌≡◌, ◌∙◌, Option, ap, sym, subst, arith}
 use Rattle.std.specs.Prelude.{MatchOption}
 use Rattle.std.specs.Vec.{vec_len, vec_capacity}
-use Rattle.when_overlay.specs.Changed.{after_all}
 use Rattle.hera_frames.specs.declared.values.Datum.{Datum}
 use Rattle.hera_frames.specs.declared.operands.Operand.{Operand}
 use Rattle.hera_frames.specs.Items.{item_of, held, plain_of, collected, reach_of, IsHeld}
@@ -11,7 +10,7 @@ use Rattle.hera_frames.proofs.operands.hold_from.Goals as goal
 
 pub loop-i-preserved : goal.loop-i-preserved
 loop-i-preserved c =
-    let s = after_all c.args.base.now.state c.args.commits.now in
+    let s = c.args.stored.now.state in
     let ls = c.args.changes.now.layers in
     let told = λ (o : Option Datum). MatchOption o (collected s ls (item_of c.index.result.now) ≡ item_of c.index.result.now) (λ v. collected s ls (item_of c.index.result.now) ≡ held (plain_of v)) in
     elim c.match-branch-2.branch [
@@ -33,14 +32,14 @@ loop-i-preserved c =
     ]
 
 pub returns-in_err-v-clause-same : goal.returns-in_err-v-clause-same
-returns-in_err-v-clause-same c = same_collected (after_all c.args.base.now.state c.args.commits.now) c.args.changes.now.layers c.args.items.now.items c.loop-i.items.items c.loop-i.invariant.holding.same
+returns-in_err-v-clause-same c = same_collected c.args.stored.now.state c.args.changes.now.layers c.args.items.now.items c.loop-i.items.items c.loop-i.invariant.holding.same
 
 pub returns-clause-held : goal.returns-clause-held
-returns-clause-held c = holding_end (after_all c.args.base.now.state c.args.commits.now) c.args.changes.now.layers c.args.items.now.items c.loop-i.items.items c.args.from (vec_len c.args.items.now - c.args.from) c.loop-i.i
+returns-clause-held c = holding_end c.args.stored.now.state c.args.changes.now.layers c.args.items.now.items c.loop-i.items.items c.args.from (vec_len c.args.items.now - c.args.from) c.loop-i.i
     (omega (arith, c.requires, c.loop-i.invariant.len)) (omega (arith, c.loop-i-test.false, c.loop-i.invariant.len, c.len-i-end.ensures)) c.loop-i.invariant.holding
 
 pub returns-clause-same : goal.returns-clause-same
-returns-clause-same c = same_collected (after_all c.args.base.now.state c.args.commits.now) c.args.changes.now.layers c.args.items.now.items c.loop-i.items.items c.loop-i.invariant.holding.same
+returns-clause-same c = same_collected c.args.stored.now.state c.args.changes.now.layers c.args.items.now.items c.loop-i.items.items c.loop-i.invariant.holding.same
 
 pub returns-in_err-v-clause-older : goal.returns-in_err-v-clause-older
 returns-in_err-v-clause-older c = c.loop-i.invariant.holding.older

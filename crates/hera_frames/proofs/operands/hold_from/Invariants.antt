@@ -1,12 +1,11 @@
 use Rattle.std.proofs.Common.{◌≡◌, ◌≤◌}
 use Rattle.std.specs.Vec.{vec_len, vec_capacity}
-use Rattle.when_overlay.specs.Changed.{after_all}
 use Rattle.hera_frames.proofs.Holding.{IsHolding}
 use Rattle.hera_frames.proofs.operands.hold_from.Given as goal
 
 abbrev pub invariant-loop-i : goal.invariant-loop-i
 invariant-loop-i l = record {
-  holding : IsHolding (after_all l.base.state l.commits) l.changes.layers l.initial.items.items l.items.items l.from l.i;
+  holding : IsHolding l.stored.state l.changes.layers l.initial.items.items l.items.items l.from l.i;
   behind : l.from ≤ l.i;
   len : vec_len l.items ≡ vec_len l.initial.items;
   capacity : vec_capacity l.items ≡ vec_capacity l.initial.items;

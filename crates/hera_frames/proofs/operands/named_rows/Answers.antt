@@ -3,12 +3,11 @@ use Rattle.std.specs.Prelude.{IfOk}
 use Rattle.hera_sets.proofs.Lists.{filter_past_none}
 use Rattle.hera_meaning.specs.Deltas.{rows_at}
 use Rattle.hera_meaning.specs.Values.{Value, table}
-use Rattle.when_overlay.specs.Changed.{after_all}
 use Rattle.hera_frames.specs.Branched.{seen_at}
 use Rattle.hera_frames.specs.Items.{plain_of}
 use Rattle.hera_frames.proofs.operands.named_rows.Goals as goal
 
 pub returns : goal.returns
 returns c =
-    let rows = rows_at (seen_at (after_all c.args.base.now.state c.args.commits.now) c.args.changes.now.layers c.args.tip) c.args.rel.0 in
+    let rows = rows_at (seen_at c.args.stored.now.state c.args.changes.now.layers c.args.tip) c.args.rel.0 in
     subst (λ (v : Value). IfOk c.new.result (λ d. plain_of d ≡ v)) (ap table (c.in_ok-rows.ensures ∙ filter_past_none rows)) c.new.ensures.plain

@@ -1,12 +1,11 @@
 use Rattle.std.proofs.Common.{◌≡◌, length, map}
-use Rattle.when_overlay.specs.Changed.{after_all}
 use Rattle.hera_frames.specs.Walking.{settled}
 use Rattle.hera_frames.specs.Waiting.{poured}
 use Rattle.hera_frames.proofs.settling.settle_into.Given as goal
 
 abbrev pub invariant-loop-walk : goal.invariant-loop-walk
 invariant-loop-walk l =
-    let turn = settled (after_all l.base.state l.commits) l.changes.layers in
+    let turn = settled l.stored.state l.changes.layers in
     poured (map turn l.walks) l.done ≡ poured (map turn l.initial.walks) l.initial.done
 
 abbrev pub decreases-loop-walk : goal.decreases-loop-walk

@@ -1,31 +1,28 @@
-use Rattle.std.proofs.Common.{◌≡◌, ◌∷◌, ◌∙◌, List, Option, IsSomeAnd, ap, sym, subst, length, Some, arith}
+use Rattle.std.proofs.Common.{[], ◌≡◌, ◌∷◌, ◌∙◌, List, Option, IsSomeAnd, ap, sym, subst, Some, arith}
 use Rattle.std.specs.List.{filter, find}
 use Rattle.std.specs.Option.{option_copied}
 use Rattle.hera_sets.specs.Rows.{Row, is_past}
 use Rattle.hera_sets.proofs.Lists.{filter_past_step, filter_none_found}
-use Rattle.hera_meaning.specs.declared.schemas.RelDecl.{RelDecl}
-use Rattle.when_overlay.specs.Changed.{after_all}
 use Rattle.hera_frames.specs.Branched.{pending_of, under, seen_at}
 use Rattle.hera_frames.proofs.Naming.{rows_got, rows_none, read-length}
 use Rattle.hera_frames.proofs.walks.row_past.Goals as goal
 
 pub returns-then-from-len : goal.returns-then-from-len
 returns-then-from-len c =
-    let t = seen_at (after_all c.args.base.now.state c.args.commits.now) c.args.changes.now.layers c.args.tip in
-    let long = read-length c.args.base.now.state c.args.commits.now (pending_of c.args.changes.now.layers) (under c.args.changes.now.layers c.args.tip) in
-    let there = ap (λ (xs : List RelDecl). length xs) c.catalogue.ensures.catalogue in
-    ap (filter (is_past c.args.last.now)) (rows_none t c.args.rel.0 (omega (arith, long, there, c.catalogue.ensures.relations, c.len.ensures.count, c.from.ensures, c.if-from-len.true)))
+    let t = seen_at c.args.stored.now.state c.args.changes.now.layers c.args.tip in
+    let long = read-length c.args.stored.now.state [] (pending_of c.args.changes.now.layers) (under c.args.changes.now.layers c.args.tip) in
+    ap (filter (is_past c.args.last.now)) (rows_none t c.args.rel.0 (omega (arith, long, c.len.ensures.relations, c.len.ensures.count, c.from.ensures, c.if-from-len.true)))
 
 pub returns-in-None : goal.returns-in-None
 returns-in-None c =
-    let t = seen_at (after_all c.args.base.now.state c.args.commits.now) c.args.changes.now.layers c.args.tip in
+    let t = seen_at c.args.stored.now.state c.args.changes.now.layers c.args.tip in
     ap (filter (is_past c.args.last.now)) (rows_got t c.args.rel.0 c.rel-rows.result c.rel-rows.ensures)
     ∙ filter_none_found (is_past c.args.last.now) c.rel-rows.result
     (ap (λ b. find (is_past b) c.rel-rows.result) (sym c.bytes_of.ensures) ∙ sym c.above_near-next.ensures.next ∙ ap option_copied c.in-None.is)
 
 pub returns-in_ok-put_last-in-Some : goal.returns-in_ok-put_last-in-Some
 returns-in_ok-put_last-in-Some c =
-    let t = seen_at (after_all c.args.base.now.state c.args.commits.now) c.args.changes.now.layers c.args.tip in
+    let t = seen_at c.args.stored.now.state c.args.changes.now.layers c.args.tip in
     let b = c.args.last.now in
     subst (λ (rows : List Row). IsSomeAnd c.put_last.new.last (λ x. filter (is_past b) rows ≡ x ∷ filter (is_past (Some x)) rows)) (sym (rows_got t c.args.rel.0 c.rel-rows.result c.rel-rows.ensures))
     (subst (λ (o : Option Row). IsSomeAnd o (λ x. filter (is_past b) c.rel-rows.result ≡ x ∷ filter (is_past (Some x)) c.rel-rows.result)) (sym c.in_ok-put_last-in-Some.ensures)

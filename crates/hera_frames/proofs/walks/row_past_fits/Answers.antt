@@ -3,14 +3,13 @@ use Rattle.std.specs.List.{filter, find}
 use Rattle.std.specs.Option.{option_copied}
 use Rattle.hera_sets.specs.Rows.{Row, is_past}
 use Rattle.hera_sets.proofs.Lists.{filter_past_step}
-use Rattle.when_overlay.specs.Changed.{after_all}
 use Rattle.hera_frames.specs.Branched.{seen_at}
 use Rattle.hera_frames.proofs.Naming.{rows_got}
 use Rattle.hera_frames.proofs.walks.row_past_fits.Goals as goal
 
 pub returns-clause-found : goal.returns-clause-found
 returns-clause-found c = λ done.
-    let t = seen_at (after_all c.args.base.now.state c.args.commits.now) c.args.changes.now.layers c.args.tip in
+    let t = seen_at c.args.stored.now.state c.args.changes.now.layers c.args.tip in
     let b = c.args.last.now in
     subst (λ (rows : List Row). IsSomeAnd c.fit_last.new.last (λ x. filter (is_past b) rows ≡ x ∷ filter (is_past (Some x)) rows)) (sym (rows_got t c.args.rel.0 c.rel-rows.result c.rel-rows.ensures))
     (subst (λ (o : Option Row). IsSomeAnd o (λ x. filter (is_past b) c.rel-rows.result ≡ x ∷ filter (is_past (Some x)) c.rel-rows.result)) (sym (c.if-not-fit_last.ensures.last refl))

@@ -18,4 +18,4 @@ returns-in-OpenComment c = (
 )
 
 pub returns-in-Punct : goal.returns-in-Punct
-returns-in-Punct c = subst (λ k. IsToken k (chars c.args.piece.now) (kinds.Punct c.in-Punct.i)) (sym c.in-Punct.is) punct
+returns-in-Punct c = subst (λ k. IsToken k (chars c.args.piece.now) (kinds.Punct c.in-Punct.mark)) (sym c.in-Punct.is) punct

@@ -1,5 +1,6 @@
 use Rattle.std.proofs.Common.{rules, arith, refl, sym, ap, drop, append_assoc, Some, ◌∙◌, ◌++◌, ◌∷◌, []}
 use Rattle.std.specs.List.{flat_map}
+use Rattle.hera_syntax.specs.declared.words.Keyword.TheVariants as keys
 use Rattle.hera_syntax.specs.Grammar.{phrase, keep, leave, word}
 use Rattle.hera_syntax.specs.Grammar as phrases
 use Rattle.hera_syntax.specs.Outline.{expr_outline, hold, node, skip}
@@ -116,7 +117,7 @@ elses-returns-in_err-items-clause-sticks t c h = stops_list (phrase phrases.else
 
 pub elses-elses-preserved : goal.elses-elses-preserved
 elses-elses-preserved t c = record {
-  reads = rows_more else_if_row [] c.elses.items.items c.in_ok-items.ensures.one_more.item c.elses.invariant.reads (join (next_choose 0 (next (next_choose 0 idle (told phrases.else_part 0 refl (sym c.takes.ensures.told ∙ c.elses-test.true))) (c.takes.ensures.reads c.elses-test.true)) (told phrases.after_else 0 refl (sym c.next_is.ensures ∙ c.if-not-next_is.false))) (before (phrase phrases.else_part ∷ []) (got else_if_rest (keep (word 10 ∷ []) ∷ keep phrases.paren ∷ phrase phrases.expr ∷ leave phrases.close_paren ∷ phrase phrases.block ∷ []) c.in_ok-items.ensures.one_more.was_read c.guarded-item.ensures.reads))) c.in_ok-items.ensures.one_more.longer;
+  reads = rows_more else_if_row [] c.elses.items.items c.in_ok-items.ensures.one_more.item c.elses.invariant.reads (join (next_choose 0 (next (next_choose 0 idle (told phrases.else_part 0 refl (sym c.takes.ensures.told ∙ c.elses-test.true))) (c.takes.ensures.reads c.elses-test.true)) (told phrases.after_else 0 refl (sym c.next_is.ensures ∙ c.if-not-next_is.false))) (before (phrase phrases.else_part ∷ []) (got else_if_rest (keep (word keys.If ∷ []) ∷ keep phrases.paren ∷ phrase phrases.expr ∷ leave phrases.close_paren ∷ phrase phrases.block ∷ []) c.in_ok-items.ensures.one_more.was_read c.guarded-item.ensures.reads))) c.in_ok-items.ensures.one_more.longer;
   no_longer = omega (arith, c.elses.invariant.no_longer, c.takes.ensures.shorter c.elses-test.true, shortened c.in_ok-items.ensures.one_more.was_read c.guarded-item.ensures.shorter);
 }
 

@@ -1,4 +1,4 @@
-use Rattle.std.proofs.Common.{◌≡◌, ◌+◌, ◌-◌, ◌++◌, ◌∷◌, [], suc, length, List, true, false, not, Err, ⊎_elim, refl, sym, ap, ◌∙◌, subst, arith}
+use Rattle.std.proofs.Common.{◌≡◌, ◌<◌, ◌+◌, ◌-◌, ◌++◌, ◌∷◌, [], suc, length, List, true, false, not, Err, ⊎_elim, refl, sym, ap, ◌∙◌, subst, arith}
 use Rattle.std.proofs.lemmas.Result.{MatchResult-from_err, err_from_is_err_and}
 use Rattle.std.proofs.KnownBytes.{Appends-nil}
 use Rattle.std.specs.Io.KnownBytes.{Appends}
@@ -20,7 +20,9 @@ use Rattle.hera_run.specs.declared.fault.RunFault.TheVariants as RunFault
 use Rattle.hera_run.specs.Running.{ending_of, IsCodeCut}
 use Rattle.hera_run.proofs.Fittings.{true_or_false}
 use Rattle.hera_run.proofs.Results.{ok_is_no_err, same_error}
-use Rattle.hera_run.proofs.Steps.{at_start, stepped, state_read, at_quiet, at_out, at_commit, committing, carried_out, carried_commit, adds_out, adds_commit, adds_end, cut_next, cut_commit, part_next, part_here, part_out, part_commit, said_out, said_commit, all_done, done_up_to, proper_commit, ending_fits}
+use Rattle.hera_machine.specs.Descends.{left}
+use Rattle.hera_run.proofs.Steps.{comes_nearer, at_start, stepped, at_quiet, at_out, at_commit, committing, carried_out, carried_commit, adds_out, adds_commit, adds_end, cut_next, cut_commit, part_next, part_here, part_out, part_commit, said_out, said_commit, all_done, done_up_to, proper_commit, ending_fits}
+use Rattle.hera_run.proofs.Levelled.{levelled_start, levelled_kept, levelled_more, state_read, levels_read}
 use Rattle.hera_run.proofs.run.run_code.Goals as goal
 
 pub steps-init : goal.steps-init
@@ -35,6 +37,7 @@ steps-init g c =
       opens = c.requires.open;
       base = refl;
       carried = record { stored = refl; count = omega (arith, long); fit = refl; ends = refl };
+      levelled = levelled_start c.in_ok-levels.levels c.commits.result.now init c.commits.ensures.commits c.commits.ensures.proper (c.in_ok-levels.ensures.does init.base.state) (c.in_ok-levels.ensures.known init.base.catalogue);
       said = Appends-nil _;
       stands = c.requires.stands;
       any_moment = λ told. leaves-none _ _ _ _;
@@ -50,6 +53,9 @@ returns-in_err-advance-clause-cut g c =
     MatchResult-from_err c.from_residual-in_err-advance.result _ _ c.from_residual-in_err-advance.ensures.0
     (λ _. part_here c.args.code.now c.args.relations.now (specs_of c.args.hosts.now.names) db c.args.turns init.end i.events c.steps.machine _ _ i.at i.carried.fit i.said)
 
+pub advance-requires-clause-commits : goal.advance-requires-clause-commits
+advance-requires-clause-commits g c = levels_read c.steps.store c.steps.levels c.base.result.now c.deltas.result.now c.steps.invariant.levelled c.base.ensures.base c.deltas.ensures.deltas
+
 pub steps-preserved-in-Quiet : goal.steps-preserved-in-Quiet
 steps-preserved-in-Quiet g c =
     let i = c.steps.invariant in
@@ -62,8 +68,8 @@ steps-preserved-in-Quiet g c =
     let gate = init.end in
     let start = g.W.Output.emitted c.args.outside.now in
     let mid = g.W.Output.emitted c.steps.outside in
-    let same = state_read old db (state_after db.state i.events) c.base.result.now c.commits.result.now c.base.ensures.base c.commits.ensures.commits i.carried.stored in
-    let to = stepped c.args.code.now c.args.relations.now (specs_of c.args.hosts.now.names) db c.args.turns i.events m n (state_over c.base.result.now.state c.commits.result.now) c.in_ok-advance.field-0 (events.Quiet) i.at same c.in-Quiet.is (ens.tells i.at.works) ens.status ens.code ens.relations in
+    let same = state_read old c.steps.levels db (state_after db.state i.events) c.base.result.now c.deltas.result.now i.levelled c.base.ensures.base c.deltas.ensures.deltas i.carried.stored in
+    let to = stepped c.args.code.now c.args.relations.now (specs_of c.args.hosts.now.names) db c.args.turns i.events m n (state_over c.base.result.now.state c.deltas.result.now) c.in_ok-advance.field-0 (events.Quiet) i.at same c.in-Quiet.is (ens.tells i.at.works) ens.status ens.code ens.relations in
     record {
       events = i.events;
       at = at_quiet c.args.code.now c.args.relations.now (specs_of c.args.hosts.now.names) db c.args.turns i.events m n to;
@@ -71,6 +77,7 @@ steps-preserved-in-Quiet g c =
       opens = i.opens;
       base = i.base;
       carried = i.carried;
+      levelled = i.levelled;
       said = i.said;
       stands = i.stands;
       any_moment = i.any_moment;
@@ -78,8 +85,8 @@ steps-preserved-in-Quiet g c =
       output = i.output;
     }
 
-pub steps-preserved-in-Continue-branch-4 : goal.steps-preserved-in-Continue-branch-4
-steps-preserved-in-Continue-branch-4 g c =
+pub steps-preserved-in-Continue-branch-5 : goal.steps-preserved-in-Continue-branch-5
+steps-preserved-in-Continue-branch-5 g c =
     let i = c.steps.invariant in
     let m = c.steps.machine in
     let n = c.advance.new.self in
@@ -90,8 +97,8 @@ steps-preserved-in-Continue-branch-4 g c =
     let gate = init.end in
     let start = g.W.Output.emitted c.args.outside.now in
     let mid = g.W.Output.emitted c.steps.outside in
-    let same = state_read old db (state_after db.state i.events) c.base.result.now c.commits.result.now c.base.ensures.base c.commits.ensures.commits i.carried.stored in
-    let to = stepped c.args.code.now c.args.relations.now (specs_of c.args.hosts.now.names) db c.args.turns i.events m n (state_over c.base.result.now.state c.commits.result.now) c.in_ok-advance.field-0 (events.Out c.in-Out.line) i.at same c.in-Out.is (ens.tells i.at.works) ens.status ens.code ens.relations in
+    let same = state_read old c.steps.levels db (state_after db.state i.events) c.base.result.now c.deltas.result.now i.levelled c.base.ensures.base c.deltas.ensures.deltas i.carried.stored in
+    let to = stepped c.args.code.now c.args.relations.now (specs_of c.args.hosts.now.names) db c.args.turns i.events m n (state_over c.base.result.now.state c.deltas.result.now) c.in_ok-advance.field-0 (events.Out c.in-Out.line) i.at same c.in-Out.is (ens.tells i.at.works) ens.status ens.code ens.relations in
     let done = c.in_ok-carry_out-in-Out.ensures in
     record {
       events = i.events ++ out c.in-Out.line ∷ [];
@@ -100,6 +107,7 @@ steps-preserved-in-Continue-branch-4 g c =
       opens = done.open;
       base = c.carry_out.ensures.base ∙ i.base;
       carried = carried_out db gate (length c.commits-opened.result.now) i.events old c.carry_out.new.store c.in-Out.line i.carried c.carry_out.ensures.base done.commits done.gate;
+      levelled = levelled_kept c.steps.levels old c.carry_out.new.store c.carry_out.ensures.base done.commits i.levelled;
       said = said_out c.args.code.now c.args.relations.now (specs_of c.args.hosts.now.names) db c.args.turns gate i.events c.in-Out.line start mid _ i.said done.whole;
       stands = λ told. done.stands told;
       any_moment = λ told. leaves-on _ _ (i.any_moment told) (c.carry_out.ensures.any_moment told) (λ image cut. cut_next c.args.code.now c.args.relations.now (specs_of c.args.hosts.now.names) db c.args.turns gate i.events (out c.in-Out.line ∷ []) m (database_of old) start mid image (adds_out c.args.code.now c.args.relations.now (specs_of c.args.hosts.now.names) db c.args.turns i.events m n c.in-Out.line to) i.carried.fit refl i.carried.stored i.said cut);
@@ -119,8 +127,8 @@ returns-in_err-carry_out-in-Out-clause-cut g c =
     let gate = init.end in
     let start = g.W.Output.emitted c.args.outside.now in
     let mid = g.W.Output.emitted c.steps.outside in
-    let same = state_read old db (state_after db.state i.events) c.base.result.now c.commits.result.now c.base.ensures.base c.commits.ensures.commits i.carried.stored in
-    let to = stepped c.args.code.now c.args.relations.now (specs_of c.args.hosts.now.names) db c.args.turns i.events m n (state_over c.base.result.now.state c.commits.result.now) c.in_ok-advance.field-0 (events.Out c.in-Out.line) i.at same c.in-Out.is (ens.tells i.at.works) ens.status ens.code ens.relations in
+    let same = state_read old c.steps.levels db (state_after db.state i.events) c.base.result.now c.deltas.result.now i.levelled c.base.ensures.base c.deltas.ensures.deltas i.carried.stored in
+    let to = stepped c.args.code.now c.args.relations.now (specs_of c.args.hosts.now.names) db c.args.turns i.events m n (state_over c.base.result.now.state c.deltas.result.now) c.in_ok-advance.field-0 (events.Out c.in-Out.line) i.at same c.in-Out.is (ens.tells i.at.works) ens.status ens.code ens.relations in
     MatchResult-from_err c.from_residual-in_err-carry_out-in-Out.result _ _ c.from_residual-in_err-carry_out-in-Out.ensures.0
     (λ _. part_out c.args.code.now c.args.relations.now (specs_of c.args.hosts.now.names) db c.args.turns gate i.events m c.in-Out.line start mid _ (adds_out c.args.code.now c.args.relations.now (specs_of c.args.hosts.now.names) db c.args.turns i.events m n c.in-Out.line to) i.carried.fit i.said c.in_err-carry_out-in-Out.ensures.part)
 
@@ -136,9 +144,17 @@ returns-in_err-carry_out-in-Out-clause-any_moment g c =
     let gate = init.end in
     let start = g.W.Output.emitted c.args.outside.now in
     let mid = g.W.Output.emitted c.steps.outside in
-    let same = state_read old db (state_after db.state i.events) c.base.result.now c.commits.result.now c.base.ensures.base c.commits.ensures.commits i.carried.stored in
-    let to = stepped c.args.code.now c.args.relations.now (specs_of c.args.hosts.now.names) db c.args.turns i.events m n (state_over c.base.result.now.state c.commits.result.now) c.in_ok-advance.field-0 (events.Out c.in-Out.line) i.at same c.in-Out.is (ens.tells i.at.works) ens.status ens.code ens.relations in
+    let same = state_read old c.steps.levels db (state_after db.state i.events) c.base.result.now c.deltas.result.now i.levelled c.base.ensures.base c.deltas.ensures.deltas i.carried.stored in
+    let to = stepped c.args.code.now c.args.relations.now (specs_of c.args.hosts.now.names) db c.args.turns i.events m n (state_over c.base.result.now.state c.deltas.result.now) c.in_ok-advance.field-0 (events.Out c.in-Out.line) i.at same c.in-Out.is (ens.tells i.at.works) ens.status ens.code ens.relations in
     λ told. leaves-on _ _ (i.any_moment told) (c.carry_out.ensures.any_moment told) (λ image cut. cut_next c.args.code.now c.args.relations.now (specs_of c.args.hosts.now.names) db c.args.turns gate i.events (out c.in-Out.line ∷ []) m (database_of old) start mid image (adds_out c.args.code.now c.args.relations.now (specs_of c.args.hosts.now.names) db c.args.turns i.events m n c.in-Out.line to) i.carried.fit refl i.carried.stored i.said cut)
+
+pub returns-in_err-push-in-Commit-clause-cut : goal.returns-in_err-push-in-Commit-clause-cut
+returns-in_err-push-in-Commit-clause-cut g c =
+    let i = c.steps.invariant in
+    let init = c.args.store.now in
+    let db = database_of init in
+    MatchResult-from_err c.from_residual-in_err-push-in-Commit.result _ _ c.from_residual-in_err-push-in-Commit.ensures.0
+    (λ _. part_here c.args.code.now c.args.relations.now (specs_of c.args.hosts.now.names) db c.args.turns init.end i.events c.steps.machine _ _ i.at i.carried.fit i.said)
 
 pub commit-requires-clause-proper : goal.commit-requires-clause-proper
 commit-requires-clause-proper g c =
@@ -152,8 +168,8 @@ commit-requires-clause-proper g c =
     let gate = init.end in
     let start = g.W.Output.emitted c.args.outside.now in
     let mid = g.W.Output.emitted c.steps.outside in
-    let same = state_read old db (state_after db.state i.events) c.base.result.now c.commits.result.now c.base.ensures.base c.commits.ensures.commits i.carried.stored in
-    let to = stepped c.args.code.now c.args.relations.now (specs_of c.args.hosts.now.names) db c.args.turns i.events m n (state_over c.base.result.now.state c.commits.result.now) c.in_ok-advance.field-0 (events.Commit) i.at same c.in-Commit.is (ens.tells i.at.works) ens.status ens.code ens.relations in
+    let same = state_read old c.steps.levels db (state_after db.state i.events) c.base.result.now c.deltas.result.now i.levelled c.base.ensures.base c.deltas.ensures.deltas i.carried.stored in
+    let to = stepped c.args.code.now c.args.relations.now (specs_of c.args.hosts.now.names) db c.args.turns i.events m n (state_over c.base.result.now.state c.deltas.result.now) c.in_ok-advance.field-0 (events.Commit) i.at same c.in-Commit.is (ens.tells i.at.works) ens.status ens.code ens.relations in
     let d = c.take_pending-delta.result in
     let waits : commit_over (state_after db.state i.events) n.waits n ≡ commits d (machine_over (apply_of (state_after db.state i.events) d) n) = ap (λ o. commit_over (state_after db.state i.events) o n) c.take_pending-delta.ensures.delta in
     let adds = adds_commit c.args.code.now c.args.relations.now (specs_of c.args.hosts.now.names) db c.args.turns i.events m n d to waits in
@@ -171,8 +187,8 @@ steps-preserved g c =
     let gate = init.end in
     let start = g.W.Output.emitted c.args.outside.now in
     let mid = g.W.Output.emitted c.steps.outside in
-    let same = state_read old db (state_after db.state i.events) c.base.result.now c.commits.result.now c.base.ensures.base c.commits.ensures.commits i.carried.stored in
-    let to = stepped c.args.code.now c.args.relations.now (specs_of c.args.hosts.now.names) db c.args.turns i.events m n (state_over c.base.result.now.state c.commits.result.now) c.in_ok-advance.field-0 (events.Commit) i.at same c.in-Commit.is (ens.tells i.at.works) ens.status ens.code ens.relations in
+    let same = state_read old c.steps.levels db (state_after db.state i.events) c.base.result.now c.deltas.result.now i.levelled c.base.ensures.base c.deltas.ensures.deltas i.carried.stored in
+    let to = stepped c.args.code.now c.args.relations.now (specs_of c.args.hosts.now.names) db c.args.turns i.events m n (state_over c.base.result.now.state c.deltas.result.now) c.in_ok-advance.field-0 (events.Commit) i.at same c.in-Commit.is (ens.tells i.at.works) ens.status ens.code ens.relations in
     let d = c.take_pending-delta.result in
     let waits : commit_over (state_after db.state i.events) n.waits n ≡ commits d (machine_over (apply_of (state_after db.state i.events) d) n) = ap (λ o. commit_over (state_after db.state i.events) o n) c.take_pending-delta.ensures.delta in
     let adds = adds_commit c.args.code.now c.args.relations.now (specs_of c.args.hosts.now.names) db c.args.turns i.events m n d to waits in
@@ -181,6 +197,7 @@ steps-preserved g c =
     let count : number ≡ suc (stores i.events) = omega (arith, now_long, i.carried.count) in
     let done = c.in_ok-commit-in-Commit.ensures in
     let yes = done.fits in
+    let proper = proper_commit c.args.code.now c.args.relations.now (specs_of c.args.hosts.now.names) db c.args.turns i.events m d old.base.catalogue adds (ap (λ (b : Stored). b.catalogue) i.base) c.requires.proper in
     record {
       events = i.events ++ committing c.args.code.now c.args.relations.now (specs_of c.args.hosts.now.names) db c.args.turns i.events d;
       at = at_commit c.args.code.now c.args.relations.now (specs_of c.args.hosts.now.names) db c.args.turns i.events m n c.take_pending-delta.new.self d to waits c.take_pending-delta.ensures.taken;
@@ -188,6 +205,7 @@ steps-preserved g c =
       opens = done.open;
       base = c.commit.ensures.base ∙ i.base;
       carried = carried_commit db gate (length c.commits-opened.result.now) i.events old c.commit.new.store d _ i.carried c.commit.ensures.base done.commits done.gate yes;
+      levelled = levelled_more c.steps.levels c.push.new.self old c.commit.new.store d c.commit.ensures.base done.commits i.levelled (c.in_ok-push-in-Commit.ensures.does old.base.state) proper.1 (c.in_ok-push-in-Commit.ensures.known old.base.catalogue);
       said = said_commit c.args.code.now c.args.relations.now (specs_of c.args.hosts.now.names) db c.args.turns gate i.events d number start mid _ count i.said done.whole;
       stands = λ told. done.stands told;
       any_moment = λ told. leaves-on _ _ (i.any_moment told) (c.commit.ensures.any_moment told) (λ image cut. cut_commit c.args.code.now c.args.relations.now (specs_of c.args.hosts.now.names) db c.args.turns gate i.events m d number (database_of old) start mid image adds i.carried.fit (ap (λ (k : _). fits k d) (sym i.carried.ends) ∙ yes) i.carried.stored count i.said cut);
@@ -207,8 +225,8 @@ returns-in_err-commit-in-Commit-clause-cut g c =
     let gate = init.end in
     let start = g.W.Output.emitted c.args.outside.now in
     let mid = g.W.Output.emitted c.steps.outside in
-    let same = state_read old db (state_after db.state i.events) c.base.result.now c.commits.result.now c.base.ensures.base c.commits.ensures.commits i.carried.stored in
-    let to = stepped c.args.code.now c.args.relations.now (specs_of c.args.hosts.now.names) db c.args.turns i.events m n (state_over c.base.result.now.state c.commits.result.now) c.in_ok-advance.field-0 (events.Commit) i.at same c.in-Commit.is (ens.tells i.at.works) ens.status ens.code ens.relations in
+    let same = state_read old c.steps.levels db (state_after db.state i.events) c.base.result.now c.deltas.result.now i.levelled c.base.ensures.base c.deltas.ensures.deltas i.carried.stored in
+    let to = stepped c.args.code.now c.args.relations.now (specs_of c.args.hosts.now.names) db c.args.turns i.events m n (state_over c.base.result.now.state c.deltas.result.now) c.in_ok-advance.field-0 (events.Commit) i.at same c.in-Commit.is (ens.tells i.at.works) ens.status ens.code ens.relations in
     let d = c.take_pending-delta.result in
     let waits : commit_over (state_after db.state i.events) n.waits n ≡ commits d (machine_over (apply_of (state_after db.state i.events) d) n) = ap (λ o. commit_over (state_after db.state i.events) o n) c.take_pending-delta.ensures.delta in
     let adds = adds_commit c.args.code.now c.args.relations.now (specs_of c.args.hosts.now.names) db c.args.turns i.events m n d to waits in
@@ -233,8 +251,8 @@ returns-in_err-commit-in-Commit-clause-any_moment g c =
     let gate = init.end in
     let start = g.W.Output.emitted c.args.outside.now in
     let mid = g.W.Output.emitted c.steps.outside in
-    let same = state_read old db (state_after db.state i.events) c.base.result.now c.commits.result.now c.base.ensures.base c.commits.ensures.commits i.carried.stored in
-    let to = stepped c.args.code.now c.args.relations.now (specs_of c.args.hosts.now.names) db c.args.turns i.events m n (state_over c.base.result.now.state c.commits.result.now) c.in_ok-advance.field-0 (events.Commit) i.at same c.in-Commit.is (ens.tells i.at.works) ens.status ens.code ens.relations in
+    let same = state_read old c.steps.levels db (state_after db.state i.events) c.base.result.now c.deltas.result.now i.levelled c.base.ensures.base c.deltas.ensures.deltas i.carried.stored in
+    let to = stepped c.args.code.now c.args.relations.now (specs_of c.args.hosts.now.names) db c.args.turns i.events m n (state_over c.base.result.now.state c.deltas.result.now) c.in_ok-advance.field-0 (events.Commit) i.at same c.in-Commit.is (ens.tells i.at.works) ens.status ens.code ens.relations in
     let d = c.take_pending-delta.result in
     let waits : commit_over (state_after db.state i.events) n.waits n ≡ commits d (machine_over (apply_of (state_after db.state i.events) d) n) = ap (λ o. commit_over (state_after db.state i.events) o n) c.take_pending-delta.ensures.delta in
     let adds = adds_commit c.args.code.now c.args.relations.now (specs_of c.args.hosts.now.names) db c.args.turns i.events m n d to waits in
@@ -258,8 +276,8 @@ returns-in_err-commit-in-Commit-clause-full g c =
     let gate = init.end in
     let start = g.W.Output.emitted c.args.outside.now in
     let mid = g.W.Output.emitted c.steps.outside in
-    let same = state_read old db (state_after db.state i.events) c.base.result.now c.commits.result.now c.base.ensures.base c.commits.ensures.commits i.carried.stored in
-    let to = stepped c.args.code.now c.args.relations.now (specs_of c.args.hosts.now.names) db c.args.turns i.events m n (state_over c.base.result.now.state c.commits.result.now) c.in_ok-advance.field-0 (events.Commit) i.at same c.in-Commit.is (ens.tells i.at.works) ens.status ens.code ens.relations in
+    let same = state_read old c.steps.levels db (state_after db.state i.events) c.base.result.now c.deltas.result.now i.levelled c.base.ensures.base c.deltas.ensures.deltas i.carried.stored in
+    let to = stepped c.args.code.now c.args.relations.now (specs_of c.args.hosts.now.names) db c.args.turns i.events m n (state_over c.base.result.now.state c.deltas.result.now) c.in_ok-advance.field-0 (events.Commit) i.at same c.in-Commit.is (ens.tells i.at.works) ens.status ens.code ens.relations in
     let d = c.take_pending-delta.result in
     let waits : commit_over (state_after db.state i.events) n.waits n ≡ commits d (machine_over (apply_of (state_after db.state i.events) d) n) = ap (λ o. commit_over (state_after db.state i.events) o n) c.take_pending-delta.ensures.delta in
     let adds = adds_commit c.args.code.now c.args.relations.now (specs_of c.args.hosts.now.names) db c.args.turns i.events m n d to waits in
@@ -284,8 +302,8 @@ returns-in_err-say_end-in-Ended-clause-cut g c =
     let gate = init.end in
     let start = g.W.Output.emitted c.args.outside.now in
     let mid = g.W.Output.emitted c.steps.outside in
-    let same = state_read old db (state_after db.state i.events) c.base.result.now c.commits.result.now c.base.ensures.base c.commits.ensures.commits i.carried.stored in
-    let to = stepped c.args.code.now c.args.relations.now (specs_of c.args.hosts.now.names) db c.args.turns i.events m n (state_over c.base.result.now.state c.commits.result.now) c.in_ok-advance.field-0 (events.Ended c.in-Ended.end) i.at same c.in-Ended.is (ens.tells i.at.works) ens.status ens.code ens.relations in
+    let same = state_read old c.steps.levels db (state_after db.state i.events) c.base.result.now c.deltas.result.now i.levelled c.base.ensures.base c.deltas.ensures.deltas i.carried.stored in
+    let to = stepped c.args.code.now c.args.relations.now (specs_of c.args.hosts.now.names) db c.args.turns i.events m n (state_over c.base.result.now.state c.deltas.result.now) c.in_ok-advance.field-0 (events.Ended c.in-Ended.end) i.at same c.in-Ended.is (ens.tells i.at.works) ens.status ens.code ens.relations in
     MatchResult-from_err c.from_residual-in_err-say_end-in-Ended.result _ _ c.from_residual-in_err-say_end-in-Ended.ensures.0
     (λ _. part_next c.args.code.now c.args.relations.now (specs_of c.args.hosts.now.names) db c.args.turns gate i.events (ending_of c.in-Ended.end) m start mid _ (adds_end c.args.code.now c.args.relations.now (specs_of c.args.hosts.now.names) db c.args.turns i.events m n c.in-Ended.end to) i.carried.fit (ending_fits _ c.in-Ended.end) i.said c.in_err-say_end-in-Ended.ensures.part)
 
@@ -301,8 +319,8 @@ returns-in_err-say_end-in-Ended-clause-any_moment g c =
     let gate = init.end in
     let start = g.W.Output.emitted c.args.outside.now in
     let mid = g.W.Output.emitted c.steps.outside in
-    let same = state_read old db (state_after db.state i.events) c.base.result.now c.commits.result.now c.base.ensures.base c.commits.ensures.commits i.carried.stored in
-    let to = stepped c.args.code.now c.args.relations.now (specs_of c.args.hosts.now.names) db c.args.turns i.events m n (state_over c.base.result.now.state c.commits.result.now) c.in_ok-advance.field-0 (events.Ended c.in-Ended.end) i.at same c.in-Ended.is (ens.tells i.at.works) ens.status ens.code ens.relations in
+    let same = state_read old c.steps.levels db (state_after db.state i.events) c.base.result.now c.deltas.result.now i.levelled c.base.ensures.base c.deltas.ensures.deltas i.carried.stored in
+    let to = stepped c.args.code.now c.args.relations.now (specs_of c.args.hosts.now.names) db c.args.turns i.events m n (state_over c.base.result.now.state c.deltas.result.now) c.in_ok-advance.field-0 (events.Ended c.in-Ended.end) i.at same c.in-Ended.is (ens.tells i.at.works) ens.status ens.code ens.relations in
     λ told. leaves-on _ _ (i.any_moment told) (c.say_end.ensures.any_moment told) (λ image cut. cut_next c.args.code.now c.args.relations.now (specs_of c.args.hosts.now.names) db c.args.turns gate i.events (ending_of c.in-Ended.end) m (database_of old) start mid image (adds_end c.args.code.now c.args.relations.now (specs_of c.args.hosts.now.names) db c.args.turns i.events m n c.in-Ended.end to) i.carried.fit (ending_fits _ c.in-Ended.end) i.carried.stored i.said cut)
 
 pub returns-in-Ended-clause-any_moment : goal.returns-in-Ended-clause-any_moment
@@ -317,8 +335,8 @@ returns-in-Ended-clause-any_moment g c =
     let gate = init.end in
     let start = g.W.Output.emitted c.args.outside.now in
     let mid = g.W.Output.emitted c.steps.outside in
-    let same = state_read old db (state_after db.state i.events) c.base.result.now c.commits.result.now c.base.ensures.base c.commits.ensures.commits i.carried.stored in
-    let to = stepped c.args.code.now c.args.relations.now (specs_of c.args.hosts.now.names) db c.args.turns i.events m n (state_over c.base.result.now.state c.commits.result.now) c.in_ok-advance.field-0 (events.Ended c.in-Ended.end) i.at same c.in-Ended.is (ens.tells i.at.works) ens.status ens.code ens.relations in
+    let same = state_read old c.steps.levels db (state_after db.state i.events) c.base.result.now c.deltas.result.now i.levelled c.base.ensures.base c.deltas.ensures.deltas i.carried.stored in
+    let to = stepped c.args.code.now c.args.relations.now (specs_of c.args.hosts.now.names) db c.args.turns i.events m n (state_over c.base.result.now.state c.deltas.result.now) c.in_ok-advance.field-0 (events.Ended c.in-Ended.end) i.at same c.in-Ended.is (ens.tells i.at.works) ens.status ens.code ens.relations in
     λ told. leaves-on _ _ (i.any_moment told) (c.say_end.ensures.any_moment told) (λ image cut. cut_next c.args.code.now c.args.relations.now (specs_of c.args.hosts.now.names) db c.args.turns gate i.events (ending_of c.in-Ended.end) m (database_of old) start mid image (adds_end c.args.code.now c.args.relations.now (specs_of c.args.hosts.now.names) db c.args.turns i.events m n c.in-Ended.end to) i.carried.fit (ending_fits _ c.in-Ended.end) i.carried.stored i.said cut)
 
 pub returns-in-Ended-clause-whole : goal.returns-in-Ended-clause-whole
@@ -333,6 +351,18 @@ returns-in-Ended-clause-whole g c =
     let gate = init.end in
     let start = g.W.Output.emitted c.args.outside.now in
     let mid = g.W.Output.emitted c.steps.outside in
-    let same = state_read old db (state_after db.state i.events) c.base.result.now c.commits.result.now c.base.ensures.base c.commits.ensures.commits i.carried.stored in
-    let to = stepped c.args.code.now c.args.relations.now (specs_of c.args.hosts.now.names) db c.args.turns i.events m n (state_over c.base.result.now.state c.commits.result.now) c.in_ok-advance.field-0 (events.Ended c.in-Ended.end) i.at same c.in-Ended.is (ens.tells i.at.works) ens.status ens.code ens.relations in
+    let same = state_read old c.steps.levels db (state_after db.state i.events) c.base.result.now c.deltas.result.now i.levelled c.base.ensures.base c.deltas.ensures.deltas i.carried.stored in
+    let to = stepped c.args.code.now c.args.relations.now (specs_of c.args.hosts.now.names) db c.args.turns i.events m n (state_over c.base.result.now.state c.deltas.result.now) c.in_ok-advance.field-0 (events.Ended c.in-Ended.end) i.at same c.in-Ended.is (ens.tells i.at.works) ens.status ens.code ens.relations in
     all_done c.args.code.now c.args.relations.now (specs_of c.args.hosts.now.names) db c.args.turns gate i.events m n c.in-Ended.end (database_of old) start mid _ to i.carried.fit i.carried.stored i.said c.in_ok-say_end-in-Ended.ensures.whole
+
+pub steps-smaller-in-Continue-branch-5 : goal.steps-smaller-in-Continue-branch-5
+steps-smaller-in-Continue-branch-5 g c =
+    comes_nearer c.args.code.now c.steps.machine c.advance.new.self c.in_ok-advance.field-0 (events.Out c.in-Out.line) c.steps.invariant.at.code_is c.requires.forward c.in_ok-advance.ensures.less c.in-Out.is
+
+pub steps-smaller : goal.steps-smaller
+steps-smaller g c =
+    let m = c.steps.machine in
+    let n = c.advance.new.self in
+    let lower : left (length c.args.code.now.instrs) n.state < left (length c.args.code.now.instrs) m.state =
+    comes_nearer c.args.code.now m n c.in_ok-advance.field-0 (events.Commit) c.steps.invariant.at.code_is c.requires.forward c.in_ok-advance.ensures.less c.in-Commit.is in
+    subst (λ (x : Standing). left (length c.args.code.now.instrs) x.state < left (length c.args.code.now.instrs) m.state) (sym c.take_pending-delta.ensures.taken) lower

@@ -8,6 +8,7 @@ use Rattle.hera_volume.specs.Time.{LeavesOnly}
 use Rattle.hera_store.specs.Standing.{StandsFor, database_of}
 use Rattle.hera_run.specs.Running.{IsCodeCut}
 use Rattle.hera_run.proofs.Steps.{IsAt, IsCarried}
+use Rattle.hera_run.proofs.Levelled.{IsLevelled}
 use Rattle.hera_run.proofs.run.run_code.Given as goal
 
 abbrev pub invariant-steps : goal.invariant-steps
@@ -18,6 +19,7 @@ invariant-steps g l = record {
   opens : l.store.closed ≡ false;
   base : l.store.base ≡ l.initial.store.base;
   carried : IsCarried (database_of l.initial.store) l.initial.store.end l.opened events l.store;
+  levelled : IsLevelled l.levels l.store;
   said : Appends (g.W.Output.emitted l.initial.outside) (g.W.Output.emitted l.outside) (printed events);
   stands : g.W.Outside.told → StandsFor (g.W.Outside.disk l.outside) l.store;
   any_moment : g.W.Outside.told → LeavesOnly g.W.Outside.moment g.W.Outside.left_since l.initial.outside l.outside

@@ -1,9 +1,7 @@
-use Rattle.std.proofs.Common.{◌≡◌, ℕ, List, length, refl, sym, subst, ap, Ok, Err, Result, inl, inr}
-use Rattle.hera_meaning.specs.Trees.{Program_tree}
+use Rattle.std.proofs.Common.{◌≡◌, ℕ, List, length, refl, sym, subst, ap, Ok, Result, inl, inr}
 use Rattle.hera_syntax.specs.declared.token.Token.{Token}
 use Rattle.hera_syntax.specs.Trees.{IsTextOf}
 use Rattle.hera_lexer.specs.declared.script.LexFault.{LexFault}
-use Rattle.hera_lexer.specs.declared.script.LexFault.TheVariants.{Memory}
 use Rattle.hera_rules.specs.ReadActs.{script_of}
 use Rattle.hera_rules.specs.Phrases.{Script}
 use Rattle.hera_rules.specs.Programs.{ElabScript}

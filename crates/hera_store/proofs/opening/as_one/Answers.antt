@@ -8,8 +8,8 @@ no_length : (ds : List Delta) → length ds ≡ 0 → ds ≡ []
 no_length [] e = refl
 no_length (d ∷ ds) e = absurd (omega (arith, e))
 
-pub returns-then-is_empty : goal.returns-then-is_empty
-returns-then-is_empty c = λ rels all. as_good_none rels c.args.deltas.now c.new-commits.result.items (no_length c.args.deltas.now (eqb-true (length c.args.deltas.now) 0 (sym c.is_empty.ensures ∙ c.if-is_empty.true))) c.new-commits.ensures.items
+pub returns-then-is_empty-clause-good : goal.returns-then-is_empty-clause-good
+returns-then-is_empty-clause-good c = λ rels all. as_good_none rels c.args.deltas.now c.new-commits.result.items (no_length c.args.deltas.now (eqb-true (length c.args.deltas.now) 0 (sym c.is_empty.ensures ∙ c.if-is_empty.true))) c.new-commits.ensures.items
 
-pub returns : goal.returns
-returns c = λ rels all. as_good_one rels c.args.deltas.now c.push.new.self.items c.in_ok-all.all (c.in_ok-all.ensures rels all) (c.in_ok-push.ensures.items ∙ ap (λ (l : List Delta). l ++ c.in_ok-all.all ∷ []) c.new-commits.ensures.items)
+pub returns-clause-good : goal.returns-clause-good
+returns-clause-good c = λ rels all. as_good_one rels c.args.deltas.now c.push.new.self.items c.in_ok-all.all (c.in_ok-all.ensures rels all) (c.in_ok-push.ensures.items ∙ ap (λ (l : List Delta). l ++ c.in_ok-all.all ∷ []) c.new-commits.ensures.items)

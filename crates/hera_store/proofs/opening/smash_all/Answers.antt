@@ -1,8 +1,8 @@
 use Rattle.std.proofs.Common.{◌≡◌, ◌+◌, ◌∙◌, List, [], ◌∷◌, ◌++◌, All, take, length, get_or, sym, ap, subst, arith}
 use Rattle.std.proofs.lemmas.List.{take_more, take_all}
 use Rattle.std.proofs.lemmas.List.Elements.{All-get_or}
+use Rattle.hera_meaning.specs.Commits.{IsCommitOf, IsSmashOf}
 use Rattle.hera_meaning.specs.Deltas.{Delta}
-use Rattle.hera_store.specs.Standing.{IsCommitOf, IsSmashOf}
 use Rattle.hera_store.proofs.Smashes.{smash_none, smash_on}
 use Rattle.hera_store.proofs.opening.smash_all.Goals as goal
 

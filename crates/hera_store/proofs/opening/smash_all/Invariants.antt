@@ -1,6 +1,6 @@
 use Rattle.std.specs.Prelude.{List, take, All}
+use Rattle.hera_meaning.specs.Commits.{IsCommitOf, IsSmashOf}
 use Rattle.hera_meaning.specs.declared.schemas.RelDecl.{RelDecl}
-use Rattle.hera_store.specs.Standing.{IsCommitOf, IsSmashOf}
 use Rattle.hera_store.proofs.opening.smash_all.Given as goal
 
 abbrev pub invariant-loop-delta : goal.invariant-loop-delta

@@ -2,12 +2,15 @@ use Rattle.std.proofs.Common.{◌≡◌, ◌≢◌, ◌∙◌, List, ℕ, refl, 
 use Rattle.hera_volume.specs.Disk.{Disk, IsSettled}
 use Rattle.hera_volume.specs.declared.file_id.FileId.{FileId}
 use Rattle.hera_volume.specs.declared.file_id.FileId.TheVariants.{Select}
-use Rattle.rel_format.specs.Pages.{format_one}
-use Rattle.rel_format.specs.Journal.{IsHalf}
+use Rattle.rel_format.specs.Versions.{IsHalfOf}
 use Rattle.hera_store.specs.Standing.{other_half}
 use Rattle.hera_store.proofs.Untouched.{each}
 use Rattle.hera_store.proofs.Fillings.{other_written, other_selected, other_apart, select_apart}
 use Rattle.hera_store.proofs.switching.switch_to.Goals as goal
+
+pub returns-in_err-rewrite_and_sync-clause-any_moment : goal.returns-in_err-rewrite_and_sync-clause-any_moment
+returns-in_err-rewrite_and_sync-clause-any_moment g c = λ told db former half.
+    other_written g.W.Outside.disk g.W.Output.emitted g.W.Outside.moment g.W.Outside.left_since db c.args.outside.now c.rewrite_and_sync.new.outside c.args.half (c.requires.settled told) (c.requires.named told) former (c.rewrite_and_sync.ensures.any_moment told)
 
 pub returns-in_err-select_half-clause-any_moment : goal.returns-in_err-select_half-clause-any_moment
 returns-in_err-select_half-clause-any_moment g c = λ told db former half.
@@ -24,8 +27,8 @@ returns-in_err-select_half-clause-any_moment g c = λ told db former half.
     let first = other_written disk g.W.Output.emitted g.W.Outside.moment g.W.Outside.left_since db a b which (c.requires.settled told) named former (c.rewrite_and_sync.ensures.any_moment told) in
     other_selected disk g.W.Output.emitted g.W.Outside.moment g.W.Outside.left_since db a b c.select_half.new.outside which _ first c.rewrite_and_sync.ensures.emitted settled
     (named.0, ap (λ (d : Disk). d.bytes) select ∙ named.1, named.2)
-    (subst (λ (d : Disk). IsHalf format_one d.bytes db.catalogue db.state) (sym other) former)
-    (subst (λ (l : List ℕ). IsHalf format_one l db.catalogue db.state) (sym written.1) half)
+    (subst (λ (d : Disk). IsHalfOf d.bytes db.catalogue db.state) (sym other) former)
+    (subst (λ (l : List ℕ). IsHalfOf l db.catalogue db.state) (sym written.1) half)
     (c.select_half.ensures.any_moment told)
 
 pub returns-clause-any_moment : goal.returns-clause-any_moment
@@ -43,6 +46,6 @@ returns-clause-any_moment g c = λ told db former half.
     let first = other_written disk g.W.Output.emitted g.W.Outside.moment g.W.Outside.left_since db a b which (c.requires.settled told) named former (c.rewrite_and_sync.ensures.any_moment told) in
     other_selected disk g.W.Output.emitted g.W.Outside.moment g.W.Outside.left_since db a b c.select_half.new.outside which _ first c.rewrite_and_sync.ensures.emitted settled
     (named.0, ap (λ (d : Disk). d.bytes) select ∙ named.1, named.2)
-    (subst (λ (d : Disk). IsHalf format_one d.bytes db.catalogue db.state) (sym other) former)
-    (subst (λ (l : List ℕ). IsHalf format_one l db.catalogue db.state) (sym written.1) half)
+    (subst (λ (d : Disk). IsHalfOf d.bytes db.catalogue db.state) (sym other) former)
+    (subst (λ (l : List ℕ). IsHalfOf l db.catalogue db.state) (sym written.1) half)
     (c.select_half.ensures.any_moment told)

@@ -1,5 +1,6 @@
 use Rattle.std.proofs.Common.{◌≡◌, ◌∙◌, ap, Err, sym, inl, inr, refl, subst}
 use Rattle.std.specs.Prelude.{◌≢◌, Result, IfErr, OnErr, codes}
+use Rattle.rel_format.specs.Journal.{half_limit}
 use Rattle.hera_store.specs.Standing.{database_of}
 use Rattle.hera_store.specs.Faults.{IsCheckRefusal}
 use Rattle.hera_store.specs.declared.faults.CheckFault.{CheckFault}
@@ -30,7 +31,7 @@ pub returns-in-Err-Full-clause-answers : goal.returns-in-Err-Full-clause-answers
 returns-in-Err-Full-clause-answers g c =
     let db = database_of c.in-Ok.store in
     let is = ap Err c.in-Err-Full.field-0-is in
-    let refusal = subst (λ (f : CheckFault). IsCheckRefusal db 268435456 f) c.in-Err-Full.field-0-is c.in-Err-Full.ensures.refusal in
+    let refusal = subst (λ (f : CheckFault). IsCheckRefusal db half_limit f) c.in-Err-Full.field-0-is c.in-Err-Full.ensures.refusal in
     let same = c.in-Err-Full.ensures.untouched (λ h. cc (sym is ∙ h)) in
     inl (
       too_long db,
@@ -41,7 +42,7 @@ returns-in-Err-Full-clause-answers g c =
 pub returns-in-Err-Device-clause-answers : goal.returns-in-Err-Device-clause-answers
 returns-in-Err-Device-clause-answers g c =
     let db = database_of c.in-Ok.store in
-    let short = subst (λ (f : CheckFault). IsCheckRefusal db 268435456 f) c.in-Err-Device.field-0-is c.in-Err-Device.ensures.refusal in
+    let short = subst (λ (f : CheckFault). IsCheckRefusal db half_limit f) c.in-Err-Device.field-0-is c.in-Err-Device.ensures.refusal in
     inl (
       renewed db,
       renews c.in-Ok.ensures.held short,

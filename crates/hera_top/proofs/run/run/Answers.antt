@@ -92,3 +92,7 @@ unreachable-requires g c =
     never_stuck p (specs_of c.args.hosts.now.names) c.args.turns _ _ (c.code_does_what_the_program_means.ensures.only p (specs_of c.args.hosts.now.names) (empty_state p.relations) c.args.turns c.requires.sound (empty_is_state p.relations))
     (own_end p (specs_of c.args.hosts.now.names) c.args.turns c.args.code.now c.deref-2.result.now c.in_ok-base.base.state _ _ _ c.requires.code c.deref-2.ensures.value own
     (subst (λ (e : End). EndsSaid c.args.code.now c.deref-2.result.now (specs_of c.args.hosts.now.names) c.in_ok-base.base.state c.args.turns (g.W.Output.emitted c.args.outside.now) (g.W.Output.emitted c.run_code-outcome.new.outside) e) c.in-Stuck.is c.in_ok-outcome.ensures.whole))
+
+-- the base has the program's relations
+pub run_code-outcome-requires-clause-catalogue : goal.run_code-outcome-requires-clause-catalogue
+run_code-outcome-requires-clause-catalogue g c = c.in_ok-base.ensures.catalogue ∙ c.in_ok-catalogue_of.ensures ∙ c.deref.ensures.value ∙ sym c.deref-2.ensures.value

@@ -1,13 +1,18 @@
-use Rattle.std.proofs.Common.{◌≡◌, ◌<◌, ◌++◌, ◌∷◌, [], length, List, None, refl, sym, ap, ◌∙◌, subst, arith}
+use Rattle.std.proofs.Common.{◌≡◌, ◌<◌, ◌++◌, ◌+◌, ◌∷◌, [], length, length-append, List, None, refl, sym, ap, ◌∙◌, subst, arith}
 use Rattle.std.proofs.lemmas.Result.{MatchResult-from_err}
 use Rattle.std.proofs.KnownBytes.{Appends-trans}
-use Rattle.hera_meaning.specs.Deltas.{Delta}
+use Rattle.std.specs.List.{list_all}
+use Rattle.hera_meaning.specs.declared.schemas.RelDecl.{RelDecl}
+use Rattle.hera_meaning.specs.Deltas.{Delta, State, apply_of}
+use Rattle.hera_meaning.specs.Fits.{is_delta_of}
+use Rattle.when_overlay.specs.Changed.{after_all}
+use Rattle.hera_machine.specs.Over.{state_over}
 use Rattle.hera_meaning.specs.Printed.{commit_text}
 use Rattle.hera_host.specs.Tables.{specs_of}
 use Rattle.hera_machine.specs.declared.events.Event.TheVariants as events
 use Rattle.hera_machine.specs.Descends.{left}
 use Rattle.hera_machine.specs.Standing.{Standing, status_by, WaitsBy}
-use Rattle.hera_machine.proofs.Along.{IsAlong, along_start, along_quiet, along_out, along_commit, along_end}
+use Rattle.hera_machine.proofs.Along.{IsAlong, state_over-push, along_start, along_quiet, along_out, along_commit, along_end}
 use Rattle.hera_volume.proofs.Moments.{leaves-none, leaves-on}
 use Rattle.hera_run.specs.Running.{last_text}
 use Rattle.hera_top.proofs.Lines.{same_said, same_part}
@@ -22,9 +27,12 @@ steps-init g c =
       files = λ t f. refl;
       device = refl;
       bytes = [];
+      done = [];
+      count = refl;
+      does = λ s. ap (after_all s) c.requires.no_commits;
+      of = ap (list_all (is_delta_of c.args.base.now.catalogue)) c.requires.no_commits;
       said = Appends-nothing _;
-      along = subst (λ (ds : List Delta). IsAlong c.args.code.now c.args.relations.now (specs_of c.args.hosts.now.names) c.args.base.now.state c.args.turns [] ds c.args.machine.now) (sym c.requires.no_commits)
-          (along_start c.args.code.now c.args.relations.now (specs_of c.args.hosts.now.names) c.args.base.now.state c.args.turns c.args.machine.now c.requires.start c.requires.works c.requires.code c.requires.relations);
+      along = (along_start c.args.code.now c.args.relations.now (specs_of c.args.hosts.now.names) c.args.base.now.state c.args.turns c.args.machine.now c.requires.start c.requires.works c.requires.code c.requires.relations);
       taken = c.requires.nothing_waits;
       any_moment = λ t. leaves-none _ _ _ _;
     }
@@ -32,7 +40,10 @@ steps-init g c =
 pub returns-in_err-advance-clause-cut : goal.returns-in_err-advance-clause-cut
 returns-in_err-advance-clause-cut g c =
     MatchResult-from_err c.from_residual.result _ _ c.from_residual.ensures.0
-    (λ _. along_part c.args.code.now c.args.relations.now (specs_of c.args.hosts.now.names) c.args.base.now.state c.args.turns _ _ c.steps.invariant.bytes c.steps.commits.items c.steps.machine c.steps.invariant.along c.steps.invariant.said)
+    (λ _. along_part c.args.code.now c.args.relations.now (specs_of c.args.hosts.now.names) c.args.base.now.state c.args.turns _ _ c.steps.invariant.bytes c.steps.invariant.done c.steps.machine c.steps.invariant.along c.steps.invariant.said)
+
+pub advance-requires-clause-commits : goal.advance-requires-clause-commits
+advance-requires-clause-commits g c = ap (list_all (is_delta_of c.args.base.now.catalogue)) c.deltas.ensures.deltas ∙ c.steps.invariant.of
 
 pub steps-preserved-in-Quiet : goal.steps-preserved-in-Quiet
 steps-preserved-in-Quiet g c =
@@ -40,15 +51,19 @@ steps-preserved-in-Quiet g c =
     let m = c.steps.machine in
     let n = c.advance.new.self in
     let ens = c.in_ok-advance.ensures in
-    let told = stepped c.args.code.now c.args.relations.now (specs_of c.args.hosts.now.names) c.args.base.now.state c.args.turns m n c.steps.commits.items c.deref.result.now c.in_ok-advance.field-0 events.Quiet
-    c.deref.ensures.value c.in-Quiet.is (ens.tells i.along.works) in
+    let told = stepped c.args.code.now c.args.relations.now (specs_of c.args.hosts.now.names) c.args.base.now.state c.args.turns m n i.done c.deltas.result.now c.in_ok-advance.field-0 events.Quiet
+    (ap (state_over c.args.base.now.state) c.deltas.ensures.deltas ∙ i.does c.args.base.now.state) c.in-Quiet.is (ens.tells i.along.works) in
     record {
       still = i.still;
       files = i.files;
       device = i.device;
       bytes = i.bytes;
+      done = i.done;
+      count = i.count;
+      does = i.does;
+      of = i.of;
       said = i.said;
-      along = along_quiet c.args.code.now c.args.relations.now (specs_of c.args.hosts.now.names) c.args.base.now.state c.args.turns i.bytes c.steps.commits.items m n i.along told (ens.status ∙ ap (λ e. status_by e) c.in-Quiet.is) ens.code ens.relations;
+      along = along_quiet c.args.code.now c.args.relations.now (specs_of c.args.hosts.now.names) c.args.base.now.state c.args.turns i.bytes i.done m n i.along told (ens.status ∙ ap (λ e. status_by e) c.in-Quiet.is) ens.code ens.relations;
       taken = subst (λ e. WaitsBy n.waits e) c.in-Quiet.is ens.waits;
       any_moment = i.any_moment;
     }
@@ -59,11 +74,11 @@ returns-in_err-say-in-Out-clause-cut g c =
     let m = c.steps.machine in
     let n = c.advance.new.self in
     let ens = c.in_ok-advance.ensures in
-    let told = stepped c.args.code.now c.args.relations.now (specs_of c.args.hosts.now.names) c.args.base.now.state c.args.turns m n c.steps.commits.items c.deref.result.now c.in_ok-advance.field-0 (events.Out c.in-Out.line)
-    c.deref.ensures.value c.in-Out.is (ens.tells i.along.works) in
-    let next = along_out c.args.code.now c.args.relations.now (specs_of c.args.hosts.now.names) c.args.base.now.state c.args.turns i.bytes c.steps.commits.items m n c.in-Out.line i.along told (ens.status ∙ ap (λ e. status_by e) c.in-Out.is) ens.code ens.relations in
+    let told = stepped c.args.code.now c.args.relations.now (specs_of c.args.hosts.now.names) c.args.base.now.state c.args.turns m n i.done c.deltas.result.now c.in_ok-advance.field-0 (events.Out c.in-Out.line)
+    (ap (state_over c.args.base.now.state) c.deltas.ensures.deltas ∙ i.does c.args.base.now.state) c.in-Out.is (ens.tells i.along.works) in
+    let next = along_out c.args.code.now c.args.relations.now (specs_of c.args.hosts.now.names) c.args.base.now.state c.args.turns i.bytes i.done m n c.in-Out.line i.along told (ens.status ∙ ap (λ e. status_by e) c.in-Out.is) ens.code ens.relations in
     MatchResult-from_err c.from_residual-in_err-say-in-Out.result _ _ c.from_residual-in_err-say-in-Out.ensures.0
-    (λ _. along_cut c.args.code.now c.args.relations.now (specs_of c.args.hosts.now.names) c.args.base.now.state c.args.turns _ _ _ i.bytes c.in-Out.line c.steps.commits.items n next i.said (same_part _ _ _ _ c.bytes.ensures c.in_err-say-in-Out.ensures.part))
+    (λ _. along_cut c.args.code.now c.args.relations.now (specs_of c.args.hosts.now.names) c.args.base.now.state c.args.turns _ _ _ i.bytes c.in-Out.line i.done n next i.said (same_part _ _ _ _ c.bytes.ensures c.in_err-say-in-Out.ensures.part))
 
 pub returns-in_err-say-in-Out-clause-any_moment : goal.returns-in_err-say-in-Out-clause-any_moment
 returns-in_err-say-in-Out-clause-any_moment g c =
@@ -71,10 +86,10 @@ returns-in_err-say-in-Out-clause-any_moment g c =
     let m = c.steps.machine in
     let n = c.advance.new.self in
     let ens = c.in_ok-advance.ensures in
-    let told = stepped c.args.code.now c.args.relations.now (specs_of c.args.hosts.now.names) c.args.base.now.state c.args.turns m n c.steps.commits.items c.deref.result.now c.in_ok-advance.field-0 (events.Out c.in-Out.line)
-    c.deref.ensures.value c.in-Out.is (ens.tells i.along.works) in
-    let next = along_out c.args.code.now c.args.relations.now (specs_of c.args.hosts.now.names) c.args.base.now.state c.args.turns i.bytes c.steps.commits.items m n c.in-Out.line i.along told (ens.status ∙ ap (λ e. status_by e) c.in-Out.is) ens.code ens.relations in
-    λ t. leaves-on _ _ (i.any_moment t) (c.say.ensures.any_moment t) (image_amid c.args.code.now c.args.relations.now (specs_of c.args.hosts.now.names) c.args.base.now.state c.args.turns (g.W.Outside.disk c.args.outside.now) (g.W.Outside.disk c.steps.outside) (g.W.Output.emitted c.args.outside.now) (g.W.Output.emitted c.steps.outside) i.bytes c.in-Out.line c.bytes.result.now c.steps.commits.items n next i.said (i.files t) c.bytes.ensures)
+    let told = stepped c.args.code.now c.args.relations.now (specs_of c.args.hosts.now.names) c.args.base.now.state c.args.turns m n i.done c.deltas.result.now c.in_ok-advance.field-0 (events.Out c.in-Out.line)
+    (ap (state_over c.args.base.now.state) c.deltas.ensures.deltas ∙ i.does c.args.base.now.state) c.in-Out.is (ens.tells i.along.works) in
+    let next = along_out c.args.code.now c.args.relations.now (specs_of c.args.hosts.now.names) c.args.base.now.state c.args.turns i.bytes i.done m n c.in-Out.line i.along told (ens.status ∙ ap (λ e. status_by e) c.in-Out.is) ens.code ens.relations in
+    λ t. leaves-on _ _ (i.any_moment t) (c.say.ensures.any_moment t) (image_amid c.args.code.now c.args.relations.now (specs_of c.args.hosts.now.names) c.args.base.now.state c.args.turns (g.W.Outside.disk c.args.outside.now) (g.W.Outside.disk c.steps.outside) (g.W.Output.emitted c.args.outside.now) (g.W.Output.emitted c.steps.outside) i.bytes c.in-Out.line c.bytes.result.now i.done n next i.said (i.files t) c.bytes.ensures)
 
 pub steps-preserved-in-Out : goal.steps-preserved-in-Out
 steps-preserved-in-Out g c =
@@ -82,29 +97,38 @@ steps-preserved-in-Out g c =
     let m = c.steps.machine in
     let n = c.advance.new.self in
     let ens = c.in_ok-advance.ensures in
-    let told = stepped c.args.code.now c.args.relations.now (specs_of c.args.hosts.now.names) c.args.base.now.state c.args.turns m n c.steps.commits.items c.deref.result.now c.in_ok-advance.field-0 (events.Out c.in-Out.line)
-    c.deref.ensures.value c.in-Out.is (ens.tells i.along.works) in
-    let next = along_out c.args.code.now c.args.relations.now (specs_of c.args.hosts.now.names) c.args.base.now.state c.args.turns i.bytes c.steps.commits.items m n c.in-Out.line i.along told (ens.status ∙ ap (λ e. status_by e) c.in-Out.is) ens.code ens.relations in
+    let told = stepped c.args.code.now c.args.relations.now (specs_of c.args.hosts.now.names) c.args.base.now.state c.args.turns m n i.done c.deltas.result.now c.in_ok-advance.field-0 (events.Out c.in-Out.line)
+    (ap (state_over c.args.base.now.state) c.deltas.ensures.deltas ∙ i.does c.args.base.now.state) c.in-Out.is (ens.tells i.along.works) in
+    let next = along_out c.args.code.now c.args.relations.now (specs_of c.args.hosts.now.names) c.args.base.now.state c.args.turns i.bytes i.done m n c.in-Out.line i.along told (ens.status ∙ ap (λ e. status_by e) c.in-Out.is) ens.code ens.relations in
     record {
       still = c.in_ok-say-in-Out.ensures.cause.still ∙ i.still;
       files = λ t f. c.say.ensures.files t f ∙ i.files t f;
       device = c.say.ensures.device ∙ i.device;
       bytes = i.bytes ++ c.in-Out.line;
+      done = i.done;
+      count = i.count;
+      does = i.does;
+      of = i.of;
       said = Appends-trans _ _ _ _ _ i.said (same_said _ _ _ _ c.bytes.ensures c.in_ok-say-in-Out.ensures.whole);
       along = next;
       taken = subst (λ e. WaitsBy n.waits e) c.in-Out.is ens.waits;
-      any_moment = λ t. leaves-on _ _ (i.any_moment t) (c.say.ensures.any_moment t) (image_amid c.args.code.now c.args.relations.now (specs_of c.args.hosts.now.names) c.args.base.now.state c.args.turns (g.W.Outside.disk c.args.outside.now) (g.W.Outside.disk c.steps.outside) (g.W.Output.emitted c.args.outside.now) (g.W.Output.emitted c.steps.outside) i.bytes c.in-Out.line c.bytes.result.now c.steps.commits.items n next i.said (i.files t) c.bytes.ensures);
+      any_moment = λ t. leaves-on _ _ (i.any_moment t) (c.say.ensures.any_moment t) (image_amid c.args.code.now c.args.relations.now (specs_of c.args.hosts.now.names) c.args.base.now.state c.args.turns (g.W.Outside.disk c.args.outside.now) (g.W.Outside.disk c.steps.outside) (g.W.Output.emitted c.args.outside.now) (g.W.Output.emitted c.steps.outside) i.bytes c.in-Out.line c.bytes.result.now i.done n next i.said (i.files t) c.bytes.ensures);
     }
 
 pub returns-in_err-push-in-Commit-clause-cut : goal.returns-in_err-push-in-Commit-clause-cut
 returns-in_err-push-in-Commit-clause-cut g c =
     MatchResult-from_err c.from_residual-in_err-push-in-Commit.result _ _ c.from_residual-in_err-push-in-Commit.ensures.0
-    (λ _. along_part c.args.code.now c.args.relations.now (specs_of c.args.hosts.now.names) c.args.base.now.state c.args.turns _ _ c.steps.invariant.bytes c.steps.commits.items c.steps.machine c.steps.invariant.along c.steps.invariant.said)
+    (λ _. along_part c.args.code.now c.args.relations.now (specs_of c.args.hosts.now.names) c.args.base.now.state c.args.turns _ _ c.steps.invariant.bytes c.steps.invariant.done c.steps.machine c.steps.invariant.along c.steps.invariant.said)
+
+pub returns-in_err-next-in-Commit-clause-cut : goal.returns-in_err-next-in-Commit-clause-cut
+returns-in_err-next-in-Commit-clause-cut g c =
+    MatchResult-from_err c.from_residual-in_err-next-in-Commit.result _ _ c.from_residual-in_err-next-in-Commit.ensures.0
+    (λ _. along_part c.args.code.now c.args.relations.now (specs_of c.args.hosts.now.names) c.args.base.now.state c.args.turns _ _ c.steps.invariant.bytes c.steps.invariant.done c.steps.machine c.steps.invariant.along c.steps.invariant.said)
 
 pub returns-in_err-line-in-Commit-clause-cut : goal.returns-in_err-line-in-Commit-clause-cut
 returns-in_err-line-in-Commit-clause-cut g c =
     MatchResult-from_err c.from_residual-in_err-line-in-Commit.result _ _ c.from_residual-in_err-line-in-Commit.ensures.0
-    (λ _. along_part c.args.code.now c.args.relations.now (specs_of c.args.hosts.now.names) c.args.base.now.state c.args.turns _ _ c.steps.invariant.bytes c.steps.commits.items c.steps.machine c.steps.invariant.along c.steps.invariant.said)
+    (λ _. along_part c.args.code.now c.args.relations.now (specs_of c.args.hosts.now.names) c.args.base.now.state c.args.turns _ _ c.steps.invariant.bytes c.steps.invariant.done c.steps.machine c.steps.invariant.along c.steps.invariant.said)
 
 pub returns-in_err-say-in-Commit-clause-cut : goal.returns-in_err-say-in-Commit-clause-cut
 returns-in_err-say-in-Commit-clause-cut g c =
@@ -112,15 +136,15 @@ returns-in_err-say-in-Commit-clause-cut g c =
     let m = c.steps.machine in
     let n = c.advance.new.self in
     let ens = c.in_ok-advance.ensures in
-    let d = c.take_pending.result in
-    let line = commit_text c.len.result in
-    let told = stepped c.args.code.now c.args.relations.now (specs_of c.args.hosts.now.names) c.args.base.now.state c.args.turns m n c.steps.commits.items c.deref.result.now c.in_ok-advance.field-0 events.Commit
-    c.deref.ensures.value c.in-Commit.is (ens.tells i.along.works) in
-    let pushed = c.in_ok-push-in-Commit.ensures.items in
-    let long : c.len.result ≡ length (c.steps.commits.items ++ d ∷ []) = c.len.ensures ∙ c.push.new.self.ok.0 ∙ ap (λ (ds : List Delta). length ds) pushed in
-    let next = along_commit c.args.code.now c.args.relations.now (specs_of c.args.hosts.now.names) c.args.base.now.state c.args.turns i.bytes c.steps.commits.items m n d line i.along told c.take_pending.ensures.delta (ens.status ∙ ap (λ e. status_by e) c.in-Commit.is) ens.code ens.relations (ap commit_text long) in
+    let d = c.take_pending-delta.result in
+    let number = c.in_ok-next-in-Commit.next in
+    let line = commit_text number in
+    let told = stepped c.args.code.now c.args.relations.now (specs_of c.args.hosts.now.names) c.args.base.now.state c.args.turns m n i.done c.deltas.result.now c.in_ok-advance.field-0 events.Commit
+    (ap (state_over c.args.base.now.state) c.deltas.ensures.deltas ∙ i.does c.args.base.now.state) c.in-Commit.is (ens.tells i.along.works) in
+    let long : number ≡ length (i.done ++ d ∷ []) = c.in_ok-next-in-Commit.ensures ∙ ap (λ n. n + 1) i.count ∙ sym (length-append i.done (d ∷ [])) in
+    let next = along_commit c.args.code.now c.args.relations.now (specs_of c.args.hosts.now.names) c.args.base.now.state c.args.turns i.bytes i.done m n d line i.along told c.take_pending-delta.ensures.delta (ens.status ∙ ap (λ e. status_by e) c.in-Commit.is) ens.code ens.relations (ap commit_text long) in
     MatchResult-from_err c.from_residual-in_err-say-in-Commit.result _ _ c.from_residual-in_err-say-in-Commit.ensures.0
-    (λ _. along_cut c.args.code.now c.args.relations.now (specs_of c.args.hosts.now.names) c.args.base.now.state c.args.turns _ _ _ i.bytes line (c.steps.commits.items ++ d ∷ []) (record n { waits = None }) next i.said (same_part _ _ _ _ (c.bytes-in-Commit.ensures ∙ c.in_ok-line-in-Commit.ensures) c.in_err-say-in-Commit.ensures.part))
+    (λ _. along_cut c.args.code.now c.args.relations.now (specs_of c.args.hosts.now.names) c.args.base.now.state c.args.turns _ _ _ i.bytes line (i.done ++ d ∷ []) (record n { waits = None }) next i.said (same_part _ _ _ _ (c.bytes-in-Commit.ensures ∙ c.in_ok-line-in-Commit.ensures) c.in_err-say-in-Commit.ensures.part))
 
 pub returns-in_err-say-in-Commit-clause-any_moment : goal.returns-in_err-say-in-Commit-clause-any_moment
 returns-in_err-say-in-Commit-clause-any_moment g c =
@@ -128,14 +152,14 @@ returns-in_err-say-in-Commit-clause-any_moment g c =
     let m = c.steps.machine in
     let n = c.advance.new.self in
     let ens = c.in_ok-advance.ensures in
-    let d = c.take_pending.result in
-    let line = commit_text c.len.result in
-    let told = stepped c.args.code.now c.args.relations.now (specs_of c.args.hosts.now.names) c.args.base.now.state c.args.turns m n c.steps.commits.items c.deref.result.now c.in_ok-advance.field-0 events.Commit
-    c.deref.ensures.value c.in-Commit.is (ens.tells i.along.works) in
-    let pushed = c.in_ok-push-in-Commit.ensures.items in
-    let long : c.len.result ≡ length (c.steps.commits.items ++ d ∷ []) = c.len.ensures ∙ c.push.new.self.ok.0 ∙ ap (λ (ds : List Delta). length ds) pushed in
-    let next = along_commit c.args.code.now c.args.relations.now (specs_of c.args.hosts.now.names) c.args.base.now.state c.args.turns i.bytes c.steps.commits.items m n d line i.along told c.take_pending.ensures.delta (ens.status ∙ ap (λ e. status_by e) c.in-Commit.is) ens.code ens.relations (ap commit_text long) in
-    λ t. leaves-on _ _ (i.any_moment t) (c.say-in-Commit.ensures.any_moment t) (image_amid c.args.code.now c.args.relations.now (specs_of c.args.hosts.now.names) c.args.base.now.state c.args.turns (g.W.Outside.disk c.args.outside.now) (g.W.Outside.disk c.steps.outside) (g.W.Output.emitted c.args.outside.now) (g.W.Output.emitted c.steps.outside) i.bytes line c.bytes-in-Commit.result.now (c.steps.commits.items ++ d ∷ []) (record n { waits = None }) next i.said (i.files t) (c.bytes-in-Commit.ensures ∙ c.in_ok-line-in-Commit.ensures))
+    let d = c.take_pending-delta.result in
+    let number = c.in_ok-next-in-Commit.next in
+    let line = commit_text number in
+    let told = stepped c.args.code.now c.args.relations.now (specs_of c.args.hosts.now.names) c.args.base.now.state c.args.turns m n i.done c.deltas.result.now c.in_ok-advance.field-0 events.Commit
+    (ap (state_over c.args.base.now.state) c.deltas.ensures.deltas ∙ i.does c.args.base.now.state) c.in-Commit.is (ens.tells i.along.works) in
+    let long : number ≡ length (i.done ++ d ∷ []) = c.in_ok-next-in-Commit.ensures ∙ ap (λ n. n + 1) i.count ∙ sym (length-append i.done (d ∷ [])) in
+    let next = along_commit c.args.code.now c.args.relations.now (specs_of c.args.hosts.now.names) c.args.base.now.state c.args.turns i.bytes i.done m n d line i.along told c.take_pending-delta.ensures.delta (ens.status ∙ ap (λ e. status_by e) c.in-Commit.is) ens.code ens.relations (ap commit_text long) in
+    λ t. leaves-on _ _ (i.any_moment t) (c.say-in-Commit.ensures.any_moment t) (image_amid c.args.code.now c.args.relations.now (specs_of c.args.hosts.now.names) c.args.base.now.state c.args.turns (g.W.Outside.disk c.args.outside.now) (g.W.Outside.disk c.steps.outside) (g.W.Output.emitted c.args.outside.now) (g.W.Output.emitted c.steps.outside) i.bytes line c.bytes-in-Commit.result.now (i.done ++ d ∷ []) (record n { waits = None }) next i.said (i.files t) (c.bytes-in-Commit.ensures ∙ c.in_ok-line-in-Commit.ensures))
 
 pub steps-preserved : goal.steps-preserved
 steps-preserved g c =
@@ -143,23 +167,26 @@ steps-preserved g c =
     let m = c.steps.machine in
     let n = c.advance.new.self in
     let ens = c.in_ok-advance.ensures in
-    let d = c.take_pending.result in
-    let line = commit_text c.len.result in
-    let told = stepped c.args.code.now c.args.relations.now (specs_of c.args.hosts.now.names) c.args.base.now.state c.args.turns m n c.steps.commits.items c.deref.result.now c.in_ok-advance.field-0 events.Commit
-    c.deref.ensures.value c.in-Commit.is (ens.tells i.along.works) in
-    let pushed = c.in_ok-push-in-Commit.ensures.items in
-    let long : c.len.result ≡ length (c.steps.commits.items ++ d ∷ []) = c.len.ensures ∙ c.push.new.self.ok.0 ∙ ap (λ (ds : List Delta). length ds) pushed in
-    let next = along_commit c.args.code.now c.args.relations.now (specs_of c.args.hosts.now.names) c.args.base.now.state c.args.turns i.bytes c.steps.commits.items m n d line i.along told c.take_pending.ensures.delta (ens.status ∙ ap (λ e. status_by e) c.in-Commit.is) ens.code ens.relations (ap commit_text long) in
+    let d = c.take_pending-delta.result in
+    let number = c.in_ok-next-in-Commit.next in
+    let line = commit_text number in
+    let told = stepped c.args.code.now c.args.relations.now (specs_of c.args.hosts.now.names) c.args.base.now.state c.args.turns m n i.done c.deltas.result.now c.in_ok-advance.field-0 events.Commit
+    (ap (state_over c.args.base.now.state) c.deltas.ensures.deltas ∙ i.does c.args.base.now.state) c.in-Commit.is (ens.tells i.along.works) in
+    let long : number ≡ length (i.done ++ d ∷ []) = c.in_ok-next-in-Commit.ensures ∙ ap (λ n. n + 1) i.count ∙ sym (length-append i.done (d ∷ [])) in
+    let next = along_commit c.args.code.now c.args.relations.now (specs_of c.args.hosts.now.names) c.args.base.now.state c.args.turns i.bytes i.done m n d line i.along told c.take_pending-delta.ensures.delta (ens.status ∙ ap (λ e. status_by e) c.in-Commit.is) ens.code ens.relations (ap commit_text long) in
     record {
       still = c.in_ok-say-in-Commit.ensures.cause.still ∙ i.still;
       files = λ t f. c.say-in-Commit.ensures.files t f ∙ i.files t f;
       device = c.say-in-Commit.ensures.device ∙ i.device;
       bytes = i.bytes ++ line;
+      done = i.done ++ d ∷ [];
+      count = long;
+      does = λ s. c.in_ok-push-in-Commit.ensures.does s ∙ ap (λ (t : State). apply_of t d) (i.does s) ∙ sym (state_over-push s i.done d);
+      of = c.in_ok-push-in-Commit.ensures.known c.args.base.now.catalogue i.of (ap (λ (rs : List RelDecl). is_delta_of rs d) (c.requires.catalogue ∙ sym i.along.rels_are ∙ sym ens.relations) ∙ c.take_pending-delta.ensures.known);
       said = Appends-trans _ _ _ _ _ i.said (same_said _ _ _ _ (c.bytes-in-Commit.ensures ∙ c.in_ok-line-in-Commit.ensures) c.in_ok-say-in-Commit.ensures.whole);
-      along = subst (λ (x : Standing). IsAlong c.args.code.now c.args.relations.now (specs_of c.args.hosts.now.names) c.args.base.now.state c.args.turns (i.bytes ++ line) c.push.new.self.items x) (sym c.take_pending.ensures.taken)
-          (subst (λ (ds : List Delta). IsAlong c.args.code.now c.args.relations.now (specs_of c.args.hosts.now.names) c.args.base.now.state c.args.turns (i.bytes ++ line) ds (record n { waits = None })) (sym pushed) next);
-      taken = ap (λ (x : Standing). x.waits) c.take_pending.ensures.taken;
-      any_moment = λ t. leaves-on _ _ (i.any_moment t) (c.say-in-Commit.ensures.any_moment t) (image_amid c.args.code.now c.args.relations.now (specs_of c.args.hosts.now.names) c.args.base.now.state c.args.turns (g.W.Outside.disk c.args.outside.now) (g.W.Outside.disk c.steps.outside) (g.W.Output.emitted c.args.outside.now) (g.W.Output.emitted c.steps.outside) i.bytes line c.bytes-in-Commit.result.now (c.steps.commits.items ++ d ∷ []) (record n { waits = None }) next i.said (i.files t) (c.bytes-in-Commit.ensures ∙ c.in_ok-line-in-Commit.ensures));
+      along = subst (λ (x : Standing). IsAlong c.args.code.now c.args.relations.now (specs_of c.args.hosts.now.names) c.args.base.now.state c.args.turns (i.bytes ++ line) (i.done ++ d ∷ []) x) (sym c.take_pending-delta.ensures.taken) next;
+      taken = ap (λ (x : Standing). x.waits) c.take_pending-delta.ensures.taken;
+      any_moment = λ t. leaves-on _ _ (i.any_moment t) (c.say-in-Commit.ensures.any_moment t) (image_amid c.args.code.now c.args.relations.now (specs_of c.args.hosts.now.names) c.args.base.now.state c.args.turns (g.W.Outside.disk c.args.outside.now) (g.W.Outside.disk c.steps.outside) (g.W.Output.emitted c.args.outside.now) (g.W.Output.emitted c.steps.outside) i.bytes line c.bytes-in-Commit.result.now (i.done ++ d ∷ []) (record n { waits = None }) next i.said (i.files t) (c.bytes-in-Commit.ensures ∙ c.in_ok-line-in-Commit.ensures));
     }
 
 pub steps-smaller : goal.steps-smaller
@@ -168,12 +195,12 @@ steps-smaller g c =
     let n = c.advance.new.self in
     let lower : left (length c.args.code.now.instrs) n.state < left (length c.args.code.now.instrs) m.state =
     comes_nearer c.args.code.now c.args.relations.now (specs_of c.args.hosts.now.names) c.args.base.now.state c.args.turns m n c.in_ok-advance.field-0 events.Commit c.steps.invariant.along.code_is c.requires.forward c.in_ok-advance.ensures.less c.in-Commit.is in
-    subst (λ (x : Standing). left (length c.args.code.now.instrs) x.state < left (length c.args.code.now.instrs) m.state) (sym c.take_pending.ensures.taken) lower
+    subst (λ (x : Standing). left (length c.args.code.now.instrs) x.state < left (length c.args.code.now.instrs) m.state) (sym c.take_pending-delta.ensures.taken) lower
 
 pub returns-in_err-line-in-Ended-clause-cut : goal.returns-in_err-line-in-Ended-clause-cut
 returns-in_err-line-in-Ended-clause-cut g c =
     MatchResult-from_err c.from_residual-in_err-line-in-Ended.result _ _ c.from_residual-in_err-line-in-Ended.ensures.0
-    (λ _. along_part c.args.code.now c.args.relations.now (specs_of c.args.hosts.now.names) c.args.base.now.state c.args.turns _ _ c.steps.invariant.bytes c.steps.commits.items c.steps.machine c.steps.invariant.along c.steps.invariant.said)
+    (λ _. along_part c.args.code.now c.args.relations.now (specs_of c.args.hosts.now.names) c.args.base.now.state c.args.turns _ _ c.steps.invariant.bytes c.steps.invariant.done c.steps.machine c.steps.invariant.along c.steps.invariant.said)
 
 pub returns-in_err-say-in-Ended-clause-cut : goal.returns-in_err-say-in-Ended-clause-cut
 returns-in_err-say-in-Ended-clause-cut g c =
@@ -181,11 +208,11 @@ returns-in_err-say-in-Ended-clause-cut g c =
     let m = c.steps.machine in
     let n = c.advance.new.self in
     let ens = c.in_ok-advance.ensures in
-    let told = stepped c.args.code.now c.args.relations.now (specs_of c.args.hosts.now.names) c.args.base.now.state c.args.turns m n c.steps.commits.items c.deref.result.now c.in_ok-advance.field-0 (events.Ended c.in-Ended.end)
-    c.deref.ensures.value c.in-Ended.is (ens.tells i.along.works) in
-    let ends = along_end c.args.code.now c.args.relations.now (specs_of c.args.hosts.now.names) c.args.base.now.state c.args.turns i.bytes c.steps.commits.items m n c.in-Ended.end i.along told in
+    let told = stepped c.args.code.now c.args.relations.now (specs_of c.args.hosts.now.names) c.args.base.now.state c.args.turns m n i.done c.deltas.result.now c.in_ok-advance.field-0 (events.Ended c.in-Ended.end)
+    (ap (state_over c.args.base.now.state) c.deltas.ensures.deltas ∙ i.does c.args.base.now.state) c.in-Ended.is (ens.tells i.along.works) in
+    let ends = along_end c.args.code.now c.args.relations.now (specs_of c.args.hosts.now.names) c.args.base.now.state c.args.turns i.bytes i.done m n c.in-Ended.end i.along told in
     MatchResult-from_err c.from_residual-in_err-say-in-Ended.result _ _ c.from_residual-in_err-say-in-Ended.ensures.0
-    (λ _. ends_cut c.args.code.now c.args.relations.now (specs_of c.args.hosts.now.names) c.args.base.now.state c.args.turns _ _ _ i.bytes c.steps.commits.items c.in-Ended.end ends i.said (same_part _ _ _ _ (c.bytes-in-Ended.ensures ∙ c.in_ok-line-in-Ended.ensures) c.in_err-say-in-Ended.ensures.part))
+    (λ _. ends_cut c.args.code.now c.args.relations.now (specs_of c.args.hosts.now.names) c.args.base.now.state c.args.turns _ _ _ i.bytes i.done c.in-Ended.end ends i.said (same_part _ _ _ _ (c.bytes-in-Ended.ensures ∙ c.in_ok-line-in-Ended.ensures) c.in_err-say-in-Ended.ensures.part))
 
 pub returns-in_err-say-in-Ended-clause-any_moment : goal.returns-in_err-say-in-Ended-clause-any_moment
 returns-in_err-say-in-Ended-clause-any_moment g c =
@@ -193,10 +220,10 @@ returns-in_err-say-in-Ended-clause-any_moment g c =
     let m = c.steps.machine in
     let n = c.advance.new.self in
     let ens = c.in_ok-advance.ensures in
-    let told = stepped c.args.code.now c.args.relations.now (specs_of c.args.hosts.now.names) c.args.base.now.state c.args.turns m n c.steps.commits.items c.deref.result.now c.in_ok-advance.field-0 (events.Ended c.in-Ended.end)
-    c.deref.ensures.value c.in-Ended.is (ens.tells i.along.works) in
-    let ends = along_end c.args.code.now c.args.relations.now (specs_of c.args.hosts.now.names) c.args.base.now.state c.args.turns i.bytes c.steps.commits.items m n c.in-Ended.end i.along told in
-    λ t. leaves-on _ _ (i.any_moment t) (c.say-in-Ended.ensures.any_moment t) (image_end c.args.code.now c.args.relations.now (specs_of c.args.hosts.now.names) c.args.base.now.state c.args.turns (g.W.Outside.disk c.args.outside.now) (g.W.Outside.disk c.steps.outside) (g.W.Output.emitted c.args.outside.now) (g.W.Output.emitted c.steps.outside) i.bytes c.bytes-in-Ended.result.now c.steps.commits.items c.in-Ended.end ends i.said (i.files t) (c.bytes-in-Ended.ensures ∙ c.in_ok-line-in-Ended.ensures))
+    let told = stepped c.args.code.now c.args.relations.now (specs_of c.args.hosts.now.names) c.args.base.now.state c.args.turns m n i.done c.deltas.result.now c.in_ok-advance.field-0 (events.Ended c.in-Ended.end)
+    (ap (state_over c.args.base.now.state) c.deltas.ensures.deltas ∙ i.does c.args.base.now.state) c.in-Ended.is (ens.tells i.along.works) in
+    let ends = along_end c.args.code.now c.args.relations.now (specs_of c.args.hosts.now.names) c.args.base.now.state c.args.turns i.bytes i.done m n c.in-Ended.end i.along told in
+    λ t. leaves-on _ _ (i.any_moment t) (c.say-in-Ended.ensures.any_moment t) (image_end c.args.code.now c.args.relations.now (specs_of c.args.hosts.now.names) c.args.base.now.state c.args.turns (g.W.Outside.disk c.args.outside.now) (g.W.Outside.disk c.steps.outside) (g.W.Output.emitted c.args.outside.now) (g.W.Output.emitted c.steps.outside) i.bytes c.bytes-in-Ended.result.now i.done c.in-Ended.end ends i.said (i.files t) (c.bytes-in-Ended.ensures ∙ c.in_ok-line-in-Ended.ensures))
 
 pub returns-in-Ended-clause-whole : goal.returns-in-Ended-clause-whole
 returns-in-Ended-clause-whole g c =
@@ -204,10 +231,10 @@ returns-in-Ended-clause-whole g c =
     let m = c.steps.machine in
     let n = c.advance.new.self in
     let ens = c.in_ok-advance.ensures in
-    let told = stepped c.args.code.now c.args.relations.now (specs_of c.args.hosts.now.names) c.args.base.now.state c.args.turns m n c.steps.commits.items c.deref.result.now c.in_ok-advance.field-0 (events.Ended c.in-Ended.end)
-    c.deref.ensures.value c.in-Ended.is (ens.tells i.along.works) in
-    let ends = along_end c.args.code.now c.args.relations.now (specs_of c.args.hosts.now.names) c.args.base.now.state c.args.turns i.bytes c.steps.commits.items m n c.in-Ended.end i.along told in
-    ends_said c.args.code.now c.args.relations.now (specs_of c.args.hosts.now.names) c.args.base.now.state c.args.turns _ _ _ i.bytes c.steps.commits.items c.in-Ended.end ends i.said (same_said _ _ _ _ (c.bytes-in-Ended.ensures ∙ c.in_ok-line-in-Ended.ensures) c.in_ok-say-in-Ended.ensures.whole)
+    let told = stepped c.args.code.now c.args.relations.now (specs_of c.args.hosts.now.names) c.args.base.now.state c.args.turns m n i.done c.deltas.result.now c.in_ok-advance.field-0 (events.Ended c.in-Ended.end)
+    (ap (state_over c.args.base.now.state) c.deltas.ensures.deltas ∙ i.does c.args.base.now.state) c.in-Ended.is (ens.tells i.along.works) in
+    let ends = along_end c.args.code.now c.args.relations.now (specs_of c.args.hosts.now.names) c.args.base.now.state c.args.turns i.bytes i.done m n c.in-Ended.end i.along told in
+    ends_said c.args.code.now c.args.relations.now (specs_of c.args.hosts.now.names) c.args.base.now.state c.args.turns _ _ _ i.bytes i.done c.in-Ended.end ends i.said (same_said _ _ _ _ (c.bytes-in-Ended.ensures ∙ c.in_ok-line-in-Ended.ensures) c.in_ok-say-in-Ended.ensures.whole)
 
 pub returns-in-Ended-clause-any_moment : goal.returns-in-Ended-clause-any_moment
 returns-in-Ended-clause-any_moment g c =
@@ -215,7 +242,7 @@ returns-in-Ended-clause-any_moment g c =
     let m = c.steps.machine in
     let n = c.advance.new.self in
     let ens = c.in_ok-advance.ensures in
-    let told = stepped c.args.code.now c.args.relations.now (specs_of c.args.hosts.now.names) c.args.base.now.state c.args.turns m n c.steps.commits.items c.deref.result.now c.in_ok-advance.field-0 (events.Ended c.in-Ended.end)
-    c.deref.ensures.value c.in-Ended.is (ens.tells i.along.works) in
-    let ends = along_end c.args.code.now c.args.relations.now (specs_of c.args.hosts.now.names) c.args.base.now.state c.args.turns i.bytes c.steps.commits.items m n c.in-Ended.end i.along told in
-    λ t. leaves-on _ _ (i.any_moment t) (c.say-in-Ended.ensures.any_moment t) (image_end c.args.code.now c.args.relations.now (specs_of c.args.hosts.now.names) c.args.base.now.state c.args.turns (g.W.Outside.disk c.args.outside.now) (g.W.Outside.disk c.steps.outside) (g.W.Output.emitted c.args.outside.now) (g.W.Output.emitted c.steps.outside) i.bytes c.bytes-in-Ended.result.now c.steps.commits.items c.in-Ended.end ends i.said (i.files t) (c.bytes-in-Ended.ensures ∙ c.in_ok-line-in-Ended.ensures))
+    let told = stepped c.args.code.now c.args.relations.now (specs_of c.args.hosts.now.names) c.args.base.now.state c.args.turns m n i.done c.deltas.result.now c.in_ok-advance.field-0 (events.Ended c.in-Ended.end)
+    (ap (state_over c.args.base.now.state) c.deltas.ensures.deltas ∙ i.does c.args.base.now.state) c.in-Ended.is (ens.tells i.along.works) in
+    let ends = along_end c.args.code.now c.args.relations.now (specs_of c.args.hosts.now.names) c.args.base.now.state c.args.turns i.bytes i.done m n c.in-Ended.end i.along told in
+    λ t. leaves-on _ _ (i.any_moment t) (c.say-in-Ended.ensures.any_moment t) (image_end c.args.code.now c.args.relations.now (specs_of c.args.hosts.now.names) c.args.base.now.state c.args.turns (g.W.Outside.disk c.args.outside.now) (g.W.Outside.disk c.steps.outside) (g.W.Output.emitted c.args.outside.now) (g.W.Output.emitted c.steps.outside) i.bytes c.bytes-in-Ended.result.now i.done c.in-Ended.end ends i.said (i.files t) (c.bytes-in-Ended.ensures ∙ c.in_ok-line-in-Ended.ensures))

@@ -1,17 +1,17 @@
 use Rattle.std.proofs.Common.{◌≡◌, ◌+◌, sym, ap, ◌∙◌, refl, arith, [], ◌∷◌, ◌++◌}
-use Rattle.std.specs.Prelude.{Ok}
-use Rattle.hera_meaning.specs.declared.trees.Stmt.TheVariants.{Commit, Rollback}
+use Rattle.std.specs.Prelude.{Ok, is_some}
+use Rattle.hera_meaning.specs.declared.trees.Stmt.TheVariants.{Rollback}
 use Rattle.hera_meaning.specs.declared.trees.Stmt.TheViews as stmt_view
 use Rattle.hera_meaning.specs.Trees.{foreach, commit, rollback}
 use Rattle.hera_meaning.specs.Plain.{command_of, expr_of}
-use Rattle.hera_meaning.proofs.PlainLaws.{command_of-If, command_of-Foreach, command_of-Commit, command_of-Rollback}
+use Rattle.hera_meaning.proofs.PlainLaws.{command_of-If, command_of-Foreach, command_of-Rollback}
 use Rattle.hera_rules.proofs.ReadActLaws.{act_of-Commit, act_of-Rollback}
 use Rattle.hera_rules.specs.declared.env.Typed.{Typed}
 use Rattle.hera_rules.specs.Agrees.{typing_of}
 use Rattle.hera_rules.specs.Environments.{env_of}
 use Rattle.hera_rules.specs.Phrases.{Branches, branch, choosing, looping, visiting, no_act, committing, rolling_back}
 use Rattle.hera_rules.specs.Read.{expr_phrase, word_of}
-use Rattle.hera_rules.specs.ReadActs.{act_of, acts_in, block_acts, branches_in, last_in}
+use Rattle.hera_rules.specs.ReadActs.{label_of, act_of, acts_in, block_acts, branches_in, last_in}
 use Rattle.hera_rules.specs.Rules.{variable_row}
 use Rattle.hera_rules.specs.Typing.{slots_of}
 use Rattle.hera_rules.specs.Checked.{check}
@@ -325,10 +325,9 @@ statement-returns-in-Commit-clause-checks t c =
     let ls = c.args.scope.now.locals.items in
     let n = c.args.scope.now.next in
     let at = c.in-Commit.word.at in
-    let read : act_of c.args.e.now ≡ committing at = ap act_of c.in-Commit.is ∙ act_of-Commit c.in-Commit.word in
-    act_row g r ls n ls c.effect_row_of.result (act_of c.args.e.now) (effect_row c.is_some.result at (command_of Commit))
-    (ap (λ a. check_act g r ls n a) read ∙ ap (λ b. stays ls (effect_row b at commit)) (sym c.is_some.ensures) ∙ ap (λ s. stays ls (effect_row c.is_some.result at s)) (sym command_of-Commit))
-    refl c.effect_row_of.ensures
+    let label = label_of c.in-Commit.label in
+    let read : act_of c.args.e.now ≡ committing at label = ap act_of c.in-Commit.is ∙ act_of-Commit c.in-Commit.word c.in-Commit.label in
+    act_row g r ls n ls c.commit.result (act_of c.args.e.now) (effect_row (is_some r) at (commit label)) (ap (λ a. check_act g r ls n a) read) refl c.commit.ensures
 
 pub statement-returns-in-Rollback-clause-checks : goal.statement-returns-in-Rollback-clause-checks
 statement-returns-in-Rollback-clause-checks t c =
@@ -337,8 +336,8 @@ statement-returns-in-Rollback-clause-checks t c =
     let ls = c.args.scope.now.locals.items in
     let n = c.args.scope.now.next in
     let at = c.in-Rollback.word.at in
-    let func = c.is_some-in-Rollback in
+    let func = c.is_some in
     let read : act_of c.args.e.now ≡ rolling_back at = ap act_of c.in-Rollback.is ∙ act_of-Rollback c.in-Rollback.word in
-    act_row g r ls n ls c.effect_row_of-in-Rollback.result (act_of c.args.e.now) (effect_row func.result at (command_of Rollback))
+    act_row g r ls n ls c.effect_row_of.result (act_of c.args.e.now) (effect_row func.result at (command_of Rollback))
     (ap (λ a. check_act g r ls n a) read ∙ ap (λ b. stays ls (effect_row b at rollback)) (sym func.ensures) ∙ ap (λ s. stays ls (effect_row func.result at s)) (sym command_of-Rollback))
-    refl c.effect_row_of-in-Rollback.ensures
+    refl c.effect_row_of.ensures

@@ -4,4 +4,4 @@ use Rattle.hera_rules.specs.ReadActs.{param_phrase}
 use Rattle.hera_types.proofs.signatures.some_params_of.Given as goal
 
 abbrev pub invariant-loop-tree : goal.invariant-loop-tree
-invariant-loop-tree l = params_row l.relations l.taken l.initial.locals.items (map param_phrase l.tree-items) ≡ params_row l.relations l.taken l.locals.items (map param_phrase (drop l.tree-index l.tree-items))
+invariant-loop-tree l = params_row l.relations l.taken l.initial.locals (map param_phrase l.tree-items) ≡ params_row l.relations l.taken l.locals (map param_phrase (drop l.tree-index l.tree-items))

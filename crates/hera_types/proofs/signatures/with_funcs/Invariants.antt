@@ -4,4 +4,4 @@ use Rattle.hera_types.specs.Passes.{func_names}
 use Rattle.hera_types.proofs.signatures.with_funcs.Given as goal
 
 abbrev pub invariant-loop-tree : goal.invariant-loop-tree
-invariant-loop-tree l = names_row l.initial.names.items (func_names l.trees) ≡ names_row l.names.items (func_names (drop l.tree-index l.trees))
+invariant-loop-tree l = names_row l.initial.names (func_names l.trees) ≡ names_row l.names (func_names (drop l.tree-index l.trees))

@@ -4,4 +4,4 @@ use Rattle.hera_types.specs.Passes.{proc_names}
 use Rattle.hera_types.proofs.signatures.with_procs.Given as goal
 
 abbrev pub invariant-loop-tree : goal.invariant-loop-tree
-invariant-loop-tree l = names_row l.initial.names.items (proc_names l.trees) ≡ names_row l.names.items (proc_names (drop l.tree-index l.trees))
+invariant-loop-tree l = names_row l.initial.names (proc_names l.trees) ≡ names_row l.names (proc_names (drop l.tree-index l.trees))

@@ -1,16 +1,14 @@
-use Rattle.std.proofs.Common.{◌+◌, sym, ap, ◌∙◌, refl, arith, drop, List, [], ◌∷◌, ◌++◌}
+use Rattle.std.proofs.Common.{◌+◌, sym, ap, ◌∙◌, refl, arith, drop, [], ◌∷◌, ◌++◌}
 use Rattle.std.specs.Prelude.{Ok}
 use Rattle.hera_meaning.specs.Plain.{expr_of}
 use Rattle.hera_syntax.specs.declared.expr.Expr.{out-Expr}
 use Rattle.hera_syntax.specs.declared.expr.Binding.{out-Binding}
 use Rattle.hera_rules.specs.declared.words.Joint.{Joint}
-use Rattle.hera_meaning.specs.declared.trees.Shape.{Shape}
 use Rattle.hera_rules.specs.Agrees.{Keeps, typing_of, steps_of}
 use Rattle.hera_types_exprs.specs.Parts.{list_of}
 use Rattle.hera_rules.specs.Environments.{env_of}
-use Rattle.hera_rules.specs.Phrases.{uses, no_use}
 use Rattle.hera_rules.specs.Read.{expr_phrase, operand_phrase, expr_uses_in, atom_phrase, line_phrase, word_of}
-use Rattle.hera_rules.specs.Rules.{joint_row, typing, chain_core, Step}
+use Rattle.hera_rules.specs.Rules.{joint_row, typing, chain_core}
 use Rattle.hera_rules.specs.Typing.{slots_of, slots_of_all, slots_of_uses}
 use Rattle.hera_rules.specs.Checked.{check_uses}
 use Rattle.hera_rules.proofs.ReadLaws.{expr_phrase-read}

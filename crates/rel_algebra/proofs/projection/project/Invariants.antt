@@ -1,13 +1,13 @@
 use Rattle.std.proofs.Common.{◌≡◌, List, ℕ, ◌++◌, length, map}
 use Rattle.std.specs.List.{filter}
 use Rattle.std.specs.Option.{option_copied}
-use Rattle.hera_sets.specs.Rows.{is_past}
+use Rattle.hera_sets.specs.Rows.{is_past, normal}
 use Rattle.hera_meaning.specs.Relations.{at_places}
 use Rattle.rel_algebra.proofs.projection.project.Given as goal
 
 -- the images of the rows done
 abbrev pub invariant-loop-row : goal.invariant-loop-row
-invariant-loop-row g l = (done : List (List ℕ)) × (done ++ filter (is_past (option_copied l.last)) (g.A.Sorted.rows l.a) ≡ g.A.Sorted.rows l.a) × (l.images.items ≡ map (at_places l.schema l.places) done)
+invariant-loop-row g l = (done : List (List ℕ)) × (done ++ filter (is_past (option_copied l.last)) (g.A.Sorted.rows l.a) ≡ g.A.Sorted.rows l.a) × (l.set ≡ normal (map (at_places l.schema l.places) done))
 
 abbrev pub decreases-loop-row : goal.decreases-loop-row
 decreases-loop-row g l = length (filter (is_past (option_copied l.last)) (g.A.Sorted.rows l.a))

@@ -8,6 +8,6 @@ use Rattle.when_overlay.proofs.marks.put_in_near.Goals as goal
 pub returns-clause-next : goal.returns-clause-next
 returns-clause-next c =
     let b = option_copied c.args.bound in
-    c.row_near.ensures.next
-    ∙ next_ascending b c.part.result.now c.row_near.ensures.ordered
+    c.above_near.ensures.next
+    ∙ next_ascending b c.part.result.now c.above_near.ensures.ordered
     ∙ ap (next_of b) (c.part.ensures.rows ∙ named_part c.args.rel.0 Plus c.args.delta.now (sym c.if-is_fail.ensures.fails))

@@ -2,14 +2,20 @@ use Rattle.std.proofs.Common.{◌<◌, ◌∙◌, ap, sym, subst, length}
 use Rattle.std.proofs.lemmas.Option.{same_Some}
 use Rattle.hera_meaning.specs.Deltas.{is_fail}
 use Rattle.when_overlay.proofs.Layering.{with_delta-length}
-use Rattle.hera_frames.specs.Branched.{Branches, IsTree, pending_of, under, parents_of}
+use Rattle.hera_frames.specs.Branched.{Branches, IsTree, AreKnown, pending_of, under, parents_of}
 use Rattle.hera_frames.proofs.Branching.{tree_with, pending_with, under_with, parents_with, pending_at, pending_known}
+use Rattle.hera_meaning.specs.Fits.{is_delta_of}
+use Rattle.hera_frames.proofs.Known.{with_known, known_at}
 use Rattle.hera_frames.proofs.changes.Changes.replace_pending.Goals as goal
 
 pub invariant_of-self : goal.invariant_of-self
 invariant_of-self c =
-    let ls = c.self.inside.layers.layers in
-    (subst IsTree (sym c.replace.ensures.layers) (tree_with ls c.args.delta c.self.invariant.0), c.self.invariant.1 ∙ sym (ap parents_of c.replace.ensures.layers ∙ parents_with ls 0 c.args.delta), subst (λ n. c.self.inside.tip < n) (sym (ap length c.replace.ensures.layers ∙ with_delta-length ls 0 c.args.delta)) c.self.invariant.2)
+    let ls = c.self.inside.layers.layers in (
+      subst IsTree (sym c.replace.ensures.layers) (tree_with ls c.args.delta c.self.invariant.0),
+      c.self.invariant.1 ∙ sym (ap parents_of c.replace.ensures.layers ∙ parents_with ls 0 c.args.delta),
+      subst (λ n. c.self.inside.tip < n) (sym (ap length c.replace.ensures.layers ∙ with_delta-length ls 0 c.args.delta)) c.self.invariant.2,
+      subst (AreKnown c.self.inside.catalogue.now) (sym c.replace.ensures.layers) (with_known c.self.inside.catalogue.now ls 0 c.args.delta (ap (λ (r : Branches). is_delta_of r.catalogue c.args.delta) c.self.view_is ∙ c.requires.of) c.self.invariant.3),
+    )
 
 pub returns-clause-old : goal.returns-clause-old
 returns-clause-old c =
@@ -32,3 +38,8 @@ returns-clause-others c = λ k.
 pub returns-clause-count : goal.returns-clause-count
 returns-clause-count c =
     ap length c.replace.ensures.layers ∙ with_delta-length c.self.inside.layers.layers 0 c.args.delta ∙ ap (λ (r : Branches). length r.layers) c.self.view_is
+
+pub returns-clause-of : goal.returns-clause-of
+returns-clause-of c =
+    ap (λ (r : Branches). is_delta_of r.catalogue c.replace.result) (sym c.self.view_is)
+    ∙ known_at c.self.inside.catalogue.now c.self.inside.layers.layers 0 c.replace.result c.self.invariant.3 c.replace.ensures.old

@@ -1,7 +1,6 @@
 use Rattle.std.proofs.Common.{◌≡◌, ◌∷◌, [], ◌∙◌, ◌-◌, ◌+◌, Option, sym, ap, subst, arith}
 use Rattle.std.specs.Prelude.{MatchOption}
 use Rattle.hera_code.specs.Machine.{taken}
-use Rattle.when_overlay.specs.Changed.{after_all}
 use Rattle.hera_frames.specs.declared.values.Datum.{Datum}
 use Rattle.hera_frames.specs.Items.{plain_of, operands_at}
 use Rattle.hera_frames.proofs.Taking.{taken_next}
@@ -9,7 +8,7 @@ use Rattle.hera_frames.proofs.operands.Operands.take.Goals as goal
 
 pub loop-preserved : goal.loop-preserved
 loop-preserved c =
-    let s = after_all c.args.base.now.state c.args.commits.now in
+    let s = c.args.stored.now.state in
     let ls = c.args.changes.now.layers in
     let rest = operands_at s ls c.pop_value.new.self.items in
     let told = λ (o : Option Datum). MatchOption o (c.loop.self.items ≡ []) (λ v. operands_at s ls c.loop.self.items ≡ plain_of v ∷ rest) in

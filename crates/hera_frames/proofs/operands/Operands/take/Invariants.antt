@@ -1,12 +1,11 @@
 use Rattle.std.proofs.Common.{◌≡◌, ◌≤◌, [], ◌-◌}
 use Rattle.hera_code.specs.Machine.{taken}
-use Rattle.when_overlay.specs.Changed.{after_all}
 use Rattle.hera_frames.specs.Items.{operands_at, reach}
 use Rattle.hera_frames.proofs.operands.Operands.take.Given as goal
 
 abbrev pub invariant-loop : goal.invariant-loop
 invariant-loop l =
-    let s = after_all l.base.state l.commits in
+    let s = l.stored.state in
     record {
       taking : taken (l.n - l.counter) l.args (operands_at s l.changes.layers l.self.items) ≡ taken l.n [] (operands_at s l.changes.layers l.initial.self.items);
       within : reach l.self.items ≤ reach l.initial.self.items;

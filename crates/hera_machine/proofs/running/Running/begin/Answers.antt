@@ -1,6 +1,6 @@
 use Rattle.std.proofs.Common.{◌+◌, ◌-◌, arith, refl}
 use Rattle.hera_frames.specs.declared.frames.Point.{Point}
-use Rattle.hera_machine.specs.contracts.running.Running.{the_view}
+use Rattle.hera_machine.proofs.Sights.{the_view}
 use Rattle.hera_machine.proofs.Calling.{called, upheld_called}
 use Rattle.hera_machine.proofs.running.Running.begin.Goals as goal
 

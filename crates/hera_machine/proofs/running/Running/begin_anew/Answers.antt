@@ -1,7 +1,7 @@
 use Rattle.std.proofs.Common.{◌+◌, ◌-◌, ap, arith, refl}
 use Rattle.hera_machine.specs.Working.{Work}
 use Rattle.hera_frames.specs.declared.frames.Point.{Point}
-use Rattle.hera_machine.specs.contracts.running.Running.{the_view}
+use Rattle.hera_machine.proofs.Sights.{the_view}
 use Rattle.hera_machine.proofs.Calling.{called, upheld_called}
 use Rattle.hera_machine.proofs.running.Running.begin_anew.Goals as goal
 
@@ -13,8 +13,8 @@ invariant_of-self-2 c =
     c.len-self-inside.result c.call_anew.new.operands.items c.call_anew.new.walks c.len-self-inside.ensures.count c.in_ok-call_anew.ensures.no_operands c.in_ok-call_anew.ensures.no_walks
     c.tip.ensures.tip refl refl refl c.any_names-names.ensures.below c.any_names-names.ensures.operands c.any_names-names.ensures.walks c.in_ok-call_anew.ensures.called c.self.invariant
 
-pub returns : goal.returns
-returns c = λ s.
+pub returns-clause-step : goal.returns-clause-step
+returns-clause-step c = λ s.
     let now = c.self.inside in
     let point : Point = record { at = now.at + 1; tip = c.tip.result; own = now.own; floor = now.floor; names_below = now.names_below } in
     called s (the_view now) c.args.self.now c.args.body.now point c.call_anew.new.operands.items c.call_anew.new.operands.spare (now.turns - 1) c.call_anew.new.locals c.call_anew.new.walks c.call_anew.new.self

@@ -1,20 +1,19 @@
 use Rattle.std.proofs.Common.{length, ap, ◌∙◌, sym, arith}
-use Rattle.hera_machine.specs.contracts.running.Running.{the_view}
-use Rattle.hera_machine.specs.Over.{state_over}
+use Rattle.hera_machine.proofs.Sights.{the_view}
 use Rattle.hera_machine.specs.Working.{Work}
 use Rattle.hera_machine.proofs.Calling.{as_many, few_called, spent_called}
 use Rattle.hera_machine.proofs.running.Running.call.Goals as goal
 
-pub returns-then-len-body : goal.returns-then-len-body
-returns-then-len-body c =
-    few_called (state_over c.args.base.now.state c.args.commits.now) (the_view c.self.inside) c.args.self.now c.in-Some.body _ c.self.view_is (sym c.in-Some.is ∙ c.get.ensures)
+pub returns-then-len-body-clause-step : goal.returns-then-len-body-clause-step
+returns-then-len-body-clause-step c =
+    few_called c.args.stored.now.state (the_view c.self.inside) c.args.self.now c.in-Some.body _ c.self.view_is (sym c.in-Some.is ∙ c.get.ensures)
     (omega (arith, c.if-body.false)) (omega (arith, c.len.ensures, c.if-len-body.true))
 
-pub returns-then-self-eq0 : goal.returns-then-self-eq0
-returns-then-self-eq0 c =
-    spent_called (state_over c.args.base.now.state c.args.commits.now) (the_view c.self.inside) c.args.self.now c.in-Some.body _ c.self.view_is (sym c.in-Some.is ∙ c.get.ensures)
+pub returns-then-self-eq0-clause-step : goal.returns-then-self-eq0-clause-step
+returns-then-self-eq0-clause-step c =
+    spent_called c.args.stored.now.state (the_view c.self.inside) c.args.self.now c.in-Some.body _ c.self.view_is (sym c.in-Some.is ∙ c.get.ensures)
     (omega (arith, c.if-body.false)) (omega (arith, c.len.ensures, c.if-len-body.false)) (omega (arith, c.if-self-eq0.true))
 
 pub begin_anew-requires-clause-there : goal.begin_anew-requires-clause-there
 begin_anew-requires-clause-there c =
-    omega (arith, c.len.ensures, c.if-len-body.false, as_many (state_over c.args.base.now.state c.args.commits.now) c.hold.new.self c.args.self.now c.in_ok-hold.ensures.same, ap (λ (w : Work). length w.operands) c.self.view_is)
+    omega (arith, c.len.ensures, c.if-len-body.false, as_many c.args.stored.now.state c.hold.new.self c.args.self.now c.in_ok-hold.ensures.same, ap (λ (w : Work). length w.operands) c.self.view_is)

@@ -1,8 +1,9 @@
-use Rattle.std.proofs.Common.{◌∙◌, [], ap, sym, subst}
+use Rattle.std.proofs.Common.{List, ◌∙◌, [], ap, sym, subst}
+use Rattle.hera_meaning.specs.declared.schemas.RelDecl.{RelDecl}
 use Rattle.hera_meaning.specs.Deltas.{atoms}
 use Rattle.hera_frames.specs.Waiting.{IsUpheld}
 use Rattle.hera_frames.proofs.Upheld.{upheld_pending}
-use Rattle.hera_machine.specs.contracts.running.Running.{the_view}
+use Rattle.hera_machine.proofs.Sights.{the_view}
 use Rattle.hera_machine.specs.Working.{Work, machine_at, NamesNothing}
 use Rattle.hera_machine.proofs.Changing.{repended, stored}
 use Rattle.hera_machine.proofs.running.Running.change_pending.Goals as goal
@@ -11,8 +12,9 @@ pub invariant_of-self : goal.invariant_of-self
 invariant_of-self c =
     let now = c.self.inside in
     let new = c.replace_pending.new.self in
-    subst (λ k. IsUpheld (record { layers = new.layers; tip = k }) now.own now.floor now.operands.items now.walks now.names_below now.callers) (sym c.replace_pending.ensures.tip)
-    (upheld_pending now.changes now.own now.floor now.operands.items now.walks now.names_below now.callers new.layers c.replace_pending.ensures.count c.replace_pending.ensures.others c.self.invariant)
+    subst (λ (rels : List RelDecl). IsUpheld (record { catalogue = rels; layers = new.layers; tip = new.tip }) now.own now.floor now.operands.items now.walks now.names_below now.callers) (sym c.replace_pending.ensures.catalogue)
+    (subst (λ k. IsUpheld (record { catalogue = now.changes.catalogue; layers = new.layers; tip = k }) now.own now.floor now.operands.items now.walks now.names_below now.callers) (sym c.replace_pending.ensures.tip)
+    (upheld_pending now.changes now.own now.floor now.operands.items now.walks now.names_below now.callers new.layers c.replace_pending.ensures.count c.replace_pending.ensures.others c.self.invariant))
 
 pub returns-clause-over : goal.returns-clause-over
 returns-clause-over c = λ none s.

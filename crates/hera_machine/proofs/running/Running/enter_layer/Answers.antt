@@ -2,7 +2,7 @@ use Rattle.std.proofs.Common.{◌+◌, ◌∷◌, suc, Some, ◌∙◌, ap, sym,
 use Rattle.hera_frames.specs.Branched.{Branches, under}
 use Rattle.hera_frames.specs.Waiting.{IsUpheld}
 use Rattle.hera_frames.proofs.Upheld.{upheld_enter}
-use Rattle.hera_machine.specs.contracts.running.Running.{the_view}
+use Rattle.hera_machine.proofs.Sights.{the_view}
 use Rattle.hera_machine.specs.Working.{Work, machine_at}
 use Rattle.hera_machine.proofs.Changing.{entered}
 use Rattle.hera_machine.proofs.running.Running.enter_layer.Goals as goal

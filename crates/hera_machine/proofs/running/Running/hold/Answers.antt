@@ -1,8 +1,7 @@
 use Rattle.std.proofs.Common.{◌∙◌, ap, arith}
 use Rattle.hera_frames.proofs.Holding.{same_values}
 use Rattle.hera_frames.proofs.Upheld.{upheld_operands}
-use Rattle.hera_machine.specs.contracts.running.Running.{the_view}
-use Rattle.hera_machine.specs.Over.{state_over}
+use Rattle.hera_machine.proofs.Sights.{the_view}
 use Rattle.hera_machine.specs.Working.{Work, machine_at}
 use Rattle.hera_machine.proofs.running.Running.hold.Goals as goal
 
@@ -14,6 +13,6 @@ invariant_of-self c =
 pub returns-clause-same : goal.returns-clause-same
 returns-clause-same c =
     let now = c.self.inside in
-    let s = state_over c.args.base.now.state c.args.commits.now in
+    let s = c.args.stored.now.state in
     (λ i. record (machine_at s (the_view now)) { operands = same_values s now.changes.layers c.hold_newest.new.self.items now.operands.items c.hold_newest.ensures.same i })
     ∙ ap (λ (w : Work). machine_at s w) c.self.view_is

@@ -1,15 +1,15 @@
-use Rattle.std.proofs.Common.{◌≤◌, [], List, length}
+use Rattle.std.proofs.Common.{◌≡◌, ◌≤◌, [], List, length}
 use Rattle.hera_meaning.specs.declared.schemas.RelDecl.{RelDecl}
 use Rattle.hera_meaning.specs.Hosts.{Hosts}
 use Rattle.hera_code.specs.Forward.{Forward}
 use Rattle.hera_machine.specs.Descends.{left}
-use Rattle.hera_machine.specs.Over.{state_over}
 use Rattle.hera_machine.specs.Standing.{GoesQuietly}
 use Rattle.hera_machine.specs.Working.{machine_at}
 use Rattle.hera_machine.proofs.running.Running.hurry.Given as goal
 
 abbrev pub invariant-loop : goal.invariant-loop
 invariant-loop l = record {
-  quietly : (rels : List RelDecl) → (hosts : Hosts) → let s = state_over l.base.state l.commits in GoesQuietly l.code rels hosts s (machine_at s l.initial.self) (machine_at s l.self);
+  quietly : (rels : List RelDecl) → (hosts : Hosts) → let s = l.stored.state in GoesQuietly l.code rels hosts s (machine_at s l.initial.self) (machine_at s l.self);
+  relations : l.self.relations ≡ l.initial.self.relations;
   less : Forward l.code → left (length l.code.instrs) (machine_at [] l.self) ≤ left (length l.code.instrs) (machine_at [] l.initial.self);
 }

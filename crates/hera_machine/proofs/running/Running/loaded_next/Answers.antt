@@ -22,3 +22,20 @@ returns-in-Some-Prim-Field-default-clause-less c = λ h.
     let at = ap (λ (w : Work). w.at) c.self.view_is in
     let found : Some k.field-0.now ≡ slice_get code.instrs (c.args.self.now.at + 1) = ap option_copied (sym k.is) ∙ c.get.ensures ∙ ap (λ a. slice_get code.instrs (a + 1)) at in
     past_less (length code.instrs) c.args.self.now c.loaded_field.new.self (c.loaded_field.ensures.past h) (here_within code (c.args.self.now.at + 1) k.field-0.now found)
+
+pub returns-in-Some-Prim-In-default-clause-quietly : goal.returns-in-Some-Prim-In-default-clause-quietly
+returns-in-Some-Prim-In-default-clause-quietly c = λ rels hosts s h.
+    let code = c.args.code.now in
+    let k = c.in-Some-Prim-In-default in
+    let at = ap (λ (w : Work). w.at) c.self.view_is in
+    let found : Some k.field-0.now ≡ slice_get code.instrs (c.args.self.now.at + 1) = ap option_copied (sym k.is) ∙ c.get.ensures ∙ ap (λ a. slice_get code.instrs (a + 1)) at in
+    quietly_loaded code rels hosts s (machine_at s c.args.self.now) (machine_at s c.loaded_asked.new.self) _ k.field-0-1 c.args.i _ c.requires
+    (sym found ∙ ap Some (k.field-0-is ∙ ap (λ op. Prim op k.field-0-1) k.field-0-0-is)) (c.loaded_asked.ensures.there h) (c.loaded_asked.ensures.done s k.field-0-1 h)
+
+pub returns-in-Some-Prim-In-default-clause-less : goal.returns-in-Some-Prim-In-default-clause-less
+returns-in-Some-Prim-In-default-clause-less c = λ h.
+    let code = c.args.code.now in
+    let k = c.in-Some-Prim-In-default in
+    let at = ap (λ (w : Work). w.at) c.self.view_is in
+    let found : Some k.field-0.now ≡ slice_get code.instrs (c.args.self.now.at + 1) = ap option_copied (sym k.is) ∙ c.get.ensures ∙ ap (λ a. slice_get code.instrs (a + 1)) at in
+    past_less (length code.instrs) c.args.self.now c.loaded_asked.new.self (c.loaded_asked.ensures.past h) (here_within code (c.args.self.now.at + 1) k.field-0.now found)

@@ -1,4 +1,3 @@
-use Rattle.hera_machine.specs.Over.{state_over}
 use Rattle.hera_machine.proofs.Instructing.{then_told}
 use Rattle.hera_machine.proofs.running.Running.measure.Goals as goal
 
@@ -9,6 +8,6 @@ returns-in-None-clause-step c =
 
 pub returns-in-Some-clause-step : goal.returns-in-Some-clause-step
 returns-in-Some-clause-step c =
-    let s = state_over c.args.base.now.state c.args.commits.now in
+    let s = c.args.stored.now.state in
     let told = rw c.in-Some.is at c.in_ok-measured_here.ensures.found in
     then_told c.answer.result s c.answer.new.self _ _ (c.answer.ensures.step s) (told.1 c.args.at)

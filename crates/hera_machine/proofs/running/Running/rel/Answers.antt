@@ -1,13 +1,11 @@
-use Rattle.std.proofs.Common.{◌≡◌, List, ap, sym, subst, length, arith}
+use Rattle.std.proofs.Common.{[], ◌≡◌, ap, sym, subst, arith}
 use Rattle.std.specs.Prelude.{Result, IfOk, slice_get}
 use Rattle.std.specs.declared.alloc.AllocError.{AllocError}
 use Rattle.std.proofs.lemmas.Option.{slice_get_past}
-use Rattle.hera_meaning.specs.declared.schemas.RelDecl.{RelDecl}
 use Rattle.hera_code.specs.Machine.{current_state, pushes, rows_value}
 use Rattle.hera_frames.specs.Branched.{pending_of, under}
 use Rattle.hera_frames.proofs.Naming.{read-length}
 use Rattle.hera_machine.specs.declared.events.Told.{Told}
-use Rattle.hera_machine.specs.Over.{state_over}
 use Rattle.hera_machine.specs.Working.{machine_at}
 use Rattle.hera_machine.specs.Telling.{step_at}
 use Rattle.hera_machine.proofs.Instructing.{named_told}
@@ -15,19 +13,17 @@ use Rattle.hera_machine.proofs.running.Running.rel.Goals as goal
 
 pub returns-then-from-len-clause-step : goal.returns-then-from-len-clause-step
 returns-then-from-len-clause-step c =
-    let s = state_over c.args.base.now.state c.args.commits.now in
+    let s = c.args.stored.now.state in
     let m = machine_at s c.args.self.now in
     let t = current_state s m in
-    let long = read-length c.args.base.now.state c.args.commits.now (pending_of c.args.self.now.layers) (under c.args.self.now.layers c.args.self.now.tip) in
-    let there = ap (λ (xs : List RelDecl). length xs) c.catalogue.ensures.catalogue in
+    let long = read-length c.args.stored.now.state [] (pending_of c.args.self.now.layers) (under c.args.self.now.layers c.args.self.now.tip) in
     subst (λ (res : Result Told AllocError). IfOk res (λ told. step_at s told c.args.self.now ≡ pushes (rows_value (slice_get t c.args.r.0)) m)) (sym c.stuck.ensures)
-    (ap (λ o. pushes (rows_value o) m) (sym (slice_get_past t c.args.r.0 (omega (arith, long, there, c.catalogue.ensures.relations, c.len.ensures.count, c.from.ensures, c.if-from-len.true)))))
+    (ap (λ o. pushes (rows_value o) m) (sym (slice_get_past t c.args.r.0 (omega (arith, long, c.len.ensures.relations, c.len.ensures.count, c.from.ensures, c.if-from-len.true)))))
 
 pub returns-clause-step : goal.returns-clause-step
 returns-clause-step c =
-    let s = state_over c.args.base.now.state c.args.commits.now in
+    let s = c.args.stored.now.state in
     let now = c.self.inside in
-    let long = read-length c.args.base.now.state c.args.commits.now (pending_of now.changes.layers) (under now.changes.layers now.changes.tip) in
-    let there = ap (λ (xs : List RelDecl). length xs) c.catalogue.ensures.catalogue in
+    let long = read-length c.args.stored.now.state [] (pending_of now.changes.layers) (under now.changes.layers now.changes.tip) in
     named_told s _ c.args.self.now c.tip.result c.args.r.0 c.push_named.new.self.items c.push_named.new.self.spare c.self.view_is c.tip.ensures.tip c.in_ok-push_named.ensures.ok
-    (omega (arith, long, there, c.catalogue.ensures.relations, c.len.ensures.count, c.from.ensures, c.if-from-len.false))
+    (omega (arith, long, c.len.ensures.relations, c.len.ensures.count, c.from.ensures, c.if-from-len.false))

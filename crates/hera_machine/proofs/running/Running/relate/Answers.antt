@@ -1,13 +1,12 @@
 use Rattle.std.proofs.Common.{drop, ◌∙◌, ap}
 use Rattle.hera_machine.specs.Finding.{found_step}
-use Rattle.hera_machine.specs.Over.{state_over}
 use Rattle.hera_machine.specs.Working.{machine_at}
 use Rattle.hera_machine.proofs.Instructing.{then_told}
 use Rattle.hera_machine.proofs.running.Running.relate.Goals as goal
 
-pub returns-in-Some : goal.returns-in-Some
-returns-in-Some c =
-    let s = state_over c.args.base.now.state c.args.commits.now in
+pub returns-in-Some-clause-step : goal.returns-in-Some-clause-step
+returns-in-Some-clause-step c =
+    let s = c.args.stored.now.state in
     let m = machine_at s c.args.self.now in
     let told = rw c.in-Some.is at c.in_ok-related.ensures in
     then_told c.answer.result s c.answer.new.self _ _ (c.answer.ensures.step s)

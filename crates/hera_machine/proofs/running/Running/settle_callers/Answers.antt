@@ -1,8 +1,7 @@
 use Rattle.std.proofs.Common.{false, map, ◌∙◌, ap, sym, subst}
 use Rattle.hera_frames.specs.Waiting.{AreKept, frame_settled}
 use Rattle.hera_frames.proofs.Upheld.{kept_settled}
-use Rattle.hera_machine.specs.contracts.running.Running.{the_view}
-use Rattle.hera_machine.specs.Over.{state_over}
+use Rattle.hera_machine.proofs.Sights.{the_view}
 use Rattle.hera_machine.specs.Working.{Work, machine_at, NameNone}
 use Rattle.hera_machine.proofs.Changing.{frames_settled_none, frames_settled_same, kept_none}
 use Rattle.hera_machine.proofs.running.Running.settle_callers.Goals as goal
@@ -10,7 +9,7 @@ use Rattle.hera_machine.proofs.running.Running.settle_callers.Goals as goal
 pub invariant_of-self-then-self : goal.invariant_of-self-then-self
 invariant_of-self-then-self c =
     let now = c.self.inside in
-    let s = state_over c.args.base.now.state c.args.commits.now in
+    let s = c.args.stored.now.state in
     let ls = now.changes.layers in
     let is = c.in_ok-self-inside.ensures ∙ ap (λ fs. map (frame_settled s ls) fs) c.replace-callers.ensures.value in
     let u = c.self.invariant in
@@ -26,7 +25,7 @@ invariant_of-self-then-self c =
 pub returns-in_ok-self-inside-clause-same : goal.returns-in_ok-self-inside-clause-same
 returns-in_ok-self-inside-clause-same c =
     let now = c.self.inside in
-    let s = state_over c.args.base.now.state c.args.commits.now in
+    let s = c.args.stored.now.state in
     let ls = now.changes.layers in
     let is = c.in_ok-self-inside.ensures ∙ ap (λ fs. map (frame_settled s ls) fs) c.replace-callers.ensures.value in
     ap (λ fs. machine_at s (record (the_view now) { callers = fs })) is
@@ -36,7 +35,7 @@ returns-in_ok-self-inside-clause-same c =
 pub returns-in_ok-self-inside-clause-none : goal.returns-in_ok-self-inside-clause-none
 returns-in_ok-self-inside-clause-none c =
     let now = c.self.inside in
-    let s = state_over c.args.base.now.state c.args.commits.now in
+    let s = c.args.stored.now.state in
     let ls = now.changes.layers in
     let is = c.in_ok-self-inside.ensures ∙ ap (λ fs. map (frame_settled s ls) fs) c.replace-callers.ensures.value in
     subst (λ fs. NameNone fs) (sym is) (frames_settled_none s ls now.callers)

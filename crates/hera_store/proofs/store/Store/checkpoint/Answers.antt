@@ -1,11 +1,11 @@
 use Rattle.std.proofs.Common.{◌≡◌, ◌≤◌, ◌∙◌, false, List, ℕ, Option, length, sym, ap, subst, arith}
+use Rattle.hera_meaning.specs.Commits.{after_all}
 use Rattle.hera_volume.specs.Time.{LeavesOnly}
 use Rattle.hera_volume.specs.declared.file_id.FileId.{FileId}
 use Rattle.hera_volume.specs.declared.file_id.FileId.TheVariants.{Select}
 use Rattle.hera_store.specs.Databases.{Holds}
-use Rattle.rel_format.specs.Pages.{format_one}
-use Rattle.rel_format.specs.Journal.{IsHalf}
-use Rattle.commit_journal.specs.Halves.{state_with}
+use Rattle.rel_format.specs.Versions.{IsHalfOf}
+use Rattle.rel_format.specs.Journal.{half_limit}
 use Rattle.hera_store.specs.Standing.{Standing, StandsFor, database_of, other_half}
 use Rattle.hera_store.specs.Faults.{half_with}
 use Rattle.hera_store.specs.Moments.{IsStill}
@@ -16,13 +16,13 @@ pub returns-in-Ok-clause-any_moment : goal.returns-in-Ok-clause-any_moment
 returns-in-Ok-clause-any_moment g c = λ told opens.
     let inside = c.self.inside in
     let s : Standing = record { base = inside.base; commits = inside.commits.items; half = inside.half; end = inside.end; closed = inside.closed } in
-    let state = state_with s.base.state s.commits in
+    let state = after_all s.base.state s.commits in
     let disks = g.W.Outside.disk c.args.outside.now in
     let stands : StandsFor disks s = subst (StandsFor disks) (sym c.self.view_is) (c.requires.stands told opens) in
     let half : c.in_ok-bytes.bytes.items ≡ half_with (database_of s) = rw c.deref.ensures.value at c.in_ok-bytes.ensures.half in
     let fits : length (half_with (database_of s)) ≤ c.args.limit = rw c.deref.ensures.value at c.in_ok-bytes.ensures.fits in
-    let short : length (half_with (database_of s)) ≤ 268435456 = omega (arith, fits, c.requires.limit) in
-    let former = subst (λ (f : FileId). IsHalf format_one (disks f).bytes s.base.catalogue state) (sym (ap other_half c.other_half.ensures ∙ other_twice s.half)) stands.half.half in
+    let short : length (half_with (database_of s)) ≤ half_limit = omega (arith, fits, c.requires.limit) in
+    let former = subst (λ (f : FileId). IsHalfOf (disks f).bytes s.base.catalogue state) (sym (ap other_half c.other_half.ensures ∙ other_twice s.half)) (s.base.version, stands.half.half) in
     let new = renewed_is s c.deref-2.result.now c.self.invariant stands.half.half.catalogue short (c.deref-2.ensures.value ∙ half) in
     subst (λ (x : Standing). LeavesOnly g.W.Outside.moment g.W.Outside.left_since c.args.outside.now c.switch_to.new.outside (IsStill (database_of x) (g.W.Output.emitted c.args.outside.now))) c.self.view_is
     (c.switch_to.ensures.any_moment told (database_of s) former new)
@@ -31,13 +31,13 @@ pub returns-clause-any_moment : goal.returns-clause-any_moment
 returns-clause-any_moment g c = λ told opens.
     let inside = c.self.inside in
     let s : Standing = record { base = inside.base; commits = inside.commits.items; half = inside.half; end = inside.end; closed = inside.closed } in
-    let state = state_with s.base.state s.commits in
+    let state = after_all s.base.state s.commits in
     let disks = g.W.Outside.disk c.args.outside.now in
     let stands : StandsFor disks s = subst (StandsFor disks) (sym c.self.view_is) (c.requires.stands told opens) in
     let half : c.in_ok-bytes.bytes.items ≡ half_with (database_of s) = rw c.deref.ensures.value at c.in_ok-bytes.ensures.half in
     let fits : length (half_with (database_of s)) ≤ c.args.limit = rw c.deref.ensures.value at c.in_ok-bytes.ensures.fits in
-    let short : length (half_with (database_of s)) ≤ 268435456 = omega (arith, fits, c.requires.limit) in
-    let former = subst (λ (f : FileId). IsHalf format_one (disks f).bytes s.base.catalogue state) (sym (ap other_half c.other_half.ensures ∙ other_twice s.half)) stands.half.half in
+    let short : length (half_with (database_of s)) ≤ half_limit = omega (arith, fits, c.requires.limit) in
+    let former = subst (λ (f : FileId). IsHalfOf (disks f).bytes s.base.catalogue state) (sym (ap other_half c.other_half.ensures ∙ other_twice s.half)) (s.base.version, stands.half.half) in
     let new = renewed_is s c.deref-2.result.now c.self.invariant stands.half.half.catalogue short (c.deref-2.ensures.value ∙ half) in
     subst (λ (x : Standing). LeavesOnly g.W.Outside.moment g.W.Outside.left_since c.args.outside.now c.switch_to.new.outside (IsStill (database_of x) (g.W.Output.emitted c.args.outside.now))) c.self.view_is
     (c.switch_to.ensures.any_moment told (database_of s) former new)
@@ -51,7 +51,7 @@ returns-in-Ok-clause-holds g c = λ told.
     let stands : StandsFor disks s = subst (StandsFor disks) (sym c.self.view_is) (c.requires.stands told (subst (λ (x : Standing). x.closed ≡ false) c.self.view_is c.if-self.false)) in
     let half : c.in_ok-bytes.bytes.items ≡ half_with (database_of s) = rw c.deref.ensures.value at c.in_ok-bytes.ensures.half in
     let fits : length (half_with (database_of s)) ≤ c.args.limit = rw c.deref.ensures.value at c.in_ok-bytes.ensures.fits in
-    let short : length (half_with (database_of s)) ≤ 268435456 = omega (arith, fits, c.requires.limit) in
+    let short : length (half_with (database_of s)) ≤ half_limit = omega (arith, fits, c.requires.limit) in
     let written = rw c.other_half.ensures at (c.in-Ok.ensures.written told) in
     let selects = rw c.other_half.ensures at (c.in-Ok.ensures.selects told) in
     let new = renewed_is s (now (other_half s.half)).bytes c.self.invariant stands.half.half.catalogue short (written ∙ c.deref-2.ensures.value ∙ half) in

@@ -1,6 +1,7 @@
 use Rattle.std.proofs.Common.{◌≡◌, ◌≤◌, ◌∙◌, false, List, [], ◌∷◌, ◌++◌, Option, ℕ, sym, ap, subst, arith}
 use Rattle.std.proofs.lemmas.List.Elements.{All-push}
 use Rattle.std.specs.Prelude.{All}
+use Rattle.hera_meaning.specs.Commits.{IsCommitOf}
 use Rattle.hera_meaning.specs.Deltas.{Delta, IsDelta, IsDeltaOf}
 use Rattle.delta_atoms.specs.Atoms.{atoms_in}
 use Rattle.hera_volume.specs.Disk.{Disk}
@@ -8,7 +9,8 @@ use Rattle.hera_volume.specs.Time.{Image, LeavesOnly}
 use Rattle.hera_volume.specs.declared.file_id.FileId.{FileId}
 use Rattle.hera_volume.proofs.Moments.{leaves-weaker}
 use Rattle.commit_journal.specs.Prepare.{need_of}
-use Rattle.hera_store.specs.Standing.{Standing, StandsFor, IsCommitOf, database_of, database_after}
+use Rattle.rel_format.specs.Journal.{half_limit}
+use Rattle.hera_store.specs.Standing.{Standing, StandsFor, database_of, database_after}
 use Rattle.hera_store.specs.Moments.{IsEither}
 use Rattle.hera_store.proofs.Commits.{is_either, stands_after}
 use Rattle.hera_store.proofs.store.Store.commit.Goals as goal
@@ -32,7 +34,7 @@ returns-in-Ok-clause-stands g c = λ told opens.
     let known : IsDeltaOf s.base.catalogue c.args.delta = subst (λ (x : Standing). IsDeltaOf x.base.catalogue c.args.delta) (sym c.self.view_is) c.requires.known in
     let commits : c.push.new.self.items ≡ s.commits ++ c.args.delta ∷ [] = rw c.unwrap.ensures at c.push.ensures.items ∙ ap (λ (l : List Delta). l ++ c.args.delta ∷ []) c.reserve.ensures.items in
     let stands : StandsFor disks s = subst (StandsFor disks) (sym c.self.view_is) (c.requires.stands told (subst (λ (x : Standing). x.closed ≡ false) c.self.view_is opens)) in
-    let fits : need_of (atoms_in c.args.delta) s.end ≤ 268435456 = omega (arith, c.in_ok-prepared.ensures.fits, c.requires.limit) in
+    let fits : need_of (atoms_in c.args.delta) s.end ≤ half_limit = omega (arith, c.in_ok-prepared.ensures.fits, c.requires.limit) in
     subst (λ (l : List Delta). StandsFor now (record { base = s.base; commits = l; half = s.half; end = c.in_ok-prepared.next; closed = s.closed })) (sym commits)
     (stands_after disks s c.args.delta stands c.requires.proper c.in_ok-prepared.ensures.delta known fits now c.in_ok-prepared.next (c.in-Ok.ensures.settled told)
     (rw (c.in_ok-prepared.ensures.end, c.in_ok-prepared.ensures.body) at (c.in-Ok.ensures.sealed told))
@@ -47,7 +49,7 @@ returns-in-Ok-clause-any_moment g c = λ told opens.
     let so_far = g.W.Output.emitted c.args.outside.now in
     let known : IsDeltaOf s.base.catalogue c.args.delta = subst (λ (x : Standing). IsDeltaOf x.base.catalogue c.args.delta) (sym c.self.view_is) c.requires.known in
     let stands : StandsFor disks s = subst (StandsFor disks) (sym c.self.view_is) (c.requires.stands told opens) in
-    let fits : need_of (atoms_in c.args.delta) s.end ≤ 268435456 = omega (arith, c.in_ok-prepared.ensures.fits, c.requires.limit) in
+    let fits : need_of (atoms_in c.args.delta) s.end ≤ half_limit = omega (arith, c.in_ok-prepared.ensures.fits, c.requires.limit) in
     subst (λ (x : Standing). LeavesOnly g.W.Outside.moment g.W.Outside.left_since c.args.outside.now c.seal.new.outside (IsEither (database_of x) (database_after x c.args.delta) so_far)) c.self.view_is
     (leaves-weaker _ _ (rw (c.in_ok-prepared.ensures.end, c.in_ok-prepared.ensures.body) at (c.seal.ensures.any_moment told)) (λ i image. is_either disks s c.args.delta stands c.requires.proper c.in_ok-prepared.ensures.delta known fits so_far i image))
 
@@ -59,6 +61,6 @@ returns-in-Err-clause-any_moment g c = λ told opens.
     let so_far = g.W.Output.emitted c.args.outside.now in
     let known : IsDeltaOf s.base.catalogue c.args.delta = subst (λ (x : Standing). IsDeltaOf x.base.catalogue c.args.delta) (sym c.self.view_is) c.requires.known in
     let stands : StandsFor disks s = subst (StandsFor disks) (sym c.self.view_is) (c.requires.stands told opens) in
-    let fits : need_of (atoms_in c.args.delta) s.end ≤ 268435456 = omega (arith, c.in_ok-prepared.ensures.fits, c.requires.limit) in
+    let fits : need_of (atoms_in c.args.delta) s.end ≤ half_limit = omega (arith, c.in_ok-prepared.ensures.fits, c.requires.limit) in
     subst (λ (x : Standing). LeavesOnly g.W.Outside.moment g.W.Outside.left_since c.args.outside.now c.seal.new.outside (IsEither (database_of x) (database_after x c.args.delta) so_far)) c.self.view_is
     (leaves-weaker _ _ (rw (c.in_ok-prepared.ensures.end, c.in_ok-prepared.ensures.body) at (c.seal.ensures.any_moment told)) (λ i image. is_either disks s c.args.delta stands c.requires.proper c.in_ok-prepared.ensures.delta known fits so_far i image))

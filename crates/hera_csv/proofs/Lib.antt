@@ -1,0 +1,11 @@
+mod Consumed
+mod Passages
+mod Bads
+mod Goings
+mod Heads
+mod Scalars
+mod Rows
+mod Fillings
+mod Kept
+mod Spans
+mod Back

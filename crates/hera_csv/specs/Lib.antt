@@ -1,0 +1,4 @@
+pub mod Fields
+pub mod Listed
+pub mod Records
+pub mod Writers

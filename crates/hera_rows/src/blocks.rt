@@ -1,0 +1,218 @@
+//! A strictly ascending list of rows in blocks.
+ghost use Rattle.std.specs.Prelude.{◌≡◌, ◌↔◌, IsTrue, [], ◌∷◌, ◌++◌, ◌<◌, length, not, IfOk, OnOk, OnErr, slice_get, Some};
+ghost use Rattle.std.specs.List.{find};
+ghost use Rattle.std.specs.Option.{option_copied};
+ghost use Rattle.hera_rows.specs.Froms.{is_from};
+ghost use Rattle.hera_sets.specs.Rows.{is_past, IsAscending, put, holds, without};
+
+use super::packing::Packing;
+use super::stacks::Near;
+use super::{Mark, Sorted, Spot, same_rows, stacks};
+use std::alloc::{AllocError, Global};
+use std::marker::Model;
+
+/// A strictly ascending list of rows in blocks of a bounded number of rows, so that an insertion moves what is in
+/// one block alone.
+#[derive(Drop)]
+pub(crate) struct Blocks {
+    blocks: Vec<Packing>,
+    /// How many rows stand up to the end of each block.
+    ends: Vec<usize>,
+}
+
+impl Model for Blocks {
+    ghost use Rattle.std.specs.Prelude.{List, ℕ};
+    ghost use Rattle.hera_rows.specs.Blocks.{joined, AreStacked};
+
+    ghost Value = { List (List ℕ) };
+
+    ghost view = { λ set. joined set.blocks.items };
+
+    ghost invariant = { λ set. AreStacked set.blocks.items set.ends.items };
+}
+
+impl Blocks {
+    /// No rows. It takes no memory.
+    pub(crate) fn new(alloc: Global) -> Blocks
+        ensures { result ≡ [] }
+    {
+        Blocks {
+            blocks: Vec::new(alloc),
+            ends: Vec::new(alloc),
+        }
+    }
+
+    /// How many rows there are.
+    #[inline]
+    pub(crate) fn len(&self) -> usize
+        ensures count { result ≡ length self.now }
+        ensures ordered { IsAscending self.now }
+    {
+        stacks::count(&self.blocks, &self.ends)
+    }
+
+    /// The row at place `i`, counted from 0.
+    #[inline]
+    pub(crate) fn row(&self, i: usize) -> &[u8]
+        requires { i < length self.now }
+        ensures { slice_get self.now i ≡ Some result.now }
+    {
+        stacks::row(&self.blocks, &self.ends, i)
+    }
+
+    /// The first row past the bound, and where it stands. It is looked for behind the spot first.
+    #[inline]
+    pub(crate) fn above_near<'s>(&'s self, bound: Option<&[u8]>, spot: Spot) -> Near<'s>
+        ensures next { option_copied result.row ≡ find (is_past (option_copied bound.entry)) self.now }
+        ensures ordered { IsAscending self.now }
+    {
+        stacks::above_near(&self.blocks, bound, spot)
+    }
+
+    /// The first row that does not stand before the bound, and where it stands. It is looked for beside the spot first.
+    pub(crate) fn not_below_near<'s>(&'s self, bound: &[u8], spot: Spot) -> Near<'s>
+        ensures least { option_copied result.row ≡ find (is_from bound.now) self.now }
+        ensures ordered { IsAscending self.now }
+    {
+        stacks::not_below_near(&self.blocks, bound, spot)
+    }
+
+    /// Takes the row in, and answers whether it is new. Without memory all is as before.
+    pub(crate) fn insert(&mut self, row: &[u8]) -> Result<bool, AllocError>
+        ensures new { IfOk result (λ new. new ≡ not (holds self.old row.now)) }
+        ensures ok { OnOk result (self.new ≡ put row.now self.old) }
+        ensures err { OnErr result (self.new ≡ self.old) }
+    {
+        let alloc = *self.ends.allocator();
+        stacks::insert(&mut self.blocks, &mut self.ends, alloc, row)
+    }
+
+    /// Puts a row behind all others, which is greater than the last. Without memory all is as
+    /// before.
+    pub(crate) fn push_last(&mut self, row: &[u8]) -> Result<(), AllocError>
+        requires { IsAscending (self.old ++ row.now ∷ []) }
+        ensures ok { OnOk result (self.new ≡ self.old ++ row.now ∷ []) }
+        ensures err { OnErr result (self.new ≡ self.old) }
+    {
+        let alloc = *self.ends.allocator();
+        stacks::push_last(&mut self.blocks, &mut self.ends, alloc, row)
+    }
+
+    /// Takes the row out, and answers whether it was there. It takes no memory.
+    pub(crate) fn remove(&mut self, row: &[u8]) -> bool
+        ensures found { result ≡ holds self.old row.now }
+        ensures removed { self.new ≡ without row.now self.old }
+    {
+        stacks::remove(&mut self.blocks, &mut self.ends, row)
+    }
+
+    /// A set of its own with the same rows, each block packed without gaps.
+    pub(crate) fn copy(&self) -> Result<Blocks, AllocError>
+        ensures { IfOk result (λ copy. copy ≡ self.now) }
+    {
+        let alloc = *self.ends.allocator();
+        Ok(Blocks {
+            blocks: stacks::copy(alloc, &self.blocks)?,
+            ends: Vec::from_slice(alloc, &self.ends)?,
+        })
+    }
+
+    /// Whether both have the same rows. It takes no memory.
+    pub(crate) fn equal(&self, other: &Blocks) -> bool
+        ensures { IsTrue result ↔ (self.now ≡ other.now) }
+    {
+        if stacks::equal(&self.blocks, &other.blocks) {
+            return true;
+        }
+        same_rows(self, other)
+    }
+}
+
+impl Sorted for Blocks {
+    ghost rows = { λ set. set };
+
+    fn above<'s>(&'s self, bound: Option<&[u8]>) -> Option<&'s [u8]> {
+        stacks::above(&self.blocks, bound)
+    }
+
+    fn above_from<'s>(&'s self, bound: Option<&[u8]>, mark: &mut Mark) -> Option<&'s [u8]> {
+        let near = self.above_near(bound, mark.first.kept);
+        mark.first.kept = near.spot;
+        near.row
+    }
+
+    fn has(&self, row: &[u8]) -> bool {
+        stacks::has(&self.blocks, row)
+    }
+}
+
+#[cfg(test)]
+mod tests {
+    use super::*;
+    use std::test::Fail;
+
+    #[test]
+    fn rows_in_any_order_come_in_order(rt: HostRuntime) -> Result<(), Fail> {
+        let mut set = Blocks::new(rt.alloc());
+        for i in 0..1100u16 {
+            assert!(rt; set.insert(&i.wrapping_mul(40_503).to_be_bytes())?);
+            assert!(rt; !set.insert(&i.wrapping_mul(40_503).to_be_bytes())?);
+        }
+        assert!(rt; set.blocks.len() > 2 && set.len() == 1100);
+        let mut last: Option<&[u8]> = None;
+        let mut near = set.above_near(None, Spot { block: 7, row: 7 });
+        for i in 0..set.len() {
+            let row = set.row(i);
+            assert_eq!(rt; set.above(last), Some(row));
+            assert_eq!(rt; near.row, Some(row));
+            near = set.above_near(Some(row), near.spot);
+            last = Some(row);
+        }
+        assert!(rt; near.row.is_none());
+        let copy = set.copy()?;
+        assert!(rt; copy.equal(&set));
+        for i in 0..1100u16 {
+            assert!(rt; set.remove(&i.wrapping_mul(40_503).to_be_bytes()));
+        }
+        assert!(rt; set.len() == 0 && set.blocks.len() == 0 && !copy.equal(&set));
+        Ok(())
+    }
+
+    #[test]
+    fn rows_from_a_bound_on_are_found_from_any_spot(rt: HostRuntime) -> Result<(), Fail> {
+        let mut set = Blocks::new(rt.alloc());
+        for i in 0..1100u16 {
+            assert!(rt; set.insert(&i.wrapping_mul(40_504).to_be_bytes())?);
+        }
+        for block in 0..5 {
+            for row in [0, 1, 100, 511] {
+                let spot = Spot { block, row };
+                for i in [0u16, 7, 8, 9, 500, 3000, 40_000, 65_534, 65_535] {
+                    let bound = i.to_be_bytes();
+                    let past = set.above_near(Some(&bound), spot).row;
+                    assert_eq!(rt; past, set.above(Some(&bound)));
+                    let from = set.not_below_near(&bound, spot).row;
+                    assert!(rt;
+                        set.has(&bound) == (from == Some(&bound[..]))
+                            && (set.has(&bound) || from == past)
+                    );
+                }
+            }
+        }
+        Ok(())
+    }
+
+    #[test]
+    fn thin_blocks_are_packed_anew(rt: HostRuntime) -> Result<(), Fail> {
+        let mut set = Blocks::new(rt.alloc());
+        for i in 0..9000u16 {
+            assert!(rt; set.insert(&i.to_be_bytes())?);
+        }
+        for i in 0..9000u16 {
+            assert!(rt; i % 500 == 0 || set.remove(&i.to_be_bytes()));
+        }
+        assert!(rt; set.blocks.len() > 8);
+        assert!(rt; set.insert(&7u16.to_be_bytes())? && set.blocks.len() == 1 && set.len() == 19);
+        Ok(())
+    }
+}

@@ -1,0 +1,59 @@
+//! About where a walk stands.
+ghost use Rattle.std.specs.Prelude.{◌≡◌};
+
+/// About where a row stands: the number of its block or page, and its number there. It only saves time: whatever the
+/// numbers are, the answer is the same.
+#[derive(Clone, Copy)]
+pub struct Spot {
+    pub block: usize,
+    pub row: usize,
+}
+
+/// About where a walk through one set stands: in what is kept, and where rows are put into that as it is seen, among
+/// those.
+#[derive(Clone, Copy)]
+pub struct Side {
+    pub kept: Spot,
+    pub put_in: Spot,
+}
+
+/// About where a walk stands: in a set, and in a second one where two are seen as one.
+#[derive(Clone, Copy)]
+pub struct Mark {
+    pub first: Side,
+    pub second: Side,
+}
+
+impl Spot {
+    /// Where the first row of all stands.
+    #[inline]
+    pub fn start() -> Spot
+        ensures block { result.block ≡ 0 }
+        ensures row { result.row ≡ 0 }
+    {
+        Spot { block: 0, row: 0 }
+    }
+}
+
+impl Mark {
+    /// The mark of a walk that begins.
+    pub fn start() -> Mark {
+        let side = Side {
+            kept: Spot::start(),
+            put_in: Spot::start(),
+        };
+        Mark {
+            first: side,
+            second: side,
+        }
+    }
+
+    /// The mark of a walk through the second set alone.
+    #[inline]
+    pub fn of_second(self) -> Mark {
+        Mark {
+            first: self.second,
+            second: self.second,
+        }
+    }
+}
