@@ -1,16 +1,21 @@
 #!/usr/bin/env python3
-"""Proves and builds the libraries that the program `hera` stands on, as many at a time as there are processors.
+"""Proves and builds the program `hera`, as many crates at a time as there are processors.
 
-    tools/first_build.py
+    tools/first_build.py [PROCESS]
 
-`rt` proves one crate at a time in a checkout, since it locks the crates below. So each worker has a copy of the sources,
-and the libraries that are built go to `out/` of the crates in this checkout, from where each worker takes those that it
-needs. Of the crates that can be begun, the one comes first from which the longest way leads up to the program, counted
-in lines of code; where fewer can be begun than there are processors, a crate is given several.
+`rt` proves one crate at a time in a checkout, since it locks the crates below. So each worker has the sources in a folder of its own
+(links, where it can), and what is built goes to `out/` of the crates in this checkout, from where each worker takes the libraries that it needs.
+Of the crates that can be begun, the one comes first from which the longest way leads up to the program, counted in lines
+of code; where fewer can be begun than there are processors, a crate is given several.
 
-It ends with 0 where all libraries are built. Where one fails, what `rt` said is printed, and it ends with 1.
+Meanwhile the crates of this checkout are locked as `rt` locks them, so that a second build or a gate waits for this one,
+and this one for them. Where standard error is a terminal, it shows how far the build is.
+
+It ends with 0 where the program is built, and with 1 where a crate fails, with what `rt` said of it. It ends, and its
+workers with it, when a signal tells it to or when the process that started it (number PROCESS) has ended.
 """
 
+import fcntl
 import os
 import shutil
 import signal
@@ -21,6 +26,7 @@ import time
 
 TOP = os.path.dirname(os.path.dirname(os.path.abspath(__file__)))
 PROGRAM = "hera_shell"
+STARTED_BY = int(sys.argv[1]) if len(sys.argv) > 1 else os.getppid()
 
 
 def crates_below(program):
@@ -37,7 +43,6 @@ def crates_below(program):
         if name not in needed:
             needed[name] = [it for it in stands_on[name] if it in stands_on]
             found += needed[name]
-    del needed[program]
     return needed
 
 
@@ -79,8 +84,28 @@ def link_or_copy(source, target):
         shutil.copy2(source, target)
 
 
+def made(top, name):
+    """What stands there once the crate is built."""
+    if name == PROGRAM:
+        return os.path.join(top, "crates", name, "out", name)
+    return os.path.join(library(top, name), "stamp")
+
+
 def is_built(name):
-    return os.path.exists(os.path.join(library(TOP, name), "stamp"))
+    return os.path.exists(made(TOP, name))
+
+
+def hand_over(name, top):
+    """Gives what was built of a crate in a copy of the sources to this checkout."""
+    if name == PROGRAM:
+        target = made(TOP, name)
+        os.makedirs(os.path.dirname(target), exist_ok=True)
+        shutil.copy2(made(top, name), target + ".new")
+        os.replace(target + ".new", target)
+    else:
+        target = library(TOP, name)
+        shutil.rmtree(target, ignore_errors=True)
+        shutil.copytree(library(top, name), target, copy_function=link_or_copy)
 
 
 class Worker:
@@ -96,7 +121,9 @@ class Worker:
             os.path.join(TOP, "crates"),
             os.path.join(folder, "crates"),
             ignore=shutil.ignore_patterns("out"),
+            copy_function=link_or_copy,
         )
+        end_with_starter()
 
     def begin(self, name, below, jobs):
         """Begins to prove a crate over the libraries below, which are built."""
@@ -106,8 +133,9 @@ class Worker:
                 shutil.copytree(library(TOP, it), target, copy_function=link_or_copy)
         self.name, self.jobs = name, jobs
         self.log = tempfile.TemporaryFile("w+")
+        # `rt run` ends with a run of the program, here without words.
         self.process = subprocess.Popen(
-            ["rt", "lib", "--jobs", str(jobs)],
+            ["rt", "run" if name == PROGRAM else "lib", "--jobs", str(jobs)],
             cwd=os.path.join(self.folder, "crates", name),
             stdin=subprocess.DEVNULL,
             stdout=self.log,
@@ -120,14 +148,11 @@ class Worker:
         if self.name:
             os.killpg(self.process.pid, signal.SIGTERM)
 
-    def hand_over(self):
-        """Gives the library that was built to this checkout. None, or what rt said where it failed."""
+    def finish(self):
+        """Hands over what was built. None, or what rt said where that failed."""
         name, self.name = self.name, None
-        made = library(self.folder, name)
-        if self.process.returncode == 0 and os.path.exists(os.path.join(made, "stamp")):
-            target = library(TOP, name)
-            shutil.rmtree(target, ignore_errors=True)
-            shutil.copytree(made, target, copy_function=link_or_copy)
+        if os.path.exists(made(self.folder, name)):
+            hand_over(name, self.folder)
             return None
         self.log.seek(0)
         return f"{name}:\n{self.log.read()}"
@@ -160,7 +185,26 @@ def begin_some(workers, needed, begun, way, processors):
         free -= jobs
 
 
-def build(workers, needed, processors):
+class Progress:
+    """How far the build is, in a line on standard error that each next one overwrites, where that is a terminal."""
+
+    def __init__(self, many):
+        self.many = many
+        self.start = time.monotonic()
+        self.last = None
+
+    def show(self, built):
+        text = f"hera: {built} of {self.many} crates, {(time.monotonic() - self.start) // 60:.0f} minutes"
+        if sys.stderr.isatty() and text != self.last:
+            print(f"\r{text}", end="", file=sys.stderr, flush=True)
+            self.last = text
+
+    def end(self):
+        if self.last:
+            print(file=sys.stderr)
+
+
+def build(workers, needed, processors, progress):
     """Proves and builds all crates. What rt said of one that failed, if one did."""
     way = ways_up(needed)
     begun = {name for name in needed if is_built(name)}
@@ -169,26 +213,65 @@ def build(workers, needed, processors):
         at_work = [it for it in workers if it.name]
         if not at_work:
             return None
-        time.sleep(0.5)
+        progress.show(len(begun) - len(at_work))
+        pause()
         for worker in at_work:
             if worker.process.poll() is not None:
-                failed = worker.hand_over()
+                failed = worker.finish()
                 if failed:
                     return failed
 
 
+def end_with_starter():
+    """Ends this process where the one that started it has ended."""
+    if os.getppid() != STARTED_BY:
+        sys.exit(1)
+
+
+def pause():
+    time.sleep(0.5)
+    end_with_starter()
+
+
+def lock_crates():
+    """Waits until no other build, gate or `rt` works in this checkout, and keeps others out until this process ends."""
+    crates = os.path.join(TOP, "crates")
+    held = [os.open(os.path.join(crates, name), os.O_RDONLY) for name in sorted(os.listdir(crates))]
+    waits = False
+    for folder in held:
+        while True:
+            try:
+                fcntl.flock(folder, fcntl.LOCK_EX | fcntl.LOCK_NB)
+                break
+            except BlockingIOError:
+                if not waits:
+                    print("hera: waiting for another build or gate in this checkout to end", file=sys.stderr, flush=True)
+                waits = True
+                pause()
+            except OSError:
+                # Some file systems have no locks.
+                break
+
+
 def main():
+    for number in (signal.SIGTERM, signal.SIGHUP, signal.SIGINT):
+        signal.signal(number, lambda number, _: sys.exit(128 + number))
+    lock_crates()
     processors = len(os.sched_getaffinity(0))
     needed = crates_below(PROGRAM)
+    progress = Progress(len(needed))
     with tempfile.TemporaryDirectory(prefix="hera-build-") as folder:
-        workers = [Worker(os.path.join(folder, str(number))) for number in range(processors)]
+        workers = []
         try:
-            failed = build(workers, needed, processors)
+            for number in range(processors):
+                workers.append(Worker(os.path.join(folder, str(number))))
+            failed = build(workers, needed, processors, progress)
         finally:
+            progress.end()
             for worker in workers:
                 worker.stop()
     if failed:
-        print(failed)
+        print(failed, file=sys.stderr)
     return 1 if failed else 0
 
 
