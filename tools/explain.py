@@ -1,0 +1,168 @@
+#!/usr/bin/env python3
+"""Runs the program, and says on standard error where in a script a fault lies that it prints.
+
+    tools/explain.py PROGRAM WORD..
+
+Standard output and the status are the program's own, and what it prints goes on as it comes. Where its last line is
+`refused NAME at OFFSET` or `trap NAME at OFFSET`, what follows on standard error is the place as FILE:LINE:COLUMN (columns
+count characters), that line with a caret under it, and a sentence on what the name means.
+"""
+
+import os
+import re
+import signal
+import stat
+import subprocess
+import sys
+
+FAULT = re.compile(rb"(?:.*\n)?(?:refused|trap) (\w+) at (\d+)\n", re.DOTALL)
+# At least as long as the line of a fault and the line feed before it.
+TAIL = 64
+
+# How many words come before FILE in each form that ends with one.
+SCRIPT_AT = {"check": 1, "list": 1, "eval": 2, "init": 2, "run": 3}
+
+MEANINGS = {
+    "TooLong": "A script has at most 1,048,576 bytes.",
+    "BadUtf8": "These bytes are no UTF-8.",
+    "BadToken": "No token begins here, or the one that does is not ended or out of range: a comment, a text (at most "
+    "1,023 bytes, on one line), a number (at most 9223372036854775807), a name (at most 255 bytes), an unknown sign.",
+    "TooDeep": "Brackets may nest 64 deep.",
+    "Syntax": "No script goes on like this here.",
+    "Unknown": "Nothing of this name is visible here.",
+    "Repeated": "This name is taken already.",
+    "Mismatch": "This is not of the type, or has not the operands, that is asked for here.",
+    "Impure": "A func changes nothing and prints nothing: no print, apply, commit, rollback, and no call of a proc.",
+    "NoReturn": "A func ends with a `return`, or with an `if` with `else` each of whose blocks does.",
+    "TooMany": "A schema has at most 16 attributes, and a script at most 256 relations.",
+    "DivZero": "Something is divided by 0.",
+    "Overflow": "A number leaves the range from -9223372036854775808 to 9223372036854775807.",
+    "EmptyMin": "There is no least or greatest of no rows.",
+    "ApplyFail": "The delta is `fail`: it puts a row in and takes the same one out, or was merged of such as conflict. "
+    "`isfail` asks before; a smash `!` lets the second win.",
+    "WhenFail": "The delta behind `when` is `fail`: `isfail` asks before.",
+    "ReadFail": "The delta that is read is `fail`: `isfail` asks before.",
+    "Assert": "The condition does not hold here.",
+}
+
+WORDS = (
+    "relation func proc main int bool text delta rel tuple if else while foreach in print apply commit rollback assert "
+    "return true false fail select map project rename union minus inter join group by count sum min max empty rows bulk "
+    "ins del isfail when"
+).split()
+
+
+def script_of(words):
+    """The name of the script that the words run, or None."""
+    place = SCRIPT_AT.get(words[0]) if words else None
+    return words[place] if place is not None and len(words) == place + 1 else None
+
+
+def what_is_there(name, rest):
+    """What stands at the fault, where that tells more, or an empty text."""
+    found = re.match(r"[^\W\d]\w*", rest)
+    word = found.group() if found else rest[:1]
+    if not rest:
+        return " The script ends here."
+    if name == "Syntax" and word in WORDS:
+        return f" `{word}` is a keyword, and can be no name."
+    if name in ("Unknown", "Repeated") and found:
+        return f" The name is `{word}`."
+    return ""
+
+
+def explained(file, name, offset):
+    """The lines on a fault of this name at this offset of the script."""
+    with open(file, "rb") as source:
+        script = source.read()
+    if offset > len(script):
+        return ""
+    start = script.rfind(b"\n", 0, offset) + 1
+    end = script.find(b"\n", offset)
+    line = script[start : len(script) if end < 0 else end].decode(errors="replace").rstrip("\r")
+    before = script[start:offset].decode(errors="replace")
+    number = script.count(b"\n", 0, offset) + 1
+    under = "".join("\t" if it == "\t" else " " for it in before)
+    meaning = MEANINGS.get(name, "") + what_is_there(name, script[offset:].decode(errors="replace"))
+    return f"{file}:{number}:{len(before) + 1}: {name}\n{line}\n{under}^\n{meaning}\n"
+
+
+def explain(words, tail):
+    """Says what the last line means, where it is a fault of the script."""
+    fault = FAULT.fullmatch(tail)
+    file = script_of(words)
+    if fault and file:
+        try:
+            sys.stderr.write(explained(file, fault[1].decode(), int(fault[2])))
+        except OSError:
+            pass
+
+
+def start(command, output):
+    """Starts the program with its own signals, and hands on to it what ends this process."""
+    program = subprocess.Popen(command, stdout=output, restore_signals=True)
+    for number in (signal.SIGTERM, signal.SIGHUP, signal.SIGQUIT):
+        signal.signal(number, lambda number, _: program.send_signal(number))
+    # From a terminal the program gets it too.
+    signal.signal(signal.SIGINT, signal.SIG_IGN)
+    return program
+
+
+def copy(source):
+    """Writes on what comes, and gives the last of it. Where that fails, the program's next print fails too."""
+    tail = b""
+    while True:
+        some = os.read(source, 65536)
+        if not some:
+            return tail
+        tail = (tail + some)[-TAIL:]
+        try:
+            while some:
+                some = some[os.write(1, some) :]
+        except OSError:
+            return b""
+
+
+def run_through(command):
+    """Runs the program with its output copied. Its status, and the last of what it printed."""
+    source, output = os.pipe()
+    program = start(command, output)
+    os.close(output)
+    tail = copy(source)
+    os.close(source)
+    return program.wait(), tail
+
+
+def run_to_file(command):
+    """Runs the program with standard output as it is, a file. Its status, and the last of what it printed."""
+    before = os.fstat(1).st_size
+    status = start(command, None).wait()
+    try:
+        with open("/proc/self/fd/1", "rb") as printed:
+            printed.seek(max(before, os.fstat(1).st_size - TAIL))
+            return status, printed.read()
+    except OSError:
+        return status, b""
+
+
+def main():
+    command = sys.argv[1:]
+    try:
+        kind = os.fstat(1).st_mode
+    except OSError:
+        kind = None
+    if kind is not None and stat.S_ISREG(kind):
+        status, tail = run_to_file(command)
+    elif kind is not None and (stat.S_ISFIFO(kind) or stat.S_ISSOCK(kind) or os.isatty(1)):
+        status, tail = run_through(command)
+    else:
+        os.execv(command[0], command)
+    explain(command[1:], tail)
+    if status < 0:
+        signal.signal(-status, signal.SIG_DFL)
+        os.kill(os.getpid(), -status)
+    return status
+
+
+if __name__ == "__main__":
+    sys.exit(main())

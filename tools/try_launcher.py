@@ -1,0 +1,97 @@
+#!/usr/bin/env python3
+"""Tries the launcher `./hera` over a built program: its words on standard error, and that it changes nothing else.
+
+    tools/try_launcher.py PROGRAM
+
+The gate doesn't run it. It ends with 0 where each try is right, and else says which was not.
+"""
+
+import fcntl
+import os
+import pty
+import shutil
+import subprocess
+import sys
+import tempfile
+
+TOP = os.path.dirname(os.path.dirname(os.path.abspath(__file__)))
+
+# A name of the try, a script, and what stands on the terminal behind it.
+FAULTS = [
+    ("unknown", "main {\n  int n = 1;\n\tprint n + m;\n}\n", "s.hera:3:12: Unknown\n\tprint n + m;\n\t          ^\n"),
+    ("keyword", "main { int map = 1; }\n", "`map` is a keyword"),
+    ("characters", "main { print \"äö\" + 1; }\n", "s.hera:1:19: Mismatch\n"),
+    ("the end", "main {", "The script ends here."),
+    ("trap", "main { print 1;\nprint 1 / 0; }\n", "s.hera:2:9: DivZero\nprint 1 / 0; }\n        ^\n"),
+]
+
+
+def on_a_terminal(command, folder, output):
+    """Runs it with standard error on a terminal. Its status, output and what the terminal got."""
+    mine, its = pty.openpty()
+    process = subprocess.Popen(command, cwd=folder, stdout=output, stderr=its, stdin=subprocess.DEVNULL)
+    os.close(its)
+    printed = process.stdout.read() if output == subprocess.PIPE else b""
+    shown = b""
+    try:
+        while some := os.read(mine, 4096):
+            shown += some
+    except OSError:
+        pass  # The other end is closed.
+    os.close(mine)
+    return process.wait(), printed, shown.decode().replace("\r\n", "\n")
+
+
+def run(command, folder):
+    done = subprocess.run(command, cwd=folder, capture_output=True, stdin=subprocess.DEVNULL)
+    return done.returncode, done.stdout, done.stderr.decode()
+
+
+def wrong_in(program, folder):
+    """The tries that were not right, a line each."""
+    hera = os.path.join(folder, "hera")
+    for name, script, told in FAULTS:
+        with open(os.path.join(folder, "s.hera"), "w") as file:
+            file.write(script)
+        words = ["eval", "100", "s.hera"]
+        own = run([program, *words], folder)
+        if run([hera, *words], folder) != (own[0], own[1], ""):
+            yield f"{name}: without a terminal"
+        status, printed, shown = on_a_terminal([hera, *words], folder, subprocess.PIPE)
+        if (status, printed) != own[:2] or told not in shown:
+            yield f"{name}: {status} {printed} {shown}"
+        with open(os.path.join(folder, "output"), "w+b") as output:
+            status, _, shown = on_a_terminal([hera, *words], folder, output)
+            output.seek(0)
+            if (status, output.read()) != own[:2] or told not in shown:
+                yield f"{name}: into a file: {status} {shown}"
+    for words in ([], ["help"]):
+        status, printed, shown = run([hera, *words], folder)
+        if (status, printed) != (2, b"usage\n") or "hera run DIR TURNS FILE" not in shown:
+            yield f"forms: {words} {status} {printed} {shown}"
+    used = os.path.join(folder, "used")
+    os.mkdir(used)
+    held = os.open(used, os.O_RDONLY)
+    fcntl.flock(held, fcntl.LOCK_EX)
+    if run([hera, "dump", used], folder) != (6, b"", f"hera: another command is using the folder {used}\n"):
+        yield "a folder in use"
+    os.close(held)
+    if run([hera, "dump", used], folder) != (5, b"no database\n", ""):
+        yield "a folder that is free again"
+
+
+def main():
+    program = os.path.abspath(sys.argv[1])
+    with tempfile.TemporaryDirectory() as folder:
+        shutil.copy(os.path.join(TOP, "hera"), folder)
+        shutil.copytree(os.path.join(TOP, "tools"), os.path.join(folder, "tools"))
+        built = os.path.join(folder, "crates", "hera_shell", "out")
+        os.makedirs(built)
+        os.symlink(program, os.path.join(built, "hera_shell"))
+        wrong = list(wrong_in(program, folder))
+    print("\n".join(wrong) if wrong else "the launcher is right")
+    return 1 if wrong else 0
+
+
+if __name__ == "__main__":
+    sys.exit(main())
