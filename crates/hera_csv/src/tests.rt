@@ -123,7 +123,7 @@ fn rows_in_any_order_are_one_set(rt: HostRuntime) -> Result<(), Fail> {
     let mut mixed = Vec::from_slice(rt.alloc(), b"a\n")?;
     let mut sorted = Vec::from_slice(rt.alloc(), b"a\n")?;
     for i in 0..2000_i64 {
-        put_int(&mut mixed, i * 791 % 1000 - 500)?;
+        put_int(&mut mixed, (i.wrapping_mul(791) % 1000).wrapping_sub(500))?;
         mixed.push(b'\n')?;
     }
     for i in 0..1000_i64 {
