@@ -127,7 +127,7 @@ fn rows_in_any_order_are_one_set(rt: HostRuntime) -> Result<(), Fail> {
         mixed.push(b'\n')?;
     }
     for i in 0..1000_i64 {
-        put_int(&mut sorted, i - 500)?;
+        put_int(&mut sorted, i.wrapping_sub(500))?;
         sorted.push(b'\n')?;
     }
     let rows = read_rows(rt.alloc(), &ints, mixed)?;
