@@ -2,9 +2,10 @@
 may leave of them.
 
 Of a file a loss of power leaves a length between the least and the greatest since its last good sync, and any byte at each
-place that was written since, or that lies past the least length. A sync that fails leaves places that no later sync brings
-to the disk, unless they are written again, as Linux does it. The name of a file or folder may be gone until the folder
-above it is synced.
+place that was written since, or that lies past the least length. A byte that is on the disk is not endangered by being
+written once more as it is: a system writes whole pages, so any write near it does the same. A sync that fails leaves
+places that no later sync brings to the disk, unless they are written again, as Linux does it. The name of a file or
+folder may be gone until the folder above it is synced.
 """
 
 import errno
@@ -33,8 +34,10 @@ class File:
         if grown > 0:
             self.cache += bytes(grown)
             self.places += bytes([DIRTY]) * grown
+        for place, byte in enumerate(data, at):
+            if self.places[place] != CLEAN or self.cache[place] != byte:
+                self.places[place] = DIRTY
         self.cache[at : at + len(data)] = data
-        self.places[at : at + len(data)] = bytes([DIRTY]) * len(data)
         self.pending.append((at, data))
         self.most = max(self.most, len(self.cache))
 
