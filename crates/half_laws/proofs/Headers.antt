@@ -15,7 +15,7 @@ use Rattle.hera_meaning.specs.Catalogues.{decl_name, IsDecl, IsCatalogue}
 use Rattle.hera_meaning.proofs.Names.{same_swap}
 use Rattle.rel_format.specs.Pages.{Format, kind_byte, attr_bytes, decl_bytes, header_of}
 use Rattle.rel_format.specs.Fields.{length_field, width_field, kind_field, count_field, magic_field, new_name}
-use Rattle.rel_format.specs.Table.{Part, at_attr, at_rels, behind_attr, with_attr, with_attrs}
+use Rattle.rel_format.specs.Table.{RelationSoFar, at_attr, at_rels, behind_attr, with_attr, with_attrs}
 use Rattle.rel_format.specs.Places.{Reaches}
 use Rattle.rel_format.proofs.Steps.{to_attr_name, to_kind, behind_kind, to_name, to_width, to_attrs, opened, to_count, to_rels}
 use Rattle.half_laws.proofs.Printing.{behind, magic_printed, count_printed, length_printed, width_printed, name_printed, kind_printed, name_some}
@@ -46,7 +46,7 @@ new_decl xs y ys h = apart (map decl_name xs) y.name (map decl_name ys) (subst A
 -- ---- the walk
 
 module _ (f : Format) (bytes : List ℕ) where
-  attr_read : (at : ℕ) (p : Part) (more : ℕ) (a : Attr) (tail : List ℕ) → IsIdentifier a.name → holds (names_of p.attrs) a.name ≡ false → drop at bytes ≡ attr_bytes a ++ tail →
+  attr_read : (at : ℕ) (p : RelationSoFar) (more : ℕ) (a : Attr) (tail : List ℕ) → IsIdentifier a.name → holds (names_of p.attrs) a.name ≡ false → drop at bytes ≡ attr_bytes a ++ tail →
       Reaches f bytes at (at_attr p more) → Reaches f bytes (at + length (attr_bytes a)) (behind_attr (with_attr p a) more)
   attr_read at p more a tail word new e r =
       let name = a.name in
@@ -60,7 +60,7 @@ module _ (f : Format) (bytes : List ℕ) where
       let place : at + 1 + length name + 1 ≡ at + length (attr_bytes a) = omega (arith, length-append name (kind_byte a.kind ∷ [])) in
       subst (λ (n : ℕ). Reaches f bytes n (behind_attr (with_attr p a) more)) place three
 
-  attrs_read : (at : ℕ) (q : Part) (xs ys : List Attr) (tail : List ℕ) → All IsIdentifier (names_of ys) → AreDistinct (names_of (xs ++ ys)) → drop at bytes ≡ flat_map attr_bytes ys ++ tail →
+  attrs_read : (at : ℕ) (q : RelationSoFar) (xs ys : List Attr) (tail : List ℕ) → All IsIdentifier (names_of ys) → AreDistinct (names_of (xs ++ ys)) → drop at bytes ≡ flat_map attr_bytes ys ++ tail →
       Reaches f bytes at (behind_attr (with_attrs q xs) (length ys)) → Reaches f bytes (at + length (flat_map attr_bytes ys)) (behind_attr (with_attrs q (xs ++ ys)) 0)
   attrs_read at q xs [] tail words apart e r =
       let place : at ≡ at + 0 = omega arith in

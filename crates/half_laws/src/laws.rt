@@ -1,15 +1,17 @@
 //! Laws of the definitions.
-ghost use Rattle.std.specs.Prelude.{◌≡◌, ◌≤◌, ℕ, List, length};
+ghost use Rattle.std.specs.Prelude.{◌≡◌, ◌≤◌, ◌++◌, ℕ, List, length};
 ghost use Rattle.hera_meaning.specs.declared.schemas.RelDecl.{RelDecl};
 ghost use Rattle.hera_meaning.specs.Catalogues.{IsCatalogue};
 ghost use Rattle.hera_meaning.specs.Deltas.{State, IsState};
 ghost use Rattle.rel_format.specs.declared.version.Version.{Version};
-ghost use Rattle.rel_format.specs.Pages.{format_two, pages_of, half_of};
+ghost use Rattle.rel_format.specs.Pages.{Fit, format_two, header_of, pages_of, half_of};
 ghost use Rattle.rel_format.specs.Journal.{IsHalf, half_limit};
 ghost use Rattle.rel_format.specs.Versions.{format_of, version_in, IsHalfOf};
 ghost use Rattle.rel_pages.specs.Halves.{IsDamagedAt};
 ghost use Rattle.commit_journal.specs.Halves.{IsHalfTo, IsDamageOfHalf};
+ghost use Rattle.commit_journal.specs.Places.{Stops};
 ghost use Rattle.half_laws.specs.Formats.{IsFormat};
+ghost use Rattle.half_laws.specs.Behind.{StopsBehindHeader};
 
 /// Each of the two formats is one whose halves are read again.
 pub fn each_version_is_a_format()
@@ -40,4 +42,14 @@ pub fn the_half_of_a_state_is_a_half_with_it()
 pub fn what_is_damaged_is_no_half()
     ensures pages { (bytes : List ℕ) (rels : List RelDecl) (state : State) (at : ℕ) → IsDamagedAt bytes at → ¬ IsHalfOf bytes rels state }
     ensures whole { (bytes : List ℕ) (rels : List RelDecl) (state : State) (at : ℕ) → IsDamageOfHalf (format_of (version_in bytes)) bytes at → ¬ IsHalfOf bytes rels state }
+{}
+
+/// Bytes that begin with a printed header, or with printed pages, and break a rule behind them are no half of either
+/// format, whatever else they might hold.
+pub fn what_breaks_behind_a_printed_front_is_no_half()
+    ensures header { (version : Version) (bytes : List ℕ) (front : List RelDecl) (rest : List ℕ) (at : ℕ) (rels : List RelDecl) (state : State) →
+        IsCatalogue front → bytes ≡ header_of (format_of version) front ++ rest → StopsBehindHeader (format_of version) bytes front at → ¬ IsHalfOf bytes rels state }
+    ensures pages { (version : Version) (bytes : List ℕ) (front : List RelDecl) (paged : State) (rest : List ℕ) (at : ℕ) (rels : List RelDecl) (state : State) →
+        IsCatalogue front → IsState front paged → Fit (format_of version).page paged → bytes ≡ pages_of (format_of version) front paged ++ rest →
+        Stops front bytes (length (pages_of (format_of version) front paged)) at → ¬ IsHalfOf bytes rels state }
 {}

@@ -5,7 +5,7 @@ use Rattle.std.specs.List.{flat_map}
 use Rattle.std.proofs.Math.Numerals.{add-one}
 use Rattle.std.proofs.lemmas.List.{length-append, append-nil}
 use Rattle.hera_sets.specs.Rows.{Row}
-use Rattle.rel_format.specs.Pages.{paged, joined, page_bytes, rel_bytes}
+use Rattle.rel_format.specs.Pages.{FitsIn, paged, joined, page_bytes, rel_bytes}
 use Rattle.rel_format.proofs.Good.{joined-push}
 use Rattle.half_writer.specs.declared.open_page.OpenPage.{OpenPage}
 use Rattle.half_writer.specs.declared.pages.HalfFault.{HalfFault}
@@ -52,7 +52,7 @@ size_more page k = ap (pages_size page) (add-one k)
 
 -- the open page is closed in front of a row for which it has no room
 pub turns : (t : Task) (row : Row) (rest : List Row) (bytes new : List ℕ) (page next : OpenPage) (p : IsPaging t (row ∷ rest) bytes page)
-    → length row ≤ 16384 → 4 + length page.rows.items ≤ PAGE_TWO → PAGE_TWO < 4 + length page.rows.items + length row
+    → FitsIn PAGE_TWO row → 4 + length page.rows.items ≤ PAGE_TWO → PAGE_TWO < 4 + length page.rows.items + length row
     → new ≡ bytes ++ page_bytes PAGE_TWO t.rel p.held → length new ≡ length bytes + PAGE_TWO
     → next.rows.items ≡ [] → next.count ≡ 0 → next.before ≡ page.before + 1 → IsPaging t (row ∷ rest) new next
 turns t row rest bytes new page next p short fits over grown longer rows count before =

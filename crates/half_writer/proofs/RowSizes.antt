@@ -13,6 +13,8 @@ use Rattle.hera_meaning.specs.declared.schemas.Attr.{Attr}
 use Rattle.hera_meaning.specs.Scalars.{is_scalar, is_tuple}
 use Rattle.hera_meaning.specs.Schemas.{IsSchema}
 use Rattle.hera_meaning.specs.Rows.{IsRow, row_of, field_bytes, shifted}
+use Rattle.rel_format.specs.declared.version.TheConstants.{PAGE_TWO}
+use Rattle.rel_format.specs.Pages.{FitsIn}
 use Rattle.hera_row.proofs.FieldLemmas.{text_tests}
 use Rattle.hera_row.proofs.Numbers.{length-to_be_bytes}
 use Rattle.hera_row.proofs.RowLemmas.{first_field}
@@ -43,7 +45,7 @@ tuple_size (a ∷ attrs) (s ∷ rest) h =
 -- a row of a schema has a byte at least, and fits into a page
 pub record FitsPage (row : List ℕ) : Type 0 where
   pub some : 1 ≤ length row
-  pub few : length row ≤ 16384
+  pub few : FitsIn PAGE_TWO row
 
 pub fits_page : (schema : List Attr) (row : List ℕ) → IsSchema schema → IsRow schema row → FitsPage row
 fits_page schema row valid h =

@@ -2,7 +2,7 @@
 ghost use Rattle.std.specs.Prelude.{◌≡◌, ◌≤◌, ◌<◌, ◌+◌, ◌^◌, ◌++◌, ◌∷◌, [], List, ℕ, length, IfOk, IfErr, OnOk, OnErr};
 ghost use Rattle.rel_format.specs.declared.version.TheConstants.{HALF_LIMIT, PAGE_TWO};
 ghost use Rattle.hera_sets.specs.Rows.{Row};
-ghost use Rattle.rel_format.specs.Pages.{paged, rel_bytes, page_bytes, joined};
+ghost use Rattle.rel_format.specs.Pages.{FitsIn, paged, rel_bytes, page_bytes, joined};
 ghost use Rattle.half_writer.specs.Written.{AreRows, IsFullAt, IsFirstFull};
 ghost use Rattle.half_writer.specs.Paging.{Task, IsPaging, IsPut};
 
@@ -57,7 +57,7 @@ fn put_row(
     limit: u64,
 ) -> Result<OpenPage, HalfFault>
     requires some { 1 ≤ length row.now }
-    requires short { length row.now ≤ 16384 }
+    requires short { FitsIn PAGE_TWO row.now }
     requires room { head + length bytes.old.items ≤ limit }
     requires limit { limit ≤ HALF_LIMIT }
     requires before { page.before ≤ length bytes.old.items }

@@ -1,19 +1,19 @@
 -- A commit: what a crash leaves while its record is sealed, and for what the store stands afterwards.
-use Rattle.std.proofs.Common.{◌≡◌, ◌≢◌, ◌≤◌, ◌⊎◌, inl, inr, max, ℕ, ◌+◌, false, List, [], ◌∷◌, ◌++◌, Option, Some, length, take, refl, sym, ap, subst, ◌∙◌, arith}
-use Rattle.hera_meaning.specs.Commits.{after_all, IsCommitOf}
+use Rattle.std.proofs.Common.{◌≡◌, ◌≢◌, ◌≤◌, inl, inr, max, ℕ, ◌+◌, false, List, [], ◌∷◌, ◌++◌, Option, length, take, refl, sym, ap, subst, ◌∙◌, arith}
+use Rattle.hera_meaning.specs.Commits.{after_all}
 use Rattle.hera_meaning.specs.Deltas.{Delta, State, fail, atoms, IsDelta, IsDeltaOf, is_fail, apply_of}
 use Rattle.delta_atoms.specs.Atoms.{atoms_in}
-use Rattle.hera_volume.specs.Disk.{Disk, IsImage, IsSettled}
+use Rattle.hera_volume.specs.Disk.{Disk, IsSettled}
 use Rattle.hera_volume.specs.Time.{Image}
 use Rattle.hera_volume.specs.declared.file_id.FileId.{FileId}
-use Rattle.hera_volume.specs.declared.file_id.FileId.TheVariants.{Select, Left, Right}
+use Rattle.hera_volume.specs.declared.file_id.FileId.TheVariants.{Select}
 use Rattle.rel_format.specs.Versions.{format_of, IsHalfOf}
 use Rattle.rel_format.specs.Journal.{IsRecordOf, record_of, half_limit}
 use Rattle.commit_journal.specs.Gate.{IsReady, IsWith, IsBeforeOrAfter}
 use Rattle.commit_journal.specs.Prepare.{need_of}
 use Rattle.commit_journal.specs.Halves.{IsHalfTo}
 use Rattle.commit_journal.proofs.Halves.{half_either, half_with, half_ready, has_record}
-use Rattle.hera_store.specs.Databases.{Database, half_named, Holds}
+use Rattle.hera_store.specs.Databases.{Holds}
 use Rattle.hera_store.specs.Standing.{Standing, StandsFor, database_of, database_after}
 use Rattle.hera_store.specs.Moments.{IsEither}
 use Rattle.hera_meaning.proofs.CommitLaws.{state_push}

@@ -1,22 +1,21 @@
 -- The half of a database without rows.
-use Rattle.std.proofs.Common.{◌≡◌, ◌≢◌, ◌≤◌, ℕ, suc, ◌+◌, ◌*◌, List, [], ◌∷◌, ◌++◌, map, length, refl, sym, ap, subst, ◌∙◌, append_assoc, append-nil, arith}
+use Rattle.std.proofs.Common.{◌≡◌, ◌≤◌, ℕ, ◌+◌, ◌*◌, List, [], ◌∷◌, ◌++◌, length, refl, sym, ap, subst, ◌∙◌, append_assoc, arith}
 use Rattle.std.specs.Prelude.{All, replicate}
 use Rattle.std.specs.Int.{to_be_bytes, w16}
 use Rattle.std.specs.List.{flat_map}
 use Rattle.std.proofs.lemmas.List.{length-append}
-use Rattle.std.proofs.lemmas.List.Elements.{All-nil, All-head, All-tail}
+use Rattle.std.proofs.lemmas.List.Elements.{All-head, All-tail}
 use Rattle.hera_meaning.specs.declared.schemas.Attr.{Attr}
 use Rattle.hera_meaning.specs.declared.schemas.RelDecl.{RelDecl}
 use Rattle.hera_meaning.specs.Identifiers.{IsIdentifier}
 use Rattle.hera_meaning.specs.Schemas.{names_of}
 use Rattle.hera_meaning.specs.Catalogues.{IsCatalogue, IsDecl}
-use Rattle.hera_meaning.specs.Deltas.{State, IsState}
-use Rattle.rel_format.specs.Pages.{Format, format_two, kind_byte, attr_bytes, decl_bytes, header_of, pages_of, half_of}
+use Rattle.rel_format.specs.Pages.{format_two, kind_byte, attr_bytes, decl_bytes, header_of, half_of}
 use Rattle.rel_format.specs.Journal.{half_limit}
 use Rattle.rel_format.specs.Versions.{IsHalfOf}
 use Rattle.rel_format.specs.declared.version.Version.TheVariants.{Two}
 use Rattle.half_laws.proofs.Halves.{half_of_is}
-use Rattle.rel_pages.specs.declared.parts.Part.{Part}
+use Rattle.rel_pages.specs.declared.parts.RelationPages.{RelationPages}
 use Rattle.rel_pages.specs.Stored.{empty_state}
 use Rattle.rel_pages.proofs.States.{empty_is_state}
 use Rattle.rel_pages.proofs.Bases.{empty_is}
@@ -54,7 +53,7 @@ header_length rels valid =
 pub empty_half_is : (rels : List RelDecl) (header bytes : List ℕ) → IsCatalogue rels → header ≡ header_of format_two rels → bytes ≡ header ++ 0 ∷ 0 ∷ 0 ∷ 0 ∷ 0 ∷ [] → bytes ≡ half_of format_two rels (empty_state rels)
 empty_half_is rels header bytes valid head is =
     let front : List ℕ = header ++ 0 ∷ 0 ∷ 0 ∷ 0 ∷ [] in
-    let none : Part = record { at = length front; len = 0 } in
+    let none : RelationPages = record { at = length front; len = 0 } in
     (empty_is rels (replicate (length rels) none) header front bytes (length front) (length rels) valid head refl refl (is ∙ sym (append_assoc header (0 ∷ 0 ∷ 0 ∷ 0 ∷ []) (0 ∷ []))) refl refl).printed
 
 pub empty_half_valid : (rels : List RelDecl) (header bytes : List ℕ) → IsCatalogue rels → header ≡ header_of format_two rels → bytes ≡ header ++ 0 ∷ 0 ∷ 0 ∷ 0 ∷ 0 ∷ [] → IsHalfOf bytes rels (empty_state rels)

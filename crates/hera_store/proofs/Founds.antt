@@ -1,11 +1,10 @@
 -- What is found in files is one thing.
-use Rattle.std.proofs.Common.{◌≡◌, ◌≢◌, ◌≤◌, ◌<◌, ◌⊎◌, inl, inr, ℕ, List, [], ◌∷◌, length, refl, sym, ap, subst, ◌∙◌, arith}
+use Rattle.std.proofs.Common.{◌≡◌, inl, inr, ℕ, List, [], ◌∷◌, length, refl, sym, ap, subst, ◌∙◌, arith}
 use Rattle.hera_volume.specs.declared.file_id.FileId.{FileId}
 use Rattle.hera_volume.specs.declared.file_id.FileId.TheVariants.{Select}
 use Rattle.rel_format.specs.Versions.{IsHalfOf}
-use Rattle.rel_format.specs.Journal.{half_limit}
 use Rattle.half_laws.proofs.Halves.{one_content_of, damaged_is_none_of}
-use Rattle.hera_store.specs.Databases.{Database, half_named, Names, Holds, IsDamagedHalf, IsDamaged, Found, absent, spoilt, held, IsFound}
+use Rattle.hera_store.specs.Databases.{Database, half_named, Names, Holds, IsDamagedHalf, IsDamaged, FilesFound, absent, spoilt, held, IsFound}
 
 -- one half is named
 named_one : (bytes : List ℕ) (x : ℕ) (half : FileId) → bytes ≡ x ∷ [] → Names bytes half → half_named x ≡ half
@@ -67,7 +66,7 @@ damaged_one files f g a b (inr x) (inr y) =
     let place : a ≡ b = damaged_half_one (files g) a b (subst (λ (h : FileId). IsDamagedHalf (files h) a) file x.1) y.1 in
     ap (λ (h : FileId). spoilt h a) file ∙ ap (spoilt g) place
 
-pub found_one : (files : FileId → List ℕ) (x y : Found) → IsFound files x → IsFound files y → x ≡ y
+pub found_one : (files : FileId → List ℕ) (x y : FilesFound) → IsFound files x → IsFound files y → x ≡ y
 found_one files absent absent p q = refl
 found_one files absent (spoilt f a) p q = absurd (absent_damaged files f a p q)
 found_one files absent (held db) p q = absurd (absent_held files db p q)

@@ -7,3 +7,4 @@ pub mod Fillings
 pub mod Printings
 pub mod Renewals
 pub mod Founds
+pub mod Readings

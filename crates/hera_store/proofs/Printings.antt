@@ -1,14 +1,13 @@
 -- The half of a database, printed relation after relation.
-use Rattle.std.proofs.Common.{◌≡◌, ◌≤◌, ◌<◌, ◌⊎◌, inl, inr, ℕ, zero, suc, ◌+◌, ◌*◌, List, [], ◌∷◌, ◌++◌, Option, None, Some, length, take, refl, sym, ap, subst, ◌∙◌, arith, append-nil}
+use Rattle.std.proofs.Common.{◌≡◌, ◌≤◌, ◌⊎◌, inl, inr, ℕ, zero, suc, ◌+◌, ◌*◌, List, [], ◌∷◌, ◌++◌, None, Some, length, take, refl, sym, ap, subst, ◌∙◌, arith, append-nil}
 use Rattle.std.specs.Prelude.{All, slice_get}
 use Rattle.std.specs.List.{flat_map}
 use Rattle.std.specs.Int.{to_be_bytes, w32}
 use Rattle.std.proofs.lemmas.List.{length-append, take_all}
-use Rattle.std.proofs.lemmas.List.Elements.{All-head, All-tail, All-weaker}
+use Rattle.std.proofs.lemmas.List.Elements.{All-head, All-tail}
 use Rattle.hera_meaning.specs.Commits.{after_all}
 use Rattle.hera_sets.specs.Rows.{Row}
 use Rattle.hera_meaning.specs.declared.schemas.RelDecl.{RelDecl}
-use Rattle.hera_meaning.specs.Rows.{IsRow}
 use Rattle.hera_meaning.specs.Catalogues.{IsDecl}
 use Rattle.hera_meaning.specs.Deltas.{Delta, State, IsState, apply_of}
 use Rattle.rel_format.specs.declared.version.TheConstants.{PAGE_TWO}
@@ -23,7 +22,7 @@ use Rattle.half_laws.proofs.Pagings.{paged_pages}
 use Rattle.half_laws.proofs.Halves.{fit_of}
 use Rattle.when_overlay.specs.Changed.{after_all as seen_after}
 use Rattle.hera_store.specs.Databases.{Database}
-use Rattle.hera_store.specs.Faults.{IsFirstNeed, IsPrintRefusal, check_fault, half_with}
+use Rattle.hera_store.specs.Faults.{IsPrintRefusal, check_fault, half_with}
 
 -- ---- the rows of one relation
 

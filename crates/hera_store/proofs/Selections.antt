@@ -1,14 +1,13 @@
 -- What a crash leaves while a half or `select` is written.
 use Rattle.std.proofs.Common.{◌≡◌, ◌≢◌, ◌≤◌, ◌⊎◌, inl, inr, ◌==◌, ℕ, Bool, true, false, cond, List, [], ◌∷◌, Option, Some, length, refl, sym, ap, subst, ◌∙◌, arith}
 use Rattle.std.specs.Io.KnownBytes.{Keeps}
-use Rattle.hera_volume.specs.Disk.{Disk, IsImage, IsSettled, after_write, after_sync}
+use Rattle.hera_volume.specs.Disk.{Disk, IsImage, IsSettled, after_write}
 use Rattle.hera_volume.specs.Time.{Image, IsImageIn, IsImageBut}
 use Rattle.hera_volume.specs.declared.file_id.FileId.{FileId}
 use Rattle.hera_volume.specs.declared.file_id.FileId.TheVariants.{Select, Left, Right}
 use Rattle.hera_volume.proofs.Images.{image-settled}
 use Rattle.rel_format.specs.Versions.{IsHalfOf}
 use Rattle.hera_store.specs.Databases.{Database, half_named, Names, Holds}
-use Rattle.hera_store.specs.Standing.{other_half, select_byte}
 use Rattle.hera_store.specs.Moments.{IsStill, IsNoneOr}
 
 -- ---- the halves that are named

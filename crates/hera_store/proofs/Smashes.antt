@@ -1,12 +1,12 @@
 -- The smash of deltas, one after another, and the commits of a journal.
-use Rattle.std.proofs.Common.{◌≡◌, ◌<◌, ◌≤◌, ◌⊎◌, inl, inr, ℕ, ◌+◌, false, List, [], ◌∷◌, ◌++◌, map, length, take, get_or, refl, sym, ap, subst, ◌∙◌, arith}
+use Rattle.std.proofs.Common.{◌≡◌, inl, inr, ℕ, ◌+◌, List, [], ◌∷◌, ◌++◌, map, refl, sym, ap, subst, ◌∙◌, arith}
 use Rattle.std.specs.Prelude.{All}
-use Rattle.std.proofs.lemmas.List.Elements.{All-nil, All-cons, All-head, All-tail, All-get_or}
+use Rattle.std.proofs.lemmas.List.Elements.{All-nil, All-cons, All-head, All-tail}
 use Rattle.hera_meaning.specs.Commits.{after_all, IsCommitOf, IsSmashOf}
 use Rattle.hera_meaning.specs.declared.schemas.RelDecl.{RelDecl}
-use Rattle.hera_meaning.specs.Deltas.{Atom, Delta, State, IsState, atoms, smash_of, apply_of}
+use Rattle.hera_meaning.specs.Deltas.{Atom, Delta, State, atoms, smash_of, apply_of}
 use Rattle.hera_meaning.proofs.DeltaLaws.{apply_of-smash_of}
-use Rattle.rel_format.specs.Journal.{IsRecordOf, half_limit}
+use Rattle.rel_format.specs.Journal.{IsRecordOf}
 use Rattle.rel_format.specs.Pages.{Format}
 use Rattle.rel_format.specs.Versions.{format_of, version_in}
 use Rattle.rel_pages.specs.Stored.{Stored}

@@ -45,13 +45,13 @@ IsDamaged files file at = ((1 < length (files Select)) × (file ≡ Select) × (
 
 -- ---- what an opening finds
 
-pub data Found : Type 0 where
-  absent : Found
-  spoilt : FileId → ℕ → Found
-  held : Database → Found
+pub data FilesFound : Type 0 where
+  absent : FilesFound
+  spoilt : FileId → ℕ → FilesFound
+  held : Database → FilesFound
 
 -- no database, where `select` is empty; damage at a place of a file; or a database
-abbrev pub IsFound : (FileId → List ℕ) → Found → Type 0
+abbrev pub IsFound : (FileId → List ℕ) → FilesFound → Type 0
 IsFound files absent = files Select ≡ []
 IsFound files (spoilt file at) = IsDamaged files file at
 IsFound files (held db) = Holds files db

@@ -36,3 +36,10 @@ pub record LeavesOnceSettled {D : Type 0} (disk : D → FileId → Disk) (emitte
   pub before : IsUntouched disk emitted moment left_since old between
   pub settled : (between ≡ new) ⊎ IsSettled (disk between Select)
   pub behind : LeavesOnly moment left_since between new P
+
+-- The same with all files settled from the moment between on.
+pub record LeavesOnceSynced {D : Type 0} (disk : D → FileId → Disk) (emitted : D → Option (List ℕ)) (moment : D → ℕ) (left_since : D → ℕ → Image → Type 0) (old new : D) (P : Image → Type 0) : Type 0 where
+  pub between : D
+  pub before : IsUntouched disk emitted moment left_since old between
+  pub settled : (between ≡ new) ⊎ ((f : FileId) → IsSettled (disk between f))
+  pub behind : LeavesOnly moment left_since between new P

@@ -1,8 +1,8 @@
 -- What contracts see of a store, and when it stands for the files.
-use Rattle.std.specs.Prelude.{◌≡◌, ◌+◌, ℕ, Bool, false, List, [], ◌∷◌, ◌++◌, length, All}
+use Rattle.std.specs.Prelude.{◌≡◌, ◌+◌, ℕ, Bool, List, [], ◌∷◌, ◌++◌, length, All}
 use Rattle.hera_meaning.specs.Commits.{after_all, IsCommitOf}
 use Rattle.hera_meaning.specs.declared.schemas.RelDecl.{RelDecl}
-use Rattle.hera_meaning.specs.Deltas.{Delta, State, IsState, IsDeltaOf, is_fail, apply_of}
+use Rattle.hera_meaning.specs.Deltas.{Delta, State, IsState}
 use Rattle.delta_atoms.specs.Atoms.{atoms_in}
 use Rattle.hera_volume.specs.Disk.{Disk, IsSettled}
 use Rattle.hera_volume.specs.declared.file_id.FileId.{FileId}

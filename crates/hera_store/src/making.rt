@@ -1,5 +1,5 @@
 //! Databases made.
-ghost use Rattle.std.specs.Prelude.{◌≡◌, ◌≢◌, ◌≤◌, ◌∷◌, [], Err, OnOk, IfOk};
+ghost use Rattle.std.specs.Prelude.{◌≡◌, ◌≢◌, ◌≤◌, ◌⊎◌, ◌∷◌, [], Err, OnOk, IfOk};
 ghost use Rattle.hera_causes.specs.Causes.{HasCause, Rose};
 ghost use Rattle.hera_volume.specs.Disk.{IsSettled};
 ghost use Rattle.hera_volume.specs.Time.{LeavesOnly};
@@ -62,6 +62,9 @@ pub fn init_store<W: Outside>(
     // Once `select` is synced, no database is found or the empty one.
     ensures any_moment { W.told → (W.disk outside.old Select).bytes ≡ [] →
         LeavesOnceSettled W.disk W.emitted W.moment W.left_since outside.old outside.new (IsNoneOr (empty_database catalogue.now) (W.emitted outside.old)) }
+    // The same is found of the files as they read, at every answer.
+    ensures reads { W.told → (W.disk outside.old Select).bytes ≡ [] →
+        ((W.disk outside.new Select).bytes ≡ []) ⊎ Holds (λ f. (W.disk outside.new f).bytes) (empty_database catalogue.now) }
     ensures emitted { W.emitted outside.new ≡ W.emitted outside.old }
     ensures output { W.output_faults outside.new ≡ W.output_faults outside.old }
     ensures device { result ≡ Err InitFault.Device → Rose (W.device_faults outside.old) (W.device_faults outside.new) }

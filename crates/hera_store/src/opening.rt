@@ -14,6 +14,7 @@ ghost use Rattle.rel_pages.specs.Halves.{IsPages};
 ghost use Rattle.commit_journal.specs.Halves.{HasPages, IsHalfTo, IsDamageOfHalf};
 ghost use Rattle.hera_store.specs.Databases.{IsFound, absent, spoilt, held, half_named, Names, IsDamagedHalf};
 ghost use Rattle.hera_store.specs.Standing.{StandsFor, AreAsGood, database_of};
+ghost use Rattle.hera_store.specs.Moments.{LeavesOnceSynced};
 
 use crate::files::sync_files;
 use crate::{OpenFault, Store};
@@ -60,11 +61,14 @@ pub fn open_store<W: Outside>(alloc: Global, outside: &mut W) -> Result<Store, O
     ensures open { IfOk result (λ store. store.closed ≡ false) }
     ensures one { IfOk result (λ store. length store.commits ≤ 1) }
     ensures state { IfOk result (λ store. IsState store.base.catalogue (database_of store).state) }
+    ensures read { W.told → IfOk result (λ store. store.base.bytes ≡ (W.disk outside.old store.half).bytes) }
     // Only syncs change what a crash leaves, and all files were synced unless one failed.
     ensures synced { W.told → result ≢ Err OpenFault.Device → (f : FileId) → IsSettled (W.disk outside.new f) }
     ensures reads { W.told → (f : FileId) → (W.disk outside.new f).bytes ≡ (W.disk outside.old f).bytes }
     ensures within { W.told → (f : FileId) → Within (W.disk outside.new f) (W.disk outside.old f) }
     ensures any_moment { W.told → LeavesOnly W.moment W.left_since outside.old outside.new (IsImageOf (W.disk outside.old) (W.emitted outside.old)) }
+    // From the end of the syncs on a crash leaves what a crash at the end may leave.
+    ensures moments { W.told → LeavesOnceSynced W.disk W.emitted W.moment W.left_since outside.old outside.new (IsImageOf (W.disk outside.new) (W.emitted outside.new)) }
     ensures emitted { W.emitted outside.new ≡ W.emitted outside.old }
     ensures output { W.output_faults outside.new ≡ W.output_faults outside.old }
     ensures device { result ≡ Err OpenFault.Device → Rose (W.device_faults outside.old) (W.device_faults outside.new) }
@@ -146,6 +150,7 @@ fn read_file<W: Outside>(alloc: Global, outside: &mut W, half: FileId) -> Result
 fn store_of(alloc: Global, half: FileId, bytes: Vec<u8>) -> Result<Store, OpenFault>
     ensures held { IfOk result (λ store. IsHalfTo (format_of store.base.version) bytes.items store.base.catalogue (after_all store.base.state store.commits) store.end) }
     ensures half { IfOk result (λ store. store.half ≡ half) }
+    ensures read { IfOk result (λ store. store.base.bytes ≡ bytes.items) }
     ensures open { IfOk result (λ store. store.closed ≡ false) }
     ensures one { IfOk result (λ store. length store.commits ≤ 1) }
     ensures state { IfOk result (λ store. IsState store.base.catalogue (after_all store.base.state store.commits)) }

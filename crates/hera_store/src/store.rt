@@ -1,5 +1,5 @@
 //! Stores: databases that are open.
-ghost use Rattle.std.specs.Prelude.{◌≡◌, ◌≢◌, ◌≤◌, ◌++◌, [], ◌∷◌, false, true, Some, Err, OnOk, OnErr, IfOk, IfErr, IfSome, ◌+◌, take, length, All};
+ghost use Rattle.std.specs.Prelude.{◌≡◌, ◌≢◌, ◌≤◌, ◌⊎◌, ◌++◌, [], ◌∷◌, false, true, Some, Err, OnOk, OnErr, IfOk, IfErr, IfSome, ◌+◌, take, length, All};
 ghost use Rattle.hera_meaning.specs.Commits.{IsCommitOf};
 ghost use Rattle.hera_causes.specs.Causes.{Rose};
 ghost use Rattle.hera_meaning.specs.Deltas.{is_fail, IsDelta, IsDeltaOf, IsState};
@@ -143,6 +143,8 @@ impl Store {
         // At each moment the database is the one before or the one after.
         ensures any_moment { W.told → self.old.closed ≡ false → LeavesOnly W.moment W.left_since outside.old outside.new
             (IsEither (database_of self.old) (database_after self.old delta) (W.emitted outside.old)) }
+        // That is what the files hold as they read too, at every answer.
+        ensures reads { W.told → self.old.closed ≡ false → Holds (λ f. (W.disk outside.new f).bytes) (database_of self.old) ⊎ Holds (λ f. (W.disk outside.new f).bytes) (database_after self.old delta) }
         ensures emitted { W.emitted outside.new ≡ W.emitted outside.old }
         ensures output { W.output_faults outside.new ≡ W.output_faults outside.old }
         ensures device { result ≡ Err CommitFault.Device → Rose (W.device_faults outside.old) (W.device_faults outside.new) }
@@ -191,6 +193,8 @@ impl Store {
         // At each moment the database is the same.
         ensures any_moment { W.told → self.closed ≡ false → LeavesOnly W.moment W.left_since outside.old outside.new
             (IsStill (database_of self) (W.emitted outside.old)) }
+        // The files hold it as they read too, at every answer.
+        ensures reads { W.told → self.closed ≡ false → Holds (λ f. (W.disk outside.new f).bytes) (database_of self) }
         ensures emitted { W.emitted outside.new ≡ W.emitted outside.old }
         ensures output { W.output_faults outside.new ≡ W.output_faults outside.old }
         ensures device { result ≡ Err CheckFault.Device → Rose (W.device_faults outside.old) (W.device_faults outside.new) }

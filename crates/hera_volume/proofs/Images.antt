@@ -1,8 +1,8 @@
 -- What a crash may leave of a file after one change.
-use Rattle.std.proofs.Common.{◌≡◌, inl, inr, ℕ, ◌+◌, ◌-◌, ◌<◌, ◌≤◌, max, List, ◌++◌, length, get_or, take, drop, refl, sym, ap, subst, ◌∙◌, arith, length-take, length-drop, length-append}
+use Rattle.std.proofs.Common.{◌≡◌, inl, inr, ℕ, ◌+◌, ◌-◌, ◌<◌, ◌≤◌, min, max, List, ◌++◌, length, get_or, take, drop, refl, sym, ap, subst, ◌∙◌, arith, length-take, length-drop, length-append}
 use Rattle.std.proofs.lemmas.List.{ext_get_or, get_or-take, get_or-drop, get_or_append_left, get_or-append_right}
 use Rattle.std.proofs.lemmas.Bool.{cases_lt}
-use Rattle.hera_volume.specs.Disk.{Disk, IsIn, IsOutside, IsImage, IsSettled, IsSound, Within, after_write, after_cut, after_sync, splice}
+use Rattle.hera_volume.specs.Disk.{Disk, IsIn, IsOutside, IsImage, IsSettled, IsSound, Within, after_write, after_cut, after_sync, bounded, splice}
 
 -- a settled file has one image
 pub image-settled : (d : Disk) (c : List ℕ) → IsSettled d → IsImage d c → c ≡ d.bytes
@@ -113,6 +113,19 @@ sound-cut d n fits sound = record {
   floor = omega (arith, sound.floor, length-take n d.bytes);
   ceiling = omega (arith, sound.ceiling, length-take n d.bytes);
 }
+
+-- within its bounds a file is as it is
+pub bounded-sound : (d : Disk) → IsSound d → bounded d ≡ d
+bounded-sound d sound =
+    let low : min d.floor (length d.bytes) ≡ d.floor = omega (arith, sound.floor) in
+    let high : max d.ceiling (length d.bytes) ≡ d.ceiling = omega (arith, sound.ceiling) in
+    λ i. record { bytes = d.bytes; floor = low i; ceiling = high i; written = d.written }
+
+pub sound-bounded : (d : Disk) → IsSound (bounded d)
+sound-bounded d = record { floor = omega arith; ceiling = omega arith }
+
+pub sound-synced : (d : Disk) → IsSound (after_sync d)
+sound-synced d = record { floor = omega arith; ceiling = omega arith }
 
 -- a sync leaves one of the images that were possible
 pub synced-within : (d : Disk) → IsSound d → Within (after_sync d) d

@@ -35,6 +35,10 @@ pub record IsSound (d : Disk) : Type 0 where
   pub floor : d.floor ≤ length d.bytes
   pub ceiling : length d.bytes ≤ d.ceiling
 
+-- a disk whose bounds are set to its length where that lies outside of them
+abbrev pub bounded : Disk → Disk
+bounded d = record { bytes = d.bytes; floor = min d.floor (length d.bytes); ceiling = max d.ceiling (length d.bytes); written = d.written }
+
 -- the bytes with a piece put over them at a place
 abbrev pub splice : List ℕ → ℕ → List ℕ → List ℕ
 splice bytes at piece = take at bytes ++ piece ++ drop (at + length piece) bytes

@@ -2,7 +2,7 @@
 use Rattle.std.specs.Prelude.{◌≡◌, ℕ, List, [], ◌∷◌, ◌++◌, length, take, Vec}
 use Rattle.std.specs.declared.alloc.Global.{Global}
 use Rattle.hera_volume.specs.Disk.{Disk}
-use Rattle.hera_volume.specs.Files.{disk_in, with_disk}
+use Rattle.hera_volume.specs.Files.{kept_in, with_disk}
 use Rattle.hera_volume.specs.declared.file_id.FileId.{FileId}
 use Rattle.hera_volume.specs.declared.mem_files.Past.TheVariants.{Changed, Emitted}
 use Rattle.hera_volume.specs.declared.mem_outside.MemOutside.{MemOutside}
@@ -10,7 +10,7 @@ use Rattle.hera_volume.specs.declared.mem_outside.MemOutside.{MemOutside}
 abbrev pub IsChanged : MemOutside → MemOutside → FileId → Disk → Type 0
 IsChanged a b which disk =
     (b.files ≡ with_disk a.files which disk)
-    × (b.past.items ≡ a.past.items ++ Changed which (disk_in a.files which) ∷ [])
+    × (b.past.items ≡ a.past.items ++ Changed which (kept_in a.files which) ∷ [])
     × (b.bytes.items ≡ a.bytes.items)
 
 abbrev pub IsKept : MemOutside → MemOutside → Type 0

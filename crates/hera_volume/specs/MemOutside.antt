@@ -2,11 +2,11 @@
 use Rattle.std.specs.Prelude.{◌≡◌, ◌≢◌, ◌⊎◌, ℕ, ◌+◌, ◌-◌, ◌^◌, ◌≤◌, min, List, length, drop, Option, Some}
 use Rattle.hera_causes.specs.Causes.{Rose}
 use Rattle.hera_volume.specs.Plan.{MayGo}
-use Rattle.hera_volume.specs.Disk.{Disk}
+use Rattle.hera_volume.specs.Disk.{Disk, IsImage}
 use Rattle.hera_volume.specs.Time.{Image, IsImageOf, EmitsOnly}
 use Rattle.hera_volume.specs.Files.{disk_in}
 use Rattle.hera_volume.specs.Past.{LeftSince, only_now_in}
-use Rattle.std.proofs.Common.{inl}
+use Rattle.std.proofs.Common.{inl, refl, arith}
 use Rattle.hera_volume.specs.Emits.{EmitsOnly-none, EmitsOnly-on}
 use Rattle.hera_causes.specs.declared.piece.Piece.{Piece}
 use Rattle.hera_volume.specs.declared.file_id.FileId.{FileId}
@@ -76,17 +76,20 @@ pub record mem_failed_by (a b : MemOutside) (which : FileId) (d : Disk) : Type 0
   pub kept : mem_stop a ≢ Some (mem_calls a) → mem_disk b which ≡ mem_disk a which
   pub stopped : mem_stop a ≡ Some (mem_calls a) → (mem_disk b which ≡ d) ⊎ ((mem_disk b which ≡ mem_disk a which) × Rose (mem_starved a) (mem_starved b))
 
-abbrev pub mem_passed : MemOutside → MemOutside → List ℕ → ℕ → Type 0
-mem_passed a b piece n = EmitsOnly (Unit {0}) mem_disk mem_emitted mem_moment mem_left_since mem_device_faults mem_output_faults a b piece n
-
-pub mem_passed-none : (a : MemOutside) (piece : List ℕ) → mem_passed a a piece 0
-mem_passed-none = EmitsOnly-none (Unit {0}) mem_disk mem_emitted mem_moment mem_left_since mem_device_faults mem_output_faults
-
-pub mem_passed-on : (a b c : MemOutside) (piece : List ℕ) (n m : ℕ) → mem_passed a b piece n → mem_passed b c (drop n piece) m → mem_passed a c piece (n + m)
-mem_passed-on = EmitsOnly-on (Unit {0}) mem_disk mem_emitted mem_moment mem_left_since mem_device_faults mem_output_faults
-
 pub mem_only_now : (a : MemOutside) (c : Image) → Unit {0} → mem_left_since a (mem_moment a) c → IsImageOf (mem_disk a) (mem_emitted a) c
 mem_only_now a c told = only_now_in a.past.items a.files a.bytes.items c
 
 pub mem_counts_now : (a : MemOutside) (t : ℕ) (c : Image) → Unit {0} → t ≤ mem_moment a → IsImageOf (mem_disk a) (mem_emitted a) c → mem_left_since a t c
 mem_counts_now a t c told le now = inl now
+
+abbrev pub mem_passed : MemOutside → MemOutside → List ℕ → ℕ → Type 0
+mem_passed a b piece n = EmitsOnly (Unit {0}) mem_disk mem_emitted mem_moment mem_left_since mem_device_faults mem_output_faults a b piece n
+
+pub mem_passed-none : (a : MemOutside) (piece : List ℕ) → mem_passed a a piece 0
+mem_passed-none = EmitsOnly-none (Unit {0}) mem_disk mem_emitted mem_moment mem_left_since mem_device_faults mem_output_faults mem_only_now mem_counts_now
+
+pub mem_passed-on : (a b c : MemOutside) (piece : List ℕ) (n m : ℕ) → mem_passed a b piece n → mem_passed b c (drop n piece) m → mem_passed a c piece (n + m)
+mem_passed-on = EmitsOnly-on (Unit {0}) mem_disk mem_emitted mem_moment mem_left_since mem_device_faults mem_output_faults
+
+pub mem_as_read : (a : MemOutside) (f : FileId) → Unit {0} → IsImage (mem_disk a f) (mem_disk a f).bytes
+mem_as_read a f told = record { no_shorter = omega arith; no_longer = omega arith; kept = λ k lt clean. refl }

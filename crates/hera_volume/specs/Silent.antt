@@ -25,7 +25,7 @@ module _ {D : Type 0} (device_faults output_faults : D → ℕ) where
   EmitsSilent a b piece n = EmitsOnly ⊥ untold_disk untold_bytes untold_moment untold_left device_faults output_faults a b piece n
 
   pub EmitsSilent-none : (a : D) (piece : List ℕ) → EmitsOnly ⊥ untold_disk untold_bytes untold_moment untold_left device_faults output_faults a a piece 0
-  EmitsSilent-none = EmitsOnly-none ⊥ untold_disk untold_bytes untold_moment untold_left device_faults output_faults
+  EmitsSilent-none = EmitsOnly-none ⊥ untold_disk untold_bytes untold_moment untold_left device_faults output_faults (λ a c told. absurd told) (λ a t c told. absurd told)
 
   pub EmitsSilent-on : (a b c : D) (piece : List ℕ) (n m : ℕ) → EmitsOnly ⊥ untold_disk untold_bytes untold_moment untold_left device_faults output_faults a b piece n
       → EmitsOnly ⊥ untold_disk untold_bytes untold_moment untold_left device_faults output_faults b c (drop n piece) m

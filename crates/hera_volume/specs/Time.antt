@@ -14,6 +14,11 @@ pub record IsImageOf (disks : FileId → Disk) (so_far : Option (List ℕ)) (c :
   pub files : (f : FileId) → IsImage (disks f) (c.files f)
   pub emitted : Keeps so_far (Some c.emitted)
 
+-- the files as a read gives them
+pub record IsAsRead (disks : FileId → Disk) (so_far : Option (List ℕ)) (c : Image) : Type 0 where
+  pub files : (f : FileId) → c.files f ≡ (disks f).bytes
+  pub emitted : Keeps so_far (Some c.emitted)
+
 -- while one file is changed to this disk
 pub record IsImageIn (disks : FileId → Disk) (so_far : Option (List ℕ)) (which : FileId) (changed : Disk) (c : Image) : Type 0 where
   pub file : IsImage changed (c.files which)
@@ -31,12 +36,19 @@ pub record LeavesOnly {D : Type 0} (moment : D → ℕ) (left_since : D → ℕ 
   pub only : (t : ℕ) (c : Image) → t ≤ moment old → left_since new t c → left_since old t c ⊎ P c
   pub keeps : (t : ℕ) (c : Image) → t ≤ moment old → left_since old t c → left_since new t c
 
+-- The images since an earlier moment are, at new, those since it at old and those from old to new.
+pub record GoesOn {D : Type 0} (moment : D → ℕ) (left_since : D → ℕ → Image → Type 0) (old new : D) : Type 0 where
+  pub either : (t : ℕ) (c : Image) → t ≤ moment old → left_since new t c → left_since old t c ⊎ left_since new (moment old) c
+  pub before : (t : ℕ) (c : Image) → t ≤ moment old → left_since old t c → left_since new t c
+  pub after : (t : ℕ) (c : Image) → t ≤ moment old → left_since new (moment old) c → left_since new t c
+
 -- From a to b only this piece was emitted, in whole or in part.
 pub record EmitsOnly {D : Type 0} (told : Type 0) (disk : D → FileId → Disk) (emitted : D → Option (List ℕ)) (moment : D → ℕ) (left_since : D → ℕ → Image → Type 0)
     (device_faults output_faults : D → ℕ) (a b : D) (piece : List ℕ) (n : ℕ) : Type 0 where
   pub bytes : Appends (emitted a) (emitted b) (take n piece)
   pub files : told → (f : FileId) → disk b f ≡ disk a f
   pub any_moment : told → LeavesOnly moment left_since a b (IsImageAmid (disk a) (emitted a) piece)
+  pub since : told → GoesOn moment left_since a b
   pub device : device_faults b ≡ device_faults a
   pub output : output_faults a ≤ output_faults b
 

@@ -29,11 +29,11 @@ impl Model for MemDisk {
 impl MemDisk {
     ghost use Rattle.hera_volume.specs.Disk.{IsSettled};
     ghost use Rattle.std.specs.Prelude.{◌≡◌, ◌⊎◌, ◌<◌, ◌≤◌, ℕ, length, slice_index, OnOk, OnErr, IfOk};
-    ghost use Rattle.hera_volume.specs.Disk.{after_write, after_cut, after_sync, IsSound, IsImage, IsFilled};
+    ghost use Rattle.hera_volume.specs.Disk.{after_write, after_cut, after_sync, bounded, IsSound, IsImage, IsFilled};
 
     pub(crate) fn new(alloc: Global, bytes: Vec<u8>) -> Self
         ensures bytes { result.bytes ≡ bytes.items }
-        ensures settled { IsSettled result }
+        ensures settled { IsSettled (bounded result) }
     {
         let len = bytes.len();
         MemDisk {
@@ -75,10 +75,10 @@ impl MemDisk {
 
     /// The longest image of the file, with `fill` wherever a crash may leave any byte.
     pub(crate) fn crash(&mut self, fill: u8)
-        ensures image { IsImage self.old self.new.bytes }
-        ensures settled { IsSettled self.new }
-        ensures longest { length self.new.bytes ≡ self.old.ceiling }
-        ensures filled { IsFilled self.old fill self.new.bytes }
+        ensures image { IsImage (bounded self.old) self.new.bytes }
+        ensures settled { IsSettled (bounded self.new) }
+        ensures longest { length self.new.bytes ≡ (bounded self.old).ceiling }
+        ensures filled { IsFilled (bounded self.old) fill self.new.bytes }
     {
         fill_free(&mut self.bytes, self.floor, &self.written, fill);
         self.len = self.bytes.len();

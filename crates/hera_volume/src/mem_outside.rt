@@ -262,7 +262,7 @@ impl Output for MemOutside {
 }
 
 impl Outside for MemOutside {
-    ghost use Rattle.hera_volume.specs.MemOutside.{mem_disk, mem_moment, mem_left_since, mem_device_faults, mem_only_now, mem_counts_now, mem_went_by, mem_failed_by};
+    ghost use Rattle.hera_volume.specs.MemOutside.{mem_disk, mem_moment, mem_left_since, mem_device_faults, mem_as_read, mem_only_now, mem_counts_now, mem_went_by, mem_failed_by};
 
     ghost told = { Unit {0} };
 
@@ -273,6 +273,8 @@ impl Outside for MemOutside {
     ghost left_since = { mem_left_since };
 
     ghost device_faults = { mem_device_faults };
+
+    ghost as_read = { mem_as_read };
 
     ghost only_now = { mem_only_now };
 

@@ -104,6 +104,9 @@ pub trait Outside: Output {
         ensures cause { HasCause (device_faults self.old) (device_faults self.new) result }
         ensures own { MatchResult result (λ _. went_by self.old self.new) (λ _. failed_by self.old self.new file (disk self.old file)) };
 
+    /// Each file as it reads is one of its images, at every moment, behind a failed call too.
+    ghost as_read: { (a : Self) (f : FileId) → told → IsImage (disk a f) (disk a f).bytes };
+
     /// What a crash at the present moment might have left, it may leave now.
     ghost only_now: { (a : Self) (c : Image) → told → left_since a (moment a) c → IsImageOf (disk a) (Self.emitted a) c };
 
@@ -111,7 +114,8 @@ pub trait Outside: Output {
     ghost counts_now: { (a : Self) (t : ℕ) (c : Image) → told → t ≤ moment a → IsImageOf (disk a) (Self.emitted a) c → left_since a t c };
 
     /// An emission leaves the files, what a crash may leave of them and the count of device faults as they are. A crash
-    /// inside it leaves what was emitted before, followed by some first bytes of the piece.
+    /// inside it leaves what was emitted before, followed by some first bytes of the piece. The images since an earlier
+    /// moment are then those since it at the first moment, and those from the first to the second.
     ghost emits_only: { (a b : Self) (piece : List ℕ) (n : ℕ) → Self.passed a b piece n
         → EmitsOnly told disk Self.emitted moment left_since device_faults Self.output_faults a b piece n };
 }

@@ -60,9 +60,10 @@ pub fn rewrite_and_sync<W: Outside>(
 }
 
 /// Syncs the three files, whatever is pending in them. It answers `Failed` only where the count of device faults rose.
+/// At every answer a read gives what it gave before.
 pub fn sync_all<W: Outside>(outside: &mut W) -> Result<(), Failed>
     ensures settled { W.told → OnOk result ((f : FileId) → IsSettled (W.disk outside.new f)) }
-    ensures reads { W.told → OnOk result ((f : FileId) → (W.disk outside.new f).bytes ≡ (W.disk outside.old f).bytes) }
+    ensures reads { W.told → (f : FileId) → (W.disk outside.new f).bytes ≡ (W.disk outside.old f).bytes }
     ensures any_moment { W.told → LeavesOnly W.moment W.left_since outside.old outside.new (IsImageOf (W.disk outside.old) (W.emitted outside.old)) }
     ensures emitted { W.emitted outside.new ≡ W.emitted outside.old }
     ensures output { W.output_faults outside.new ≡ W.output_faults outside.old }

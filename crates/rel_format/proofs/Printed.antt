@@ -24,7 +24,7 @@ use Rattle.hera_row.proofs.RowLemmas.{row_len_some}
 use Rattle.hera_row.proofs.FieldLemmas.{AreBytes, AreBytes-take, AreBytes-drop}
 use Rattle.rel_format.specs.Pages.{Format, name_bytes, kind_byte, attr_bytes, decl_bytes, header_of, joined, zeros, page_bytes, used_by}
 use Rattle.rel_format.specs.Fields.{kept, piece, number, first_byte, kind_of, is_identifier, name_field, new_name, length_field, width_field, count_field, kind_field, magic_field, follows, rel_field, row_count_field, row_keeps, first_row, fill_field}
-use Rattle.rel_format.specs.Table.{Stand, Part, at_magic, at_count, at_rels, at_name, at_width, at_attr, at_attr_name, at_kind, at_page, at_row_count, at_row, at_fill, behind_attr, with_attr, Book, Page, no_pages, add_page, with_page, with_row_in, behind_row, page_before, row_before, used_before, row_in, next, field, long_field}
+use Rattle.rel_format.specs.Table.{Stand, RelationSoFar, at_magic, at_count, at_rels, at_name, at_width, at_attr, at_attr_name, at_kind, at_page, at_row_count, at_row, at_fill, behind_attr, with_attr, Book, Page, no_pages, add_page, with_page, with_row_in, behind_row, page_before, row_before, used_before, row_in, next, field, long_field}
 use Rattle.rel_format.specs.Places.{Reaches}
 use Rattle.rel_format.specs.SoFar.{rels_front, part_front, groups_bytes, pages_counted, book_front, open_page, so_far}
 use Rattle.rel_format.proofs.Walks.{kept_by}
@@ -101,7 +101,7 @@ pub one_more : {A : Type 0} (f : A → List ℕ) (xs : List A) (x : A) → flat_
 one_more f xs x = flat_map-append f xs (x ∷ []) ∙ ap (λ (t : List ℕ). flat_map f xs ++ t) (append-nil (f x))
 
 -- behind an attribute the print is that of the part
-behind_print : (f : Format) (p : Part) (n : ℕ) → so_far f (behind_attr p n) ≡ part_front f p (length p.attrs + n)
+behind_print : (f : Format) (p : RelationSoFar) (n : ℕ) → so_far f (behind_attr p n) ≡ part_front f p (length p.attrs + n)
 behind_print f p (suc n) = refl
 behind_print f p zero =
     let d : RelDecl = record { name = p.name; schema = p.attrs } in
@@ -117,7 +117,7 @@ named : (front name rest : List ℕ) (n : ℕ) → n ≡ length name → take n 
 named front name rest n len e =
     ap (λ (k : ℕ). front ++ (k ∷ name)) (sym len) ∙ ap (λ (t : List ℕ). front ++ (n ∷ t)) (sym e) ∙ sym (append_assoc front (n ∷ []) (take n rest))
 
-with_kind : (f : Format) (p : Part) (more : ℕ) (name : List ℕ) (kind : Kind) →
+with_kind : (f : Format) (p : RelationSoFar) (more : ℕ) (name : List ℕ) (kind : Kind) →
     part_front f (with_attr p (record { name = name; kind = kind })) (length (p.attrs ++ record { name = name; kind = kind } ∷ []) + more)
     ≡ (part_front f p (length p.attrs + suc more) ++ name_bytes name) ++ kind_byte kind ∷ []
 with_kind f p more name kind =
@@ -246,7 +246,7 @@ good_first_row : (f : Format) (b : Book) (left : ℕ) (p : Page) (n : ℕ) → G
 good_first_row f b left p zero h some = absurd (omega (arith, some))
 good_first_row f b left p (suc n) h some = h
 
-good_behind_attr : (f : Format) (p : Part) (n : ℕ) → Good f (behind_attr p n)
+good_behind_attr : (f : Format) (p : RelationSoFar) (n : ℕ) → Good f (behind_attr p n)
 good_behind_attr f p zero = tt
 good_behind_attr f p (suc n) = tt
 
@@ -257,7 +257,7 @@ good_step f (at_rels rels zero) rest n t bytes good e = subst (Good f) (field_is
 good_step f (at_rels rels (suc left)) rest n t bytes good e = subst (Good f) (field_is 1 (at_name rels left) (length_field rest) n t e).next tt
 good_step f (at_name rels left k) rest n t bytes good e = subst (Good f) (field_is k (at_width rels left) (new_name (map decl_name rels) k rest) n t e).next tt
 good_step f (at_width rels left name) rest n t bytes good e =
-    let p : Part = record { rels = rels; left = left; name = name; attrs = [] } in
+    let p : RelationSoFar = record { rels = rels; left = left; name = name; attrs = [] } in
     let x = field_is 1 (behind_attr p) (width_field rest) n t e in
     subst (Good f) x.next (good_behind_attr f p x.value)
 good_step f (at_attr p more) rest n t bytes good e = subst (Good f) (field_is 1 (at_attr_name p more) (length_field rest) n t e).next tt
@@ -309,7 +309,7 @@ print_step f (at_name rels left k) rest n t bytes good e =
     let name = name_is (map decl_name rels) k rest x.value x.is in
     ap (so_far f) (sym x.next) ∙ named (rels_front f rels (suc left)) x.value rest k name.1 name.0 ∙ ap (λ (m : ℕ). (rels_front f rels (suc left) ++ k ∷ []) ++ take m rest) x.size
 print_step f (at_width rels left name) rest n t bytes good e =
-    let p : Part = record { rels = rels; left = left; name = name; attrs = [] } in
+    let p : RelationSoFar = record { rels = rels; left = left; name = name; attrs = [] } in
     let x = field_is 1 (behind_attr p) (width_field rest) n t e in
     let zero_more : 0 + x.value ≡ x.value = omega arith in
     let front = rels_front f rels (suc left) in

@@ -8,7 +8,7 @@ use Rattle.hera_meaning.specs.Schemas.{names_of, attr_name}
 use Rattle.hera_meaning.specs.Catalogues.{decl_name}
 use Rattle.rel_format.specs.Pages.{Format}
 use Rattle.rel_format.specs.Fields.{length_field, width_field, kind_field, count_field, magic_field, new_name}
-use Rattle.rel_format.specs.Table.{Stand, Part, at_magic, at_count, at_rels, at_name, at_width, at_attr, at_attr_name, at_kind, behind_attr, with_attr, is_whole, next, field}
+use Rattle.rel_format.specs.Table.{Stand, RelationSoFar, at_magic, at_count, at_rels, at_name, at_width, at_attr, at_attr_name, at_kind, behind_attr, with_attr, is_whole, next, field}
 use Rattle.rel_format.specs.declared.header.PageFault.{PageFault}
 use Rattle.rel_format.specs.declared.header.PageFault.TheVariants.{Damaged, Memory}
 use Rattle.rel_format.specs.Walk.{forward, onward}
@@ -26,26 +26,26 @@ name_length name bytes n e h = let same = ap (λ (x : List ℕ). length x) e in 
 
 -- ---- the fields of an attribute
 
-pub to_attr_name : (f : Format) (bytes : List ℕ) (at : ℕ) (p : Part) (more n : ℕ) → Reaches f bytes at (at_attr p more) → Some n ≡ length_field (drop at bytes) → Reaches f bytes (at + 1) (at_attr_name p more n)
+pub to_attr_name : (f : Format) (bytes : List ℕ) (at : ℕ) (p : RelationSoFar) (more n : ℕ) → Reaches f bytes at (at_attr p more) → Some n ≡ length_field (drop at bytes) → Reaches f bytes (at + 1) (at_attr_name p more n)
 to_attr_name f bytes at p more n r e = step f bytes at (at_attr p more) 1 (at_attr_name p more n) r (ap (field 1 (at_attr_name p more)) (sym e))
 
-pub no_attr : (f : Format) (bytes : List ℕ) (at : ℕ) (p : Part) (more : ℕ) → Reaches f bytes at (at_attr p more) → None ≡ length_field (drop at bytes) → Stops f bytes at
+pub no_attr : (f : Format) (bytes : List ℕ) (at : ℕ) (p : RelationSoFar) (more : ℕ) → Reaches f bytes at (at_attr p more) → None ≡ length_field (drop at bytes) → Stops f bytes at
 no_attr f bytes at p more r e = stop f bytes at (at_attr p more) r (ap (field 1 (at_attr_name p more)) (sym e)) refl
 
-pub to_kind : (f : Format) (bytes : List ℕ) (at : ℕ) (p : Part) (more n m : ℕ) (attrs : List Attr) (name : List ℕ) → p.attrs ≡ attrs → n ≡ m → Reaches f bytes at (at_attr_name p more n) → Some name ≡ new_name (names_of attrs) n (drop at bytes) → Reaches f bytes (at + m) (at_kind p more name)
+pub to_kind : (f : Format) (bytes : List ℕ) (at : ℕ) (p : RelationSoFar) (more n m : ℕ) (attrs : List Attr) (name : List ℕ) → p.attrs ≡ attrs → n ≡ m → Reaches f bytes at (at_attr_name p more n) → Some name ≡ new_name (names_of attrs) n (drop at bytes) → Reaches f bytes (at + m) (at_kind p more name)
 to_kind f bytes at p more n m attrs name same len r e =
     subst (λ (k : ℕ). Reaches f bytes (at + k) (at_kind p more name)) len
     (step f bytes at (at_attr_name p more n) n (at_kind p more name) r (ap (λ (xs : List Attr). field n (at_kind p more) (new_name (names_of xs) n (drop at bytes))) same ∙ ap (field n (at_kind p more)) (sym e)))
 
-pub no_attr_name : (f : Format) (bytes : List ℕ) (at : ℕ) (p : Part) (more n : ℕ) (attrs : List Attr) → p.attrs ≡ attrs → Reaches f bytes at (at_attr_name p more n) → None ≡ new_name (names_of attrs) n (drop at bytes) → Stops f bytes at
+pub no_attr_name : (f : Format) (bytes : List ℕ) (at : ℕ) (p : RelationSoFar) (more n : ℕ) (attrs : List Attr) → p.attrs ≡ attrs → Reaches f bytes at (at_attr_name p more n) → None ≡ new_name (names_of attrs) n (drop at bytes) → Stops f bytes at
 no_attr_name f bytes at p more n attrs same r e =
     stop f bytes at (at_attr_name p more n) r (ap (λ (xs : List Attr). field n (at_kind p more) (new_name (names_of xs) n (drop at bytes))) same ∙ ap (field n (at_kind p more)) (sym e)) refl
 
-pub behind_kind : (f : Format) (bytes : List ℕ) (at : ℕ) (p : Part) (more : ℕ) (name : List ℕ) (kind : Kind) → Reaches f bytes at (at_kind p more name) → Some kind ≡ kind_field (drop at bytes) → Reaches f bytes (at + 1) (behind_attr (with_attr p (record { name = name; kind = kind })) more)
+pub behind_kind : (f : Format) (bytes : List ℕ) (at : ℕ) (p : RelationSoFar) (more : ℕ) (name : List ℕ) (kind : Kind) → Reaches f bytes at (at_kind p more name) → Some kind ≡ kind_field (drop at bytes) → Reaches f bytes (at + 1) (behind_attr (with_attr p (record { name = name; kind = kind })) more)
 behind_kind f bytes at p more name kind r e =
     step f bytes at (at_kind p more name) 1 (behind_attr (with_attr p (record { name = name; kind = kind })) more) r (ap (field 1 (λ k. behind_attr (with_attr p (record { name = name; kind = k })) more)) (sym e))
 
-pub no_kind : (f : Format) (bytes : List ℕ) (at : ℕ) (p : Part) (more : ℕ) (name : List ℕ) → Reaches f bytes at (at_kind p more name) → None ≡ kind_field (drop at bytes) → Stops f bytes at
+pub no_kind : (f : Format) (bytes : List ℕ) (at : ℕ) (p : RelationSoFar) (more : ℕ) (name : List ℕ) → Reaches f bytes at (at_kind p more name) → None ≡ kind_field (drop at bytes) → Stops f bytes at
 no_kind f bytes at p more name r e =
     stop f bytes at (at_kind p more name) r (ap (field 1 (λ k. behind_attr (with_attr p (record { name = name; kind = k })) more)) (sym e)) refl
 
@@ -65,7 +65,7 @@ to_width f bytes at rels left n m name len r e =
 pub no_name : (f : Format) (bytes : List ℕ) (at : ℕ) (rels : List RelDecl) (left n : ℕ) → Reaches f bytes at (at_name rels left n) → None ≡ new_name (map decl_name rels) n (drop at bytes) → Stops f bytes at
 no_name f bytes at rels left n r e = stop f bytes at (at_name rels left n) r (ap (field n (at_width rels left)) (sym e)) refl
 
-abbrev pub opened : List RelDecl → ℕ → List ℕ → Part
+abbrev pub opened : List RelDecl → ℕ → List ℕ → RelationSoFar
 opened rels left name = record { rels = rels; left = left; name = name; attrs = [] }
 
 pub to_attrs : (f : Format) (bytes : List ℕ) (at : ℕ) (rels : List RelDecl) (left : ℕ) (name : List ℕ) (n : ℕ) → Reaches f bytes at (at_width rels left name) → Some n ≡ width_field (drop at bytes) → Reaches f bytes (at + 1) (behind_attr (opened rels left name) n)
@@ -98,10 +98,10 @@ pub fault_on : {A B : Type 0} (f : Format) (bytes : List ℕ) (at place : ℕ) (
 fault_on f bytes at place s t one all (Damaged n) go h = λ r. h (go r)
 fault_on f bytes at place s t one all Memory go h = tt
 
-pub enter : (q : Part) (w k : ℕ) → k < w → behind_attr q (w - k) ≡ at_attr q (w - (k + 1))
+pub enter : (q : RelationSoFar) (w k : ℕ) → k < w → behind_attr q (w - k) ≡ at_attr q (w - (k + 1))
 enter q w k h = let e : w - k ≡ suc (w - (k + 1)) = omega (arith, h) in ap (behind_attr q) e
 
-pub leave : (q : Part) (w k : ℕ) → w ≤ k → behind_attr q (w - k) ≡ behind_attr q 0
+pub leave : (q : RelationSoFar) (w k : ℕ) → w ≤ k → behind_attr q (w - k) ≡ behind_attr q 0
 leave q w k h = let e : w - k ≡ 0 = omega (arith, h) in ap (behind_attr q) e
 
 pub names_push : (attrs : List Attr) (a : Attr) → names_of (attrs ++ a ∷ []) ≡ names_of attrs ++ a.name ∷ []

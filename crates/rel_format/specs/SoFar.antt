@@ -5,14 +5,14 @@ use Rattle.std.specs.Int.{to_be_bytes, w16, w32}
 use Rattle.hera_sets.specs.Rows.{Row}
 use Rattle.hera_meaning.specs.declared.schemas.RelDecl.{RelDecl}
 use Rattle.rel_format.specs.Pages.{Format, name_bytes, attr_bytes, decl_bytes, header_of, page_bytes, joined}
-use Rattle.rel_format.specs.Table.{Stand, Part, Book, Page, at_magic, at_count, at_rels, at_name, at_width, at_attr, at_attr_name, at_kind, at_page, at_row_count, at_row, at_fill}
+use Rattle.rel_format.specs.Table.{Stand, RelationSoFar, Book, Page, at_magic, at_count, at_rels, at_name, at_width, at_attr, at_attr_name, at_kind, at_page, at_row_count, at_row, at_fill}
 
 -- the header up to these relations, with so many to come
 abbrev pub rels_front : Format → List RelDecl → ℕ → List ℕ
 rels_front f rels left = f.magic ++ to_be_bytes w16 (length rels + left) ++ flat_map decl_bytes rels
 
 -- and up to these attributes of the next relation, which has so many
-abbrev pub part_front : Format → Part → ℕ → List ℕ
+abbrev pub part_front : Format → RelationSoFar → ℕ → List ℕ
 part_front f p width = rels_front f p.rels (suc p.left) ++ (name_bytes p.name ++ width ∷ flat_map attr_bytes p.attrs)
 
 -- the pages of the relations from this number on

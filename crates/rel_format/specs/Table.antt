@@ -11,7 +11,7 @@ use Rattle.rel_format.specs.Pages.{Format, used_by}
 use Rattle.rel_format.specs.Fields.{PageEnd, number, count_field, length_field, width_field, kind_field, magic_field, new_name, rel_field, row_count_field, row_field, fill_field}
 
 -- a relation of which the name and some attributes are read
-pub record Part : Type 0 where
+pub record RelationSoFar : Type 0 where
   -- the relations before it, and how many come behind it
   pub rels : List RelDecl
   pub left : ℕ
@@ -43,9 +43,9 @@ pub data Stand : Type 0 where
   -- the number of attributes of the relation of this name
   at_width : List RelDecl → ℕ → List ℕ → Stand
   -- an attribute, and so many behind it: its name's length, its name, its kind
-  at_attr : Part → ℕ → Stand
-  at_attr_name : Part → ℕ → ℕ → Stand
-  at_kind : Part → ℕ → List ℕ → Stand
+  at_attr : RelationSoFar → ℕ → Stand
+  at_attr_name : RelationSoFar → ℕ → ℕ → Stand
+  at_kind : RelationSoFar → ℕ → List ℕ → Stand
   -- the relation of the first of so many pages, or the first gate
   at_page : Book → ℕ → Stand
   -- the row count of a page of this relation, and so many pages behind it
@@ -56,14 +56,14 @@ pub data Stand : Type 0 where
   at_fill : Book → ℕ → Page → Stand
 
 -- behind an attribute, with so many to come
-abbrev pub behind_attr : Part → ℕ → Stand
+abbrev pub behind_attr : RelationSoFar → ℕ → Stand
 behind_attr p zero = at_rels (p.rels ++ record { name = p.name; schema = p.attrs } ∷ []) p.left
 behind_attr p (suc n) = at_attr p n
 
-abbrev pub with_attr : Part → Attr → Part
+abbrev pub with_attr : RelationSoFar → Attr → RelationSoFar
 with_attr p a = record p { attrs = p.attrs ++ a ∷ [] }
 
-abbrev pub with_attrs : Part → List Attr → Part
+abbrev pub with_attrs : RelationSoFar → List Attr → RelationSoFar
 with_attrs p attrs = record p { attrs = attrs }
 
 -- ---- pages

@@ -6,7 +6,7 @@ ghost use Rattle.hera_meaning.specs.Identifiers.{IsIdentifier};
 ghost use Rattle.hera_meaning.specs.Schemas.{AreDistinct, names_of};
 ghost use Rattle.hera_meaning.specs.Catalogues.{decl_name};
 ghost use Rattle.rel_format.specs.Pages.{Format};
-ghost use Rattle.rel_format.specs.Table.{Part, at_magic, at_rels, at_attr, behind_attr, with_attr, with_attrs};
+ghost use Rattle.rel_format.specs.Table.{RelationSoFar, at_magic, at_rels, at_attr, behind_attr, with_attr, with_attrs};
 ghost use Rattle.rel_format.specs.Places.{Reads, HeaderIs};
 
 use crate::fields::{attr_name_at, count_at, kind_at, length_at, magic_at, rel_name_at, width_at};
@@ -148,7 +148,7 @@ fn attrs_at(
     ensures count { IfOk result (λ x. length x.0.items ≡ width) }
     ensures distinct { IfOk result (λ x. AreDistinct (names_of x.0.items)) }
     ensures names { IfOk result (λ x. All IsIdentifier (names_of x.0.items)) }
-    ensures read { (f : Format) (p : Part) → p.attrs ≡ [] → Reads f bytes.now at (behind_attr p width) (λ attrs. behind_attr (with_attrs p attrs.items) 0) result }
+    ensures read { (f : Format) (p : RelationSoFar) → p.attrs ≡ [] → Reads f bytes.now at (behind_attr p width) (λ attrs. behind_attr (with_attrs p attrs.items) 0) result }
 {
     let mut attrs = Vec::new(alloc);
     let mut at = at;
@@ -182,7 +182,7 @@ fn attr_at(
     ensures within { IfOk result (λ x. x.1 ≤ length bytes.now) }
     ensures name { IfOk result (λ x. IsIdentifier x.0.name) }
     ensures new { IfOk result (λ x. holds (names_of attrs.now) x.0.name ≡ false) }
-    ensures read { (f : Format) (p : Part) (more : ℕ) → p.attrs ≡ attrs.now → Reads f bytes.now at (at_attr p more) (λ a. behind_attr (with_attr p a) more) result }
+    ensures read { (f : Format) (p : RelationSoFar) (more : ℕ) → p.attrs ≡ attrs.now → Reads f bytes.now at (at_attr p more) (λ a. behind_attr (with_attr p a) more) result }
 {
     let Some(len) = length_at(bytes, at) else {
         return Err(damaged(at));

@@ -1,5 +1,3 @@
-use Rattle.std.proofs.Common.{◌∙◌}
-use Rattle.hera_volume.specs.declared.file_id.FileId.TheVariants.{Select, Left, Right}
 use Rattle.hera_store.proofs.Untouched.{untouched-on, settled-three}
 use Rattle.hera_store.proofs.files.sync_files.Goals as goal
 

@@ -1,5 +1,5 @@
 use Rattle.rel_format.specs.Pages.{format_two}
-use Rattle.std.proofs.Common.{sym, ap, ◌∙◌, List, ℕ}
+use Rattle.std.proofs.Common.{sym}
 use Rattle.hera_store.proofs.EmptyHalves.{empty_half_is, empty_half_valid}
 use Rattle.hera_store.proofs.making.empty_half.Goals as goal
 

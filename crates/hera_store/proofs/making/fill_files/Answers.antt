@@ -1,5 +1,5 @@
 use Rattle.std.proofs.Common.{[], ◌∙◌}
-use Rattle.hera_volume.specs.declared.file_id.FileId.TheVariants.{Select, Left, Right}
+use Rattle.hera_volume.specs.declared.file_id.FileId.TheVariants.{Select, Left}
 use Rattle.hera_store.proofs.Fillings.{settled_still, bytes_still, left_written, right_written, made_selected}
 use Rattle.hera_store.proofs.making.fill_files.Goals as goal
 

@@ -1,5 +1,4 @@
 use Rattle.std.proofs.Common.{◌≡◌, ℕ, sym, subst}
-use Rattle.hera_volume.specs.declared.file_id.FileId.{FileId}
 use Rattle.hera_store.specs.Databases.{IsDamagedHalf}
 use Rattle.hera_store.proofs.Smashes.{half_is_damaged}
 use Rattle.hera_store.proofs.opening.base_of.Goals as goal

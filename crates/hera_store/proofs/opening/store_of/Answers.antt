@@ -2,7 +2,7 @@ use Rattle.std.proofs.Common.{◌≡◌, ◌∙◌, List, ℕ, Err, inr, sym, ap
 use Rattle.std.proofs.lemmas.Result.{err_from_is_err_and}
 use Rattle.hera_meaning.specs.Commits.{after_all}
 use Rattle.hera_meaning.specs.Deltas.{IsState}
-use Rattle.rel_format.specs.Versions.{format_of, version_in}
+use Rattle.rel_format.specs.Versions.{format_of}
 use Rattle.commit_journal.specs.Halves.{HasPages, IsHalfTo, IsDamageOfHalf}
 use Rattle.rel_format.specs.declared.version.Version.{Version}
 use Rattle.hera_store.specs.declared.faults.OpenFault.TheVariants.{Damaged}
@@ -40,3 +40,6 @@ returns-in_err-commits-clause-damaged c = λ file at e.
     let damage = c.in_err-commits.ensures.damaged file at (ap Err fault) in
     let here = damage.1 (subst (λ (l : List ℕ). HasPages (format_of base.version) l base.catalogue base.state base.journal) (sym pages.own) (pages_are c.args.bytes.items base pages)) in
     (damage.0, inr (pages.short, subst (λ (v : Version). IsDamageOfHalf (format_of v) c.args.bytes.items at) pages.version (subst (λ (l : List ℕ). IsDamageOfHalf (format_of base.version) l at) pages.own here)))
+
+pub returns-clause-read : goal.returns-clause-read
+returns-clause-read c = subst (λ (s : Standing). s.base.bytes ≡ c.args.bytes.items) (sym c.opened.ensures) c.in_ok-base.ensures.pages.own

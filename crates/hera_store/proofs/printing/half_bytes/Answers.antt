@@ -1,11 +1,10 @@
-use Rattle.std.proofs.Common.{◌≡◌, ◌≤◌, ◌∙◌, inr, List, ℕ, Some, length, take, sym, ap, subst, arith}
-use Rattle.std.specs.Prelude.{All, slice_get}
+use Rattle.std.proofs.Common.{◌≡◌, ◌≤◌, ◌∙◌, inr, List, ℕ, length, ap, subst, arith}
 use Rattle.std.proofs.lemmas.List.{take_all}
 use Rattle.std.proofs.lemmas.Result.{err_from_is_err_and}
 use Rattle.hera_meaning.specs.Commits.{after_all}
 use Rattle.hera_meaning.specs.declared.schemas.RelDecl.{RelDecl}
-use Rattle.hera_meaning.specs.Catalogues.{IsDecl, IsCatalogue}
-use Rattle.hera_meaning.specs.Deltas.{State, IsState}
+use Rattle.hera_meaning.specs.Catalogues.{IsCatalogue}
+use Rattle.hera_meaning.specs.Deltas.{IsState}
 use Rattle.rel_format.specs.declared.version.TheConstants.{PAGE_TWO}
 use Rattle.rel_format.specs.Pages.{format_two, paged}
 use Rattle.rel_pages.proofs.States.{state_length}

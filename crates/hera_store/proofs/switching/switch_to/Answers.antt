@@ -1,4 +1,4 @@
-use Rattle.std.proofs.Common.{◌≡◌, ◌≢◌, ◌∙◌, List, ℕ, refl, sym, ap, subst}
+use Rattle.std.proofs.Common.{◌≡◌, ◌∙◌, List, ℕ, sym, ap, subst}
 use Rattle.hera_volume.specs.Disk.{Disk, IsSettled}
 use Rattle.hera_volume.specs.declared.file_id.FileId.{FileId}
 use Rattle.hera_volume.specs.declared.file_id.FileId.TheVariants.{Select}

@@ -1,11 +1,10 @@
-use Rattle.std.proofs.Common.{◌≡◌, ◌<◌, ℕ, List, [], ◌∷◌, Some, None, length, refl, sym, ap, subst, ◌∙◌, rules, arith}
-use Rattle.std.specs.Prelude.{All, slice_get}
+use Rattle.std.proofs.Common.{◌≡◌, List, [], ◌∷◌, Some, None, refl, sym, ap, subst, ◌∙◌, rules, arith}
+use Rattle.std.specs.Prelude.{slice_get}
 use Rattle.std.proofs.lemmas.List.Elements.{All-nil, All-cons}
 use Rattle.hera_meaning.specs.Commits.{IsCommitOf}
 use Rattle.hera_meaning.specs.declared.schemas.RelDecl.{RelDecl}
-use Rattle.hera_meaning.specs.declared.scalars.Sign.{Sign}
 use Rattle.hera_meaning.specs.Rows.{IsRow}
-use Rattle.hera_meaning.specs.Deltas.{Delta, Atom, atoms, IsAtomOf, schema_of}
+use Rattle.hera_meaning.specs.Deltas.{Atom, atoms, IsAtomOf, schema_of}
 use Rattle.hera_store.proofs.tests.plus.Goals as goal
 
 one_atom : (rels : List RelDecl) (d : RelDecl) (a : Atom) → slice_get rels 0 ≡ Some d → a.rel ≡ 0 → IsRow d.schema a.row → IsCommitOf rels (atoms (a ∷ []))

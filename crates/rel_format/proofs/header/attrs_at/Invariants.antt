@@ -2,7 +2,7 @@ use Rattle.std.specs.Prelude.{◌≡◌, ◌≤◌, ◌-◌, [], length, All}
 use Rattle.hera_meaning.specs.Identifiers.{IsIdentifier}
 use Rattle.hera_meaning.specs.Schemas.{AreDistinct, names_of}
 use Rattle.rel_format.specs.Pages.{Format}
-use Rattle.rel_format.specs.Table.{Part, behind_attr, with_attrs}
+use Rattle.rel_format.specs.Table.{RelationSoFar, behind_attr, with_attrs}
 use Rattle.rel_format.specs.Places.{Reaches}
 use Rattle.rel_format.proofs.header.attrs_at.Given as goal
 
@@ -12,5 +12,5 @@ invariant-loop l = record {
   count : length l.attrs.items ≡ l.counter;
   distinct : AreDistinct (names_of l.attrs.items);
   names : All IsIdentifier (names_of l.attrs.items);
-  read : (f : Format) (p : Part) → p.attrs ≡ [] → Reaches f l.bytes l.fn.at (behind_attr p l.width) → Reaches f l.bytes l.at (behind_attr (with_attrs p l.attrs.items) (l.width - l.counter));
+  read : (f : Format) (p : RelationSoFar) → p.attrs ≡ [] → Reaches f l.bytes l.fn.at (behind_attr p l.width) → Reaches f l.bytes l.at (behind_attr (with_attrs p l.attrs.items) (l.width - l.counter));
 }

@@ -1,4 +1,4 @@
-use Rattle.std.proofs.Common.{◌≡◌, ◌≤◌, ◌∙◌, false, List, ℕ, Option, length, sym, ap, subst, arith}
+use Rattle.std.proofs.Common.{◌≡◌, ◌≤◌, ◌∙◌, false, length, sym, ap, subst, arith}
 use Rattle.hera_meaning.specs.Commits.{after_all}
 use Rattle.hera_volume.specs.Time.{LeavesOnly}
 use Rattle.hera_volume.specs.declared.file_id.FileId.{FileId}
@@ -9,6 +9,8 @@ use Rattle.rel_format.specs.Journal.{half_limit}
 use Rattle.hera_store.specs.Standing.{Standing, StandsFor, database_of, other_half}
 use Rattle.hera_store.specs.Faults.{half_with}
 use Rattle.hera_store.specs.Moments.{IsStill}
+use Rattle.hera_store.proofs.Commits.{stands_holds}
+use Rattle.hera_store.proofs.Readings.{read_still}
 use Rattle.hera_store.proofs.Renewals.{other_twice, renewed_is, switched_holds}
 use Rattle.hera_store.proofs.store.Store.checkpoint.Goals as goal
 
@@ -56,3 +58,16 @@ returns-in-Ok-clause-holds g c = λ told.
     let selects = rw c.other_half.ensures at (c.in-Ok.ensures.selects told) in
     let new = renewed_is s (now (other_half s.half)).bytes c.self.invariant stands.half.half.catalogue short (written ∙ c.deref-2.ensures.value ∙ half) in
     subst (λ (x : Standing). Holds (λ f. (now f).bytes) (database_of x)) c.self.view_is (switched_holds s (disks Select).bytes now stands.named selects new)
+
+pub returns-in_err-bytes-clause-reads : goal.returns-in_err-bytes-clause-reads
+returns-in_err-bytes-clause-reads g c = λ told opens. stands_holds (g.W.Outside.disk c.args.outside.now) _ (c.requires.stands told opens)
+
+pub returns-in-Ok-clause-reads : goal.returns-in-Ok-clause-reads
+returns-in-Ok-clause-reads g c = λ told opens.
+    read_still g.W.Outside.told g.W.Outside.disk g.W.Output.emitted g.W.Outside.moment g.W.Outside.left_since g.met.W.Outside.as_read g.met.W.Outside.only_now g.met.W.Outside.counts_now told c.args.outside.now c.switch_to.new.outside _
+    (c.requires.stands told opens) (returns-in-Ok-clause-any_moment g c told opens)
+
+pub returns-clause-reads : goal.returns-clause-reads
+returns-clause-reads g c = λ told opens.
+    read_still g.W.Outside.told g.W.Outside.disk g.W.Output.emitted g.W.Outside.moment g.W.Outside.left_since g.met.W.Outside.as_read g.met.W.Outside.only_now g.met.W.Outside.counts_now told c.args.outside.now c.switch_to.new.outside _
+    (c.requires.stands told opens) (returns-clause-any_moment g c told opens)

@@ -1,5 +1,5 @@
 use Rattle.std.proofs.Common.{refl, arith}
-use Rattle.hera_volume.proofs.MemMoments.{emitted-amid, emitted-leaves}
+use Rattle.hera_volume.proofs.MemMoments.{emitted-amid, emitted-leaves, emitted-on}
 use Rattle.hera_volume.proofs.mem_outside.MemOutsideOutput.emit.Goals as goal
 
 pub returns-in-Ok-clause-moments : goal.returns-in-Ok-clause-moments
@@ -9,6 +9,7 @@ returns-in-Ok-clause-moments c =
       bytes = c.in-Ok.ensures.ok;
       files = λ told f. refl;
       any_moment = λ told. emitted-leaves c.args.self.now now c.args.bytes.now c.in-Some.n (refl, c.in-Ok.ensures.past, c.in-Ok.ensures.ok);
+      since = λ told. emitted-on c.args.self.now now c.args.bytes.now c.in-Some.n (refl, c.in-Ok.ensures.past, c.in-Ok.ensures.ok);
       device = omega arith;
       output = omega arith;
     }

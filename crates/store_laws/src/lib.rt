@@ -1,0 +1,4 @@
+//! The laws of what files hold.
+#![tactic(auto)]
+
+pub mod laws;
