@@ -24,4 +24,5 @@ pub mod Run
 pub mod Addresses
 pub mod Forms
 pub mod Sound
+pub mod Shapes
 pub mod Wider

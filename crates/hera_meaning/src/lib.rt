@@ -10,6 +10,7 @@ pub mod laws;
 mod lines;
 mod scalars;
 mod schemas;
+mod shapes;
 mod trees;
 pub mod writing;
 
@@ -21,6 +22,7 @@ pub use scalars::{
 pub use schemas::{
     ATTRS_LIMIT, Agg, Aggs, Attr, Places, RELATIONS_LIMIT, RelDecl, Schema, SchemaFault,
 };
+pub use shapes::BodyShapes;
 pub use trees::{Arm, Body, Const, Core, Hypo, Link, Op, Program, Shape, Stmt, TrapName};
 
 #[cfg(test)]

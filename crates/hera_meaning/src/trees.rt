@@ -2,7 +2,7 @@
 //
 // A slot of a body holds a local; it is numbered from 0: the parameters, then every declared local and
 // walk variable in text order. A slot that was not set yet holds the int 0. `at` is the byte offset of
-// the mark at which a trap is reported.
+// the place at which a trap is reported.
 
 ghost use Rattle.std.specs.Prelude.{◌≡◌, IfOk};
 

@@ -10,9 +10,10 @@ use Rattle.hera_meaning.specs.declared.trees.Shape.{Shape}
 use Rattle.hera_meaning.specs.declared.trees.Shape.TheVariants.{Bool as bool, Tuple as tuple, Rel as rel, Delta as delta}
 use Rattle.hera_meaning.specs.Schemas.{IsSchema}
 use Rattle.hera_meaning.specs.Deltas.{schema_of}
-use Rattle.hera_meaning.specs.Forms.{Form, bool_form, form_of, kinds_of}
+use Rattle.hera_meaning.specs.Forms.{Form, of_tuple, bool_form, form_of, kinds_of}
 use Rattle.hera_meaning.specs.Trees.{Expr, Command, set_slot, if_arms, while, foreach, print, apply, commit, rollback, assert, return, return_value, call_proc}
 use Rattle.hera_meaning.specs.Sound.{IsOf, IsSlot, IsCallee, has_slot, walks_in, walks_of, walks_of_block, walks_of_arms, sets_of, sets_of_block, sets_of_arms, readable_after, MaySet, IsSound, BlockIsSound, ArmsAreSound}
+use Rattle.hera_meaning.specs.Shapes.{IsGathered, Gathers, CommandGathers, BlockGathers, ArmsGather}
 use Rattle.hera_rules.specs.declared.words.Word.{Word}
 use Rattle.hera_rules.specs.declared.env.Local.{Local}
 use Rattle.hera_rules.specs.declared.env.ProcSig.{ProcSig}
@@ -27,38 +28,15 @@ use Rattle.hera_rules.specs.Commands.{named_schema, schema_row, shape_with, type
 use Rattle.hera_rules.specs.Statements.{slots_of_act, slots_of_acts, slots_of_branches, ElabAct, ElabActs, ElabBranches, declare_is, assign_is, print_is, apply_is, assert_is, return_value_is, commit_is, rollback_is, return_is, perform_is, choose_is, loop_is, visit_is, no_act_is, act_is, no_branch_is, branch_is}
 use Rattle.hera_sound.proofs.Tests.{given_true, then_ok, cond_second, is_bool-true, is_delta-true, same_shape-true, same_shapes-true}
 use Rattle.hera_sound.proofs.Schemas.{fields_schema}
-use Rattle.hera_sound.proofs.Slots.{Slot, held, walked, walk_places, Stand, stand_both, walk_places-append, walk_at}
+use Rattle.hera_sound.specs.Types_found.{Slot, held, walked, attrs_of_tuple, slots, slots_all, slots_act, slots_acts, slots_branches}
+use Rattle.hera_sound.proofs.Slots.{walk_places, Stand, stand_both, walk_places-append, walk_at}
 use Rattle.hera_sound.proofs.Sizes.{bound, bound_command, bound_block, bound_arms}
 use Rattle.hera_sound.proofs.Made.{TypeIsMade, SchemaIsMade, ActIsMade, ActsAreMade, BranchesAreMade, act_nodes, acts_nodes, branches_nodes, nodes, nodes_all, count_of}
-use Rattle.hera_sound.proofs.Fine.{Inside, env_in, scope, IsGood, EnvIsGood, IsVisible, AllVisible, Fine, FineAll, forms_of, forms_in, params_forms, kind_good, slot_held}
+use Rattle.hera_sound.proofs.Fine.{Inside, env_in, scope, gathers_in, IsGood, EnvIsGood, IsVisible, AllVisible, Fine, FineAll, forms_of, forms_in, params_forms, kind_good, slot_held, walk_gathers}
 use Rattle.hera_sound.proofs.Rows_one.{walked_local, relation_in}
-use Rattle.hera_sound.proofs.Exprs.{slots, slots_all, slots_many, all_many, together, fine, fine_all, fine_list, variable_visible}
+use Rattle.hera_sound.proofs.Exprs.{slots_many, all_many, together, fine, fine_all, fine_list, variable_visible}
 
--- ---- the slots that statements declare
-
-abbrev mutual
-  pub slots_act : {g : Env} {r : Option Shape} {ls : List Local} {n : ℕ} {a : Act} {d : Done} → ElabAct g r ls n a d → List Slot
-  slots_act (declare_is {t = t} k e row) = held (form_of t) ∷ slots e
-  slots_act (assign_is e row) = slots e
-  slots_act (print_is e row) = slots e
-  slots_act (apply_is e row) = slots e
-  slots_act (assert_is e row) = slots e
-  slots_act (return_value_is e row) = slots e
-  slots_act (commit_is row) = []
-  slots_act (rollback_is row) = []
-  slots_act (return_is row) = []
-  slots_act (perform_is e row) = slots_all e
-  slots_act (choose_is b c) = slots_branches b ++ slots_acts c
-  slots_act (loop_is e row c) = slots e ++ slots_acts c
-  slots_act (visit_is {l = l} e row c) = walked (form_of l.shape) ∷ (slots e ++ slots_acts c)
-
-  pub slots_acts : {g : Env} {r : Option Shape} {ls : List Local} {n : ℕ} {cs all : List Command} {ps : Acts} → ElabActs g r ls n cs ps all → List Slot
-  slots_acts no_act_is = []
-  slots_acts (act_is a rest) = slots_act a ++ slots_acts rest
-
-  pub slots_branches : {g : Env} {r : Option Shape} {ls : List Local} {n : ℕ} {ready all : List Armed} {bs : Branches} → ElabBranches g r ls n ready bs all → List Slot
-  slots_branches no_branch_is = []
-  slots_branches (branch_is e row c rest) = (slots e ++ slots_acts c) ++ slots_branches rest
+-- ---- as many slots as statements declare
 
 mutual
   pub act_many : {g : Env} {r : Option Shape} {ls : List Local} {n : ℕ} {a : Act} {d : Done} (e : ElabAct g r ls n a d) → length (slots_act e) ≡ slots_of_act a
@@ -171,6 +149,7 @@ pub record BodyFits {g : Env} (x : Inside g) (r : Option Shape) : Type 0 where
 pub record FineAct {g : Env} (x : Inside g) (rs seen inside ws : List ℕ) (b m : ℕ) (d : Done) : Type 0 where
   pub sound : IsSound (scope x) seen rs inside d.core
   pub walks : walks_of d.core ≡ ws
+  pub gathers : CommandGathers (scope x) (gathers_in x) d.core
   pub small : bound_command d.core ≤ b
   pub sets : AllBelow m (sets_of d.core)
   pub locals : AllSettable x (readable_after seen rs d.core) inside m d.locals
@@ -180,6 +159,7 @@ pub record FineActs {g : Env} (x : Inside g) (rs seen inside ws : List ℕ) (b m
   pub all_is : all ≡ cs ++ news
   pub sound : BlockIsSound (scope x) seen rs inside (block_from news)
   pub walks : walks_of_block (block_from news) ≡ ws
+  pub gathers : BlockGathers (scope x) (gathers_in x) (block_from news)
   pub small : bound_block (block_from news) ≤ b
   pub sets : AllBelow m (sets_of_block (block_from news))
 
@@ -188,6 +168,7 @@ pub record FineBranches {g : Env} (x : Inside g) (rs seen inside ws : List ℕ) 
   pub all_is : all ≡ ready ++ news
   pub sound : ArmsAreSound (scope x) seen rs inside (arms_from news)
   pub walks : walks_of_arms (arms_from news) ≡ ws
+  pub gathers : ArmsGather (scope x) (gathers_in x) (arms_from news)
   pub small : bound_arms (arms_from news) ≤ b
   pub sets : AllBelow m (sets_of_arms (arms_from news))
 
@@ -242,6 +223,7 @@ module _ {g : Env} (x : Inside g) (rs seen inside : List ℕ) where
       (record {
         sound = (form_of t, s, subst (λ (y : Shape). IsOf (scope x) rs v.core (form_of y)) (sym same) f.of, may);
         walks = f.walks;
+        gathers = f.gathers;
         small = omega (arith, z);
         sets = (l, tt);
         locals = subst (λ (b : Bool). AllSettable x (cond b rs (n ∷ rs)) inside m (ls ++ local ∷ [])) (sym fresh) (settable_push x (n ∷ rs) inside m ls local (settable_read x rs inside m n ls vis) one);
@@ -261,6 +243,7 @@ module _ {g : Env} (x : Inside g) (rs seen inside : List ℕ) where
           (record {
             sound = (form_of y.shape, h.visible.slot, subst (λ (u : Shape). IsOf (scope x) rs v.core (form_of u)) (sym (same_shape-true y.shape v.type o.0)) f.of, h.may);
             walks = f.walks;
+            gathers = f.gathers;
             small = omega (arith, z);
             sets = (omega (arith, q, l), tt);
             locals = settable_after x seen rs inside m y.slot v.core ls (settable_later x rs inside n m ls l vis);
@@ -270,7 +253,7 @@ module _ {g : Env} (x : Inside g) (rs seen inside : List ℕ) where
   print_fine ws k m at ls b v c fun e vis f =
       let o = effect_given b at (print v.core v.type) c e in
       let z = f.small in
-      same_core ws (k + 1) m ls (print v.core v.type) c o.1 (record { sound = (f.of, fun ∙ o.0); walks = f.walks; small = omega (arith, z); sets = tt; locals = vis })
+      same_core ws (k + 1) m ls (print v.core v.type) c o.1 (record { sound = (f.of, fun ∙ o.0); walks = f.walks; gathers = f.gathers; small = omega (arith, z); sets = tt; locals = vis })
 
   apply_fine : (ws : List ℕ) (k m at : ℕ) (ls : List Local) (b : Bool) (v : Typing) (c : Command) → x.func ≡ b → apply_row b at v ≡ Ok c → AllSettable x rs inside m ls → Fine x rs ws k v → FineAct x rs seen inside ws (k + 1) m (done ls c)
   apply_fine ws k m at ls true v c fun e vis f = absurd cc
@@ -278,14 +261,14 @@ module _ {g : Env} (x : Inside g) (rs seen inside : List ℕ) where
       let o = given_true (is_delta v.type) (mismatch at) (apply v.core at) c e in
       let z = f.small in
       same_core ws (k + 1) m ls (apply v.core at) c o.1
-      (record { sound = (subst (λ (u : Shape). IsOf (scope x) rs v.core (form_of u)) (is_delta-true v.type o.0) f.of, fun); walks = f.walks; small = omega (arith, z); sets = tt; locals = vis })
+      (record { sound = (subst (λ (u : Shape). IsOf (scope x) rs v.core (form_of u)) (is_delta-true v.type o.0) f.of, fun); walks = f.walks; gathers = f.gathers; small = omega (arith, z); sets = tt; locals = vis })
 
   assert_fine : (ws : List ℕ) (k m at : ℕ) (ls : List Local) (v : Typing) (c : Command) → assert_row at v ≡ Ok c → AllSettable x rs inside m ls → Fine x rs ws k v → FineAct x rs seen inside ws (k + 1) m (done ls c)
   assert_fine ws k m at ls v c e vis f =
       let o = given_true (is_bool v.type) (mismatch at) (assert v.core at) c e in
       let z = f.small in
       same_core ws (k + 1) m ls (assert v.core at) c o.1
-      (record { sound = subst (λ (u : Shape). IsOf (scope x) rs v.core (form_of u)) (is_bool-true v.type o.0) f.of; walks = f.walks; small = omega (arith, z); sets = tt; locals = vis })
+      (record { sound = subst (λ (u : Shape). IsOf (scope x) rs v.core (form_of u)) (is_bool-true v.type o.0) f.of; walks = f.walks; gathers = f.gathers; small = omega (arith, z); sets = tt; locals = vis })
 
   value_fine : (ws : List ℕ) (k m at : ℕ) (ls : List Local) (r : Option Shape) (v : Typing) (c : Command) → BodyFits x r → return_value_row r at v ≡ Ok c → AllSettable x rs inside m ls → Fine x rs ws k v → FineAct x rs seen inside ws (k + 1) m (done ls c)
   value_fine ws k m at ls None v c fits e vis f = absurd cc
@@ -296,13 +279,14 @@ module _ {g : Env} (x : Inside g) (rs seen inside : List ℕ) where
       (record {
         sound = (form_of t, subst (λ (u : Shape). IsOf (scope x) rs v.core (form_of u)) (sym (same_shape-true t v.type o.0)) f.of, fits.result, fits.func);
         walks = f.walks;
+        gathers = f.gathers;
         small = omega (arith, z);
         sets = tt;
         locals = vis;
       })
 
   return_fine : (m at : ℕ) (ls : List Local) (r : Option Shape) (c : Command) → BodyFits x r → return_row r at ≡ Ok c → AllSettable x rs inside m ls → FineAct x rs seen inside [] 10 m (done ls c)
-  return_fine m at ls None c fits e vis = let h : return ≡ c = cc in same_core [] 10 m ls return c h (record { sound = fits.func; walks = refl; small = omega arith; sets = tt; locals = vis })
+  return_fine m at ls None c fits e vis = let h : return ≡ c = cc in same_core [] 10 m ls return c h (record { sound = fits.func; walks = refl; gathers = tt; small = omega arith; sets = tt; locals = vis })
   return_fine m at ls (Some t) c fits e vis = absurd cc
 
   perform_fine : (env : EnvIsGood x) (ws : List ℕ) (k m : ℕ) (ls : List Local) (b : Bool) (w : Word) (vs : List Typing) (c : Command) → x.func ≡ b → perform_row (env_in x) b w vs ≡ Ok c → AllSettable x rs inside m ls →
@@ -324,6 +308,7 @@ module _ {g : Env} (x : Inside g) (rs seen inside : List ℕ) where
           (record {
             sound = (forms_in (types_of vs), f.of, subst (λ (y : List Form). IsCallee (scope x) p.number false y None) fs (env.procs w.name p j), fun ∙ q.0);
             walks = f.walks;
+            gathers = f.gathers;
             small = omega (arith, z);
             sets = tt;
             locals = vis;
@@ -337,25 +322,26 @@ cond_given at v e k = let o = given_true (is_bool v.type) (mismatch at) v.core e
 
 -- more room, and other names of the walks
 act_moved : {g : Env} (x : Inside g) (rs seen inside ws ws' : List ℕ) (b b' m : ℕ) (d : Done) → ws ≡ ws' → b ≤ b' → FineAct x rs seen inside ws b m d → FineAct x rs seen inside ws' b' m d
-act_moved x rs seen inside ws ws' b b' m d e l h = let z = h.small in record { sound = h.sound; walks = h.walks ∙ e; small = omega (arith, z, l); sets = h.sets; locals = h.locals }
+act_moved x rs seen inside ws ws' b b' m d e l h = let z = h.small in record { sound = h.sound; walks = h.walks ∙ e; gathers = h.gathers; small = omega (arith, z, l); sets = h.sets; locals = h.locals }
 
 -- the condition of an `if` or a `while`
 pub record IsCondition {g : Env} (x : Inside g) (rs ws : List ℕ) (b : ℕ) (e : Expr) : Type 0 where
   pub of : IsOf (scope x) rs e bool_form
   pub walks : walks_in e ≡ ws
+  pub gathers : Gathers (scope x) (gathers_in x) e
   pub small : bound e + 3 ≤ b
 
 condition : {g : Env} (x : Inside g) (rs ws : List ℕ) (b at : ℕ) (v : Typing) (e : Expr) → cond_row at v ≡ Ok e → Fine x rs ws b v → IsCondition x rs ws b e
 condition x rs ws b at v e k f =
     let o = cond_given at v e k in
-    subst (λ (e : Expr). IsCondition x rs ws b e) o.1 (record { of = subst (λ (u : Shape). IsOf (scope x) rs v.core (form_of u)) o.0 f.of; walks = f.walks; small = f.small })
+    subst (λ (e : Expr). IsCondition x rs ws b e) o.1 (record { of = subst (λ (u : Shape). IsOf (scope x) rs v.core (form_of u)) o.0 f.of; walks = f.walks; gathers = f.gathers; small = f.small })
 
 mutual
   pub act_fine : {g : Env} (x : Inside g) (env : EnvIsGood x) (r : Option Shape) (fits : BodyFits x r) (rs seen inside : List ℕ) {ls : List Local} {n : ℕ} {a : Act} {d : Done} (e : ElabAct g r ls n a d) → ActIsMade a →
       AllSettable x rs inside n ls → AllBelow n seen → Stand x.slots n (slots_act e) → FineAct x rs seen inside (walk_places n (slots_act e)) (10 * act_nodes a) (n + slots_of_act a) d
   act_fine x env r fits rs seen inside (declare_is {ls = ls} {n = n} {type = type} {w = w} {p = p} {t = t} {v = v} {d = d} k e row) m vis below st =
-      let slot : IsSlot (scope x) n (form_of t) = slot_held x n (held (form_of t)) st.0 in
-      let u : has_slot (scope x).walks n ≡ false = walk_at n x.slots (held (form_of t)) st.0 in
+      let slot : IsSlot (scope x) n (form_of t) = slot_held x n (held t) st.0 in
+      let u : has_slot (scope x).walks n ≡ false = walk_at n x.slots (held t) st.0 in
       let f = fine x env rs e m.1 (all_visible x rs inside n ls vis) st.1 in
       act_moved x rs seen inside (walk_places (n + 1) (slots e)) (walk_places (n + 1) (slots e)) (10 * nodes p + 1) (10 * (1 + nodes p)) (n + (1 + slots_of p)) d refl (omega arith)
       (declare_fine x rs seen inside (walk_places (n + 1) (slots e)) (10 * nodes p) n (n + (1 + slots_of p)) ls w t v d row (type_good (env_in x).relations env.schemas type t m.0 k) slot u (omega arith)
@@ -381,9 +367,9 @@ mutual
       act_moved x rs seen inside (walk_places n (slots e)) (walk_places n (slots e)) (10 * nodes p + 1) (10 * (1 + nodes p)) (n + slots_of p) (done ls c) refl (omega arith)
       (value_fine x rs seen inside (walk_places n (slots e)) (10 * nodes p) (n + slots_of p) at ls r v c fits row (settable_later x rs inside n (n + slots_of p) ls (omega arith) vis) f)
   act_fine x env r fits rs seen inside (commit_is {ls = ls} {n = n} {at = at} {label = label} {c = c} row) m vis below st =
-      effect_fine x rs seen inside (n + 0) at ls (is_some r) (commit label) c fits.func row (λ k. record { sound = (m, k); walks = refl; small = omega arith; sets = tt; locals = settable_later x rs inside n (n + 0) ls (omega arith) vis })
+      effect_fine x rs seen inside (n + 0) at ls (is_some r) (commit label) c fits.func row (λ k. record { sound = (m, k); walks = refl; gathers = tt; small = omega arith; sets = tt; locals = settable_later x rs inside n (n + 0) ls (omega arith) vis })
   act_fine x env r fits rs seen inside (rollback_is {ls = ls} {n = n} {at = at} {c = c} row) m vis below st =
-      effect_fine x rs seen inside (n + 0) at ls (is_some r) rollback c fits.func row (λ k. record { sound = k; walks = refl; small = omega arith; sets = tt; locals = settable_later x rs inside n (n + 0) ls (omega arith) vis })
+      effect_fine x rs seen inside (n + 0) at ls (is_some r) rollback c fits.func row (λ k. record { sound = k; walks = refl; gathers = tt; small = omega arith; sets = tt; locals = settable_later x rs inside n (n + 0) ls (omega arith) vis })
   act_fine x env r fits rs seen inside (return_is {ls = ls} {n = n} {at = at} {c = c} row) m vis below st =
       return_fine x rs seen inside (n + 0) at ls r c fits row (settable_later x rs inside n (n + 0) ls (omega arith) vis)
   act_fine x env r fits rs seen inside (perform_is {ls = ls} {n = n} {w = w} {args = args} {vs = vs} {c = c} e row) m vis below st =
@@ -403,6 +389,7 @@ mutual
       record {
         sound = (h.sound, j.sound);
         walks = ap (λ zs. zs ++ walks_of_block (block_from j.news)) h.walks ∙ ap (λ zs. walk_places n (slots_branches b) ++ zs) j.walks ∙ sym (walk_places-append n (slots_branches b) (slots_acts c) k (branches_many b));
+        gathers = (h.gathers, j.gathers);
         small = omega (arith, p, q);
         sets = below_append (n + (k + slots_of_acts last)) (sets_of_arms (arms_from h.news)) (sets_of_block (block_from j.news)) (below_weaker (n + k) (n + (k + slots_of_acts last)) (sets_of_arms (arms_from h.news)) (omega arith) h.sets)
             (below_weaker ((n + k) + slots_of_acts last) (n + (k + slots_of_acts last)) (sets_of_block (block_from j.news)) (omega arith) j.sets);
@@ -421,6 +408,7 @@ mutual
       record {
         sound = (h.of, j.sound);
         walks = ap (λ zs. zs ++ walks_of_block (block_from j.news)) h.walks ∙ ap (λ zs. walk_places n (slots d) ++ zs) j.walks ∙ sym (walk_places-append n (slots d) (slots_acts b) k (slots_many d));
+        gathers = (h.gathers, j.gathers);
         small = omega (arith, p, q);
         sets = below_weaker ((n + k) + slots_of_acts block) (n + (k + slots_of_acts block)) (sets_of_block (block_from j.news)) (omega arith) j.sets;
         locals = settable_later x rs inside n (n + (k + slots_of_acts block)) ls (omega arith) vis;
@@ -431,7 +419,8 @@ mutual
       let s = stand_both x.slots (n + 1) (slots d) (slots_acts b) k (slots_many d) st.1 in
       let f = fine x env rs d m.0 (all_visible x rs inside n ls vis) s.0 in
       let w = walked_local (env_in x) ls var at n v.type l row in
-      let slot : IsSlot (scope x) n (form_of l.shape) = slot_held x n (walked (form_of l.shape)) st.0 in
+      let its : Slot = walked l.shape (attrs_of_tuple l.shape) in
+      let slot : IsSlot (scope x) n (form_of l.shape) = slot_held x n its st.0 in
       let one = variable_visible x rs n var v.type l w f.good slot in
       let here : (nat_eq l.slot n || has_slot inside l.slot) ≡ true = ap (λ z. z || has_slot inside l.slot) (eq-eqb l.slot n (sym w.slot_is)) in
       let mine : IsSettable x (n ∷ rs) (n ∷ inside) (n + 1 + k) l =
@@ -441,10 +430,14 @@ mutual
       let j = acts_fine x env r fits (n ∷ rs) seen (n ∷ inside) b m.1 vis' (below_weaker n (n + 1 + k) seen (omega arith) below) s.1 in
       let p = f.small in
       let q = j.small in
+      let slot' : IsSlot (scope x) n (of_tuple (kinds_of w.schema)) = subst (λ (u : Shape). IsSlot (scope x) n (form_of u)) (sym w.shape_is) slot in
+      let gathers : IsGathered (scope x) (gathers_in x) n (kinds_of w.schema) =
+      subst (λ (u : Shape). IsGathered (scope x) (gathers_in x) n (kinds_of (attrs_of_tuple u))) (sym w.shape_is) (walk_gathers x n its (attrs_of_tuple l.shape) st.0 refl) in
       let body : FineAct x rs seen inside (n ∷ walk_places (n + 1) (slots d ++ slots_acts b)) (10 * (1 + nodes of + acts_nodes block)) (n + (1 + k + slots_of_acts block)) (done ls (foreach n v.core (block_from j.news))) =
       record {
-        sound = (kinds_of w.schema, subst (λ (u : Shape). IsOf (scope x) rs v.core (form_of u)) w.over_is f.of, subst (λ (u : Shape). IsSlot (scope x) n (form_of u)) (sym w.shape_is) slot, j.sound);
+        sound = (kinds_of w.schema, subst (λ (u : Shape). IsOf (scope x) rs v.core (form_of u)) w.over_is f.of, slot', j.sound);
         walks = ap (λ zs. n ∷ zs) (ap (λ zs. zs ++ walks_of_block (block_from j.news)) f.walks ∙ ap (λ zs. walk_places (n + 1) (slots d) ++ zs) j.walks ∙ sym (walk_places-append (n + 1) (slots d) (slots_acts b) k (slots_many d)));
+        gathers = (f.gathers, j.gathers, (kinds_of w.schema, slot', gathers));
         small = omega (arith, p, q);
         sets = below_weaker ((n + 1 + k) + slots_of_acts block) (n + (1 + k + slots_of_acts block)) (sets_of_block (block_from j.news)) (omega arith) j.sets;
         locals = settable_later x rs inside n (n + (1 + k + slots_of_acts block)) ls (omega arith) vis;
@@ -453,7 +446,7 @@ mutual
 
   pub acts_fine : {g : Env} (x : Inside g) (env : EnvIsGood x) (r : Option Shape) (fits : BodyFits x r) (rs seen inside : List ℕ) {ls : List Local} {n : ℕ} {cs all : List Command} {ps : Acts} (e : ElabActs g r ls n cs ps all) → ActsAreMade ps →
       AllSettable x rs inside n ls → AllBelow n seen → Stand x.slots n (slots_acts e) → FineActs x rs seen inside (walk_places n (slots_acts e)) (10 * acts_nodes ps) (n + slots_of_acts ps) cs all
-  acts_fine x env r fits rs seen inside (no_act_is {cs = cs}) m vis below st = record { news = []; all_is = sym (append-nil cs); sound = tt; walks = refl; small = omega arith; sets = tt }
+  acts_fine x env r fits rs seen inside (no_act_is {cs = cs}) m vis below st = record { news = []; all_is = sym (append-nil cs); sound = tt; walks = refl; gathers = tt; small = omega arith; sets = tt }
   acts_fine x env r fits rs seen inside (act_is {ls = ls} {n = n} {a = a} {rest = rest} {d = d} {cs = cs} e es) m vis below st =
       let k = slots_of_act a in
       let s = stand_both x.slots n (slots_act e) (slots_acts es) k (act_many e) st in
@@ -466,6 +459,7 @@ mutual
         all_is = j.all_is ∙ append_assoc cs (d.core ∷ []) j.news;
         sound = (f.sound, j.sound);
         walks = ap (λ zs. zs ++ walks_of_block (block_from j.news)) f.walks ∙ ap (λ zs. walk_places n (slots_act e) ++ zs) j.walks ∙ sym (walk_places-append n (slots_act e) (slots_acts es) k (act_many e));
+        gathers = (f.gathers, j.gathers);
         small = omega (arith, p, q);
         sets = below_append (n + (k + slots_of_acts rest)) (sets_of d.core) (sets_of_block (block_from j.news)) (below_weaker (n + k) (n + (k + slots_of_acts rest)) (sets_of d.core) (omega arith) f.sets)
             (below_weaker ((n + k) + slots_of_acts rest) (n + (k + slots_of_acts rest)) (sets_of_block (block_from j.news)) (omega arith) j.sets);
@@ -473,7 +467,7 @@ mutual
 
   pub branches_fine : {g : Env} (x : Inside g) (env : EnvIsGood x) (r : Option Shape) (fits : BodyFits x r) (rs seen inside : List ℕ) {ls : List Local} {n : ℕ} {ready all : List Armed} {bs : Branches} (e : ElabBranches g r ls n ready bs all) → BranchesAreMade bs →
       AllSettable x rs inside n ls → AllBelow n seen → Stand x.slots n (slots_branches e) → FineBranches x rs seen inside (walk_places n (slots_branches e)) (10 * branches_nodes bs) (n + slots_of_branches bs) ready all
-  branches_fine x env r fits rs seen inside (no_branch_is {ready = ready}) m vis below st = record { news = []; all_is = sym (append-nil ready); sound = tt; walks = refl; small = omega arith; sets = tt }
+  branches_fine x env r fits rs seen inside (no_branch_is {ready = ready}) m vis below st = record { news = []; all_is = sym (append-nil ready); sound = tt; walks = refl; gathers = tt; small = omega arith; sets = tt }
   branches_fine x env r fits rs seen inside (branch_is {ls = ls} {n = n} {at = at} {c = c} {block = block} {rest = rest} {v = v} {e = e} {cs = cs} {ready = ready} d row b bs) m vis below st =
       let k = slots_of c in
       let i = slots_of_acts block in
@@ -501,6 +495,7 @@ mutual
             ∙ ap (λ zs. (walk_places n (slots d) ++ walk_places (n + k) (slots_acts b)) ++ zs) (o.walks ∙ rest_walks)
             ∙ ap (λ zs. zs ++ walk_places (n + (k + i)) (slots_branches bs)) (sym (walk_places-append n (slots d) (slots_acts b) k (slots_many d)))
             ∙ sym (walk_places-append n (slots d ++ slots_acts b) (slots_branches bs) (k + i) both);
+        gathers = (h.gathers, j.gathers, o.gathers);
         small = omega (arith, p, q, u);
         sets = below_append (n + (k + i + slots_of_branches rest)) (sets_of_block (block_from j.news)) (sets_of_arms (arms_from o.news)) (below_weaker ((n + k) + i) (n + (k + i + slots_of_branches rest)) (sets_of_block (block_from j.news)) (omega arith) j.sets)
             (below_weaker (((n + k) + i) + slots_of_branches rest) (n + (k + i + slots_of_branches rest)) (sets_of_arms (arms_from o.news)) (omega arith) o.sets);

@@ -6,6 +6,7 @@ use Rattle.hera_meaning.specs.declared.trees.Shape.TheVariants.{Bool as bool, De
 use Rattle.hera_meaning.specs.Forms.{form_of}
 use Rattle.hera_meaning.specs.Trees.{Expr}
 use Rattle.hera_meaning.specs.Sound.{IsOf, AreBools, AreDeltas, LinksAreOf, walks_in, walks_in_all, walks_in_links, walks_in_hypos}
+use Rattle.hera_meaning.specs.Shapes.{Gathers, GathersAll, GathersLinks, GathersHypos}
 use Rattle.hera_rules.specs.declared.words.Joint.{Joint}
 use Rattle.hera_rules.specs.declared.words.Joint.TheVariants.{When as by_when, And as by_and, Or as by_or, Arithmetic, Equality, Order, Member, Deltas}
 use Rattle.hera_rules.specs.declared.fault.TypeFault.TheVariants.{Mismatch as mismatch}
@@ -15,7 +16,7 @@ use Rattle.hera_sound.proofs.Tests.{given_true, and_true, is_bool-true, is_delta
 use Rattle.hera_sound.proofs.Sizes.{bound, bound_all, bound_links, bound_hypos}
 use Rattle.hera_sound.proofs.Made.{IsJoint, Level, whens, ands, ors, chains, level_of}
 use Rattle.hera_sound.proofs.Ops.{link_op, joint_good}
-use Rattle.hera_sound.proofs.Fine.{Inside, env_in, scope, IsGood, Fine}
+use Rattle.hera_sound.proofs.Fine.{Inside, env_in, scope, gathers_in, IsGood, Fine}
 
 -- typed operands, all by joints of one level, behind a value of one type: they give that other type
 pub data Steps {g : Env} (x : Inside g) (rs : List ℕ) (l : Level) : Shape → List Step → Shape → Type 0 where
@@ -172,14 +173,43 @@ chain_small c (i ∷ is) = by i.joint
     by by_or = let h = small_args is in omega (arith, h)
     by _ = let h = small_links is in omega (arith, h)
 
-pub chain_fine : {g : Env} (x : Inside g) (rs ws ws' : List ℕ) (b b' : ℕ) (l : Level) (v : Typing) (t : Shape) (is : List Step) → Fine x rs ws b v → Steps x rs l v.type is t → walks_steps is ≡ ws' → bound_steps is ≤ b' →
+module _ {g : Env} (x : Inside g) where
+  -- the walks in the operands gather what is said of them
+  abbrev pub StepsGather : List Step → Type 0
+  StepsGather [] = Unit {0}
+  StepsGather (i ∷ is) = Gathers (scope x) (gathers_in x) i.arg × StepsGather is
+
+  links_gather : (is : List Step) → StepsGather is → GathersLinks (scope x) (gathers_in x) (links_from is)
+  links_gather [] h = tt
+  links_gather (i ∷ is) h = (h.0, links_gather is h.1)
+
+  hypos_gather : (is : List Step) → StepsGather is → GathersHypos (scope x) (gathers_in x) (hypos_from is)
+  hypos_gather [] h = tt
+  hypos_gather (i ∷ is) h = (h.0, hypos_gather is h.1)
+
+  args_gather : (is : List Step) → StepsGather is → GathersAll (scope x) (gathers_in x) (args_from is)
+  args_gather [] h = tt
+  args_gather (i ∷ is) h = (h.0, args_gather is h.1)
+
+  chain_gathers : (c : Expr) (is : List Step) → Gathers (scope x) (gathers_in x) c → StepsGather is → Gathers (scope x) (gathers_in x) (chain_core c is)
+  chain_gathers c [] h k = h
+  chain_gathers c (i ∷ is) h k = by i.joint
+    where
+      by : (j : Joint) → Gathers (scope x) (gathers_in x) (chain_by j c (i ∷ is))
+      by by_when = (h, hypos_gather (i ∷ is) k)
+      by by_and = (h, args_gather (i ∷ is) k)
+      by by_or = (h, args_gather (i ∷ is) k)
+      by _ = (h, links_gather (i ∷ is) k)
+
+pub chain_fine : {g : Env} (x : Inside g) (rs ws ws' : List ℕ) (b b' : ℕ) (l : Level) (v : Typing) (t : Shape) (is : List Step) → Fine x rs ws b v → Steps x rs l v.type is t → walks_steps is ≡ ws' → StepsGather x is → bound_steps is ≤ b' →
     Fine x rs (ws ++ ws') (b + b') (typing t (chain_core v.core is))
-chain_fine x rs ws ws' b b' l v t is f s w k =
+chain_fine x rs ws ws' b b' l v t is f s w a k =
     let p = f.small in
     let q = chain_small v.core is in
     record {
       of = chain_of x rs l v.core v.type t is f.of s;
       good = steps_good s f.good;
       walks = chain_walks v.core is ∙ ap (λ zs. zs ++ walks_steps is) f.walks ∙ ap (λ zs. ws ++ zs) w;
+      gathers = chain_gathers x v.core is f.gathers a;
       small = omega (arith, p, q, k);
     }

@@ -7,51 +7,22 @@ use Rattle.hera_meaning.specs.declared.trees.Shape.TheVariants.{Tuple as tuple, 
 use Rattle.hera_meaning.specs.Deltas.{schema_of}
 use Rattle.hera_meaning.specs.Forms.{of_tuple, form_of, kinds_of}
 use Rattle.hera_meaning.specs.Sound.{IsSlot, walks_in_all, has_slot}
+use Rattle.hera_meaning.specs.Shapes.{IsGathered}
 use Rattle.hera_rules.specs.declared.words.Word.{Word}
 use Rattle.hera_rules.specs.declared.env.Local.{Local}
 use Rattle.hera_rules.specs.Environments.{Env, relation_named}
 use Rattle.hera_rules.specs.Phrases.{Phrase, Phrases, Uses}
 use Rattle.hera_rules.specs.Rules.{Typing, typing, Step, exprs_from, chain_core}
 use Rattle.hera_rules.specs.Typing.{slots_of, slots_of_all, slots_of_uses, Elab, ElabAll, ElabUses, literal_is, name_is, operation_is, atoms_are, pair_is, walk_is, none_are, more_are, no_use_is, use_is, prefix_is, field_is, project_is, rename_is, group_is, test_is, fold_is, bulk_is, part_is, call_is, row_is, atom_is, line_is, lines_is}
-use Rattle.hera_sound.proofs.Slots.{Slot, walked, walk_places, Stand, stand_both, walk_places-append}
+use Rattle.hera_sound.specs.Types_found.{Slot, walked, gathered, slots, slots_all, slots_uses}
+use Rattle.hera_sound.proofs.Slots.{walk_places, Stand, stand_both, walk_places-append}
 use Rattle.hera_sound.proofs.Made.{IsMade, AreMade, UsesAreMade, AreOfLevel, Level, IsAtom, AreAtoms, IsLine, AreLines, count_of, nodes, nodes_all, nodes_uses}
-use Rattle.hera_sound.proofs.Fine.{Inside, env_in, scope, IsGood, EnvIsGood, IsVisible, AllVisible, Fine, FineAll, moved, slot_held}
+use Rattle.hera_sound.proofs.Fine.{Inside, env_in, scope, gathers_in, IsGood, EnvIsGood, IsVisible, AllVisible, Fine, FineAll, moved, slot_held, walk_gathers}
 use Rattle.hera_sound.proofs.Rows_one.{IsWalked, walked_local, literal_fine, name_fine, prefix_fine, test_fine, field_fine, fold_fine, project_fine, rename_fine, group_fine, pair_fine, bulk_fine, part_fine, walk_fine}
 use Rattle.hera_sound.proofs.Rows_all.{AllHave, have_more, call_fine, row_fine, atom_fine, line_fine, lines_fine, atoms_fine, atom_type, line_type}
-use Rattle.hera_sound.proofs.Chains.{Steps, no_step, one_step, walks_steps, bound_steps, chain_fine}
+use Rattle.hera_sound.proofs.Chains.{Steps, no_step, one_step, walks_steps, bound_steps, StepsGather, chain_fine}
 
--- ---- the slots that a phrase declares
-
-abbrev mutual
-  pub slots : {g : Env} {ls : List Local} {n : ℕ} {p : Phrase} {v : Typing} → Elab g ls n p v → List Slot
-  slots literal_is = []
-  slots (name_is r) = []
-  slots (operation_is e u) = slots e ++ slots_uses u
-  slots (prefix_is e r) = slots e
-  slots (field_is e r) = slots e
-  slots (project_is e r) = slots e
-  slots (rename_is e r) = slots e
-  slots (group_is e r) = slots e
-  slots (test_is e r) = slots e
-  slots (fold_is e r) = slots e
-  slots (bulk_is e r) = slots e
-  slots (part_is e r) = slots e
-  slots (call_is e r) = slots_all e
-  slots (row_is e r) = slots_all e
-  slots (atom_is e r) = slots_all e
-  slots (line_is e r) = slots_all e
-  slots (lines_is e r) = slots_all e
-  slots (atoms_are e) = slots_all e
-  slots (pair_is e d r) = slots e ++ slots d
-  slots (walk_is {l = l} e b d r) = walked (form_of l.shape) ∷ (slots e ++ slots d)
-
-  pub slots_all : {g : Env} {ls : List Local} {n : ℕ} {vs all : List Typing} {ps : Phrases} → ElabAll g ls n vs ps all → List Slot
-  slots_all none_are = []
-  slots_all (more_are e es) = slots e ++ slots_all es
-
-  pub slots_uses : {g : Env} {ls : List Local} {n : ℕ} {t r : Shape} {us : Uses} {is all : List Step} → ElabUses g ls n t is us r all → List Slot
-  slots_uses no_use_is = []
-  slots_uses (use_is e j u) = slots e ++ slots_uses u
+-- ---- as many slots as a phrase declares
 
 pub together : (xs ys : List Slot) (m n : ℕ) → length xs ≡ m → length ys ≡ n → length (xs ++ ys) ≡ m + n
 together xs ys m n e f = let h = length-append xs ys in omega (arith, h, e, f)
@@ -145,6 +116,7 @@ pub record FineUses {g : Env} (x : Inside g) (rs ws : List ℕ) (b : ℕ) (l : L
   pub all_is : all ≡ is ++ news
   pub steps : Steps x rs l t news t'
   pub walks : walks_steps news ≡ ws
+  pub gathers : StepsGather x news
   pub small : bound_steps news ≤ b
 
 -- all of a list that begins here
@@ -209,7 +181,7 @@ mutual
       let s = stand_both x.slots n (slots e) (slots_uses u) (slots_of p) (slots_many e) st in
       let f = fine x env rs e m.0 vis s.0 in
       let h = fine_uses x env rs u m.2.0 m.1 m.2.1 vis s.1 in
-      let c = chain_fine x rs (walk_places n (slots e)) (walk_places (n + slots_of p) (slots_uses u)) (10 * nodes p) (10 * nodes_uses rest) m.2.0 v t h.news f h.steps h.walks h.small in
+      let c = chain_fine x rs (walk_places n (slots e)) (walk_places (n + slots_of p) (slots_uses u)) (10 * nodes p) (10 * nodes_uses rest) m.2.0 v t h.news f h.steps h.walks h.gathers h.small in
       moved x rs (walk_places n (slots e) ++ walk_places (n + slots_of p) (slots_uses u)) (walk_places n (slots e ++ slots_uses u)) (10 * nodes p + 10 * nodes_uses rest) (10 * (nodes p + nodes_uses rest)) (typing t (chain_core v.core is))
       (sym (walk_places-append n (slots e) (slots_uses u) (slots_of p) (slots_many e))) (omega arith)
       (subst (λ (is : List Step). Fine x rs (walk_places n (slots e) ++ walk_places (n + slots_of p) (slots_uses u)) (10 * nodes p + 10 * nodes_uses rest) (typing t (chain_core v.core is))) (sym h.all_is) c)
@@ -224,18 +196,21 @@ mutual
       let s = stand_both x.slots (n + 1) (slots e) (slots d) (slots_of of) (slots_many e) st.1 in
       let f = fine x env rs e m.0 vis s.0 in
       let w = walked_local (env_in x) ls var at n v.type l k in
-      let slot : IsSlot (scope x) n (form_of l.shape) = slot_held x n (walked (form_of l.shape)) st.0 in
+      let here : Slot = walked l.shape (gathered walk l.shape b.type) in
+      let slot : IsSlot (scope x) n (form_of l.shape) = slot_held x n here st.0 in
       let one = variable_visible x rs n var v.type l w f.good slot in
       let vis' : AllVisible x (n ∷ rs) (ls ++ l ∷ []) = visible_more x (n ∷ rs) ls l (visible_in x rs n ls vis) one in
       let h = fine x env (n ∷ rs) d m.1 vis' s.1 in
       let slot' : IsSlot (scope x) n (of_tuple (kinds_of w.schema)) = subst (λ (u : Shape). IsSlot (scope x) n (form_of u)) (sym w.shape_is) slot in
+      let gathers : IsGathered (scope x) (gathers_in x) n (kinds_of (gathered walk (tuple w.schema) b.type)) =
+      subst (λ (u : Shape). IsGathered (scope x) (gathers_in x) n (kinds_of (gathered walk u b.type))) (sym w.shape_is) (walk_gathers x n here (gathered walk l.shape b.type) st.0 refl) in
       moved x rs (n ∷ (walk_places (n + 1) (slots e) ++ walk_places (n + 1 + slots_of of) (slots d))) (n ∷ walk_places (n + 1) (slots e ++ slots d)) (10 * nodes of + 10 * nodes body + 2) (10 * (1 + nodes of + nodes body)) r
       (ap (λ zs. n ∷ zs) (sym (walk_places-append (n + 1) (slots e) (slots d) (slots_of of) (slots_many e)))) (omega arith)
-      (walk_fine x rs (walk_places (n + 1) (slots e)) (walk_places (n + 1 + slots_of of) (slots d)) (10 * nodes of) (10 * nodes body) walk at n w.schema v b r w.over_is row slot' f h)
+      (walk_fine x rs (walk_places (n + 1) (slots e)) (walk_places (n + 1 + slots_of of) (slots d)) (10 * nodes of) (10 * nodes body) walk at n w.schema v b r w.over_is row slot' gathers f h)
 
   pub fine_all : {g : Env} (x : Inside g) (env : EnvIsGood x) (rs : List ℕ) {ls : List Local} {n : ℕ} {vs all : List Typing} {ps : Phrases} (e : ElabAll g ls n vs ps all) → AreMade ps → AllVisible x rs ls → Stand x.slots n (slots_all e) →
       FineMore x rs (walk_places n (slots_all e)) (10 * nodes_all ps) (count_of ps) vs all
-  fine_all x env rs (none_are {vs = vs}) m vis st = record { news = []; all_is = sym (append-nil vs); many = refl; fine = record { of = tt; walks = refl; small = omega arith } }
+  fine_all x env rs (none_are {vs = vs}) m vis st = record { news = []; all_is = sym (append-nil vs); many = refl; fine = record { of = tt; walks = refl; gathers = tt; small = omega arith } }
   fine_all x env rs (more_are {n = n} {p = p} {rest = rest} {v = v} {vs = vs} e es) m vis st =
       let s = stand_both x.slots n (slots e) (slots_all es) (slots_of p) (slots_many e) st in
       let f = fine x env rs e m.0 vis s.0 in
@@ -249,13 +224,14 @@ mutual
         fine = record {
           of = (f.of, h.fine.of);
           walks = ap (λ zs. zs ++ walks_in_all (exprs_from h.news)) f.walks ∙ ap (λ zs. walk_places n (slots e) ++ zs) h.fine.walks ∙ sym (walk_places-append n (slots e) (slots_all es) (slots_of p) (slots_many e));
+          gathers = (f.gathers, h.fine.gathers);
           small = omega (arith, a, b);
         };
       }
 
   pub fine_uses : {g : Env} (x : Inside g) (env : EnvIsGood x) (rs : List ℕ) {ls : List Local} {n : ℕ} {t t' : Shape} {us : Uses} {is all : List Step} (e : ElabUses g ls n t is us t' all) (l : Level) → UsesAreMade us → AreOfLevel l us →
       AllVisible x rs ls → Stand x.slots n (slots_uses e) → FineUses x rs (walk_places n (slots_uses e)) (10 * nodes_uses us) l t t' is all
-  fine_uses x env rs (no_use_is {is = is}) l m k vis st = record { news = []; all_is = sym (append-nil is); steps = no_step; walks = refl; small = omega arith }
+  fine_uses x env rs (no_use_is {is = is}) l m k vis st = record { news = []; all_is = sym (append-nil is); steps = no_step; walks = refl; gathers = tt; small = omega arith }
   fine_uses x env rs (use_is {n = n} {at = at} {op = op} {p = p} {rest = rest} {v = v} {is = is} e j u) l m k vis st =
       let s = stand_both x.slots n (slots e) (slots_uses u) (slots_of p) (slots_many e) st in
       let f = fine x env rs e m.1 vis s.0 in
@@ -268,5 +244,6 @@ mutual
         all_is = h.all_is ∙ append_assoc is (i ∷ []) h.news;
         steps = one_step v f.of m.0 k.0 j h.steps;
         walks = ap (λ zs. zs ++ walks_steps h.news) f.walks ∙ ap (λ zs. walk_places n (slots e) ++ zs) h.walks ∙ sym (walk_places-append n (slots e) (slots_uses u) (slots_of p) (slots_many e));
+        gathers = (f.gathers, h.gathers);
         small = omega (arith, a, b);
       }

@@ -1,5 +1,5 @@
 -- What is promised of a typed phrase: its core is of its type's form, its type's schema is one, its walks
--- have their own slots, and its code is short.
+-- have their own slots and gather what is said of them, and its code is short.
 use Rattle.std.proofs.Common.{◌≡◌, ℕ, ◌<◌, ◌≤◌, ◌+◌, List, [], ◌∷◌, ◌++◌, length, refl, ap, ◌∙◌, subst, arith, Bool, true, false, append-nil}
 use Rattle.std.specs.Prelude.{Option, Some, None, map, slice_get}
 use Rattle.std.proofs.lemmas.Option.{slice_get-map}
@@ -15,13 +15,15 @@ use Rattle.hera_meaning.specs.Deltas.{schema_of}
 use Rattle.hera_meaning.specs.Trees.{prim, call, Body_tree}
 use Rattle.hera_meaning.specs.Forms.{Form, of_scalar, form_of, kinds_of, OpIsOf}
 use Rattle.hera_meaning.specs.Sound.{Scope, Body_forms, IsSlot, IsOf, AreOf, IsCallee, has_slot, walks_in, walks_in_all}
+use Rattle.hera_meaning.specs.Shapes.{kinds_if, IsGathered, Gathers, GathersAll}
 use Rattle.hera_host.specs.Tables.{specs_of}
 use Rattle.hera_rules.specs.declared.env.Local.{Local}
 use Rattle.hera_rules.specs.declared.env.FuncSig.{FuncSig}
 use Rattle.hera_rules.specs.declared.env.ProcSig.{ProcSig}
 use Rattle.hera_rules.specs.Environments.{Env, func_named, proc_named}
 use Rattle.hera_rules.specs.Rules.{Typing, typing, kind_type, types_of, params_of, exprs_from, one_expr, two_exprs, kind_types}
-use Rattle.hera_sound.proofs.Slots.{Slot, slot_forms, walk_places}
+use Rattle.hera_sound.specs.Types_found.{Slot}
+use Rattle.hera_sound.proofs.Slots.{slot_forms, slot_gathers, walk_places}
 use Rattle.hera_sound.proofs.Sizes.{bound, bound_all}
 
 -- one body, where names mean this: the program's bodies with their forms, and the body's own slots and result
@@ -45,6 +47,9 @@ scope x = record {
   own = record { slots = slot_forms x.slots; result = x.result };
   walks = walk_places 0 x.slots;
 }
+
+abbrev pub gathers_in : {g : Env} → Inside g → List (Option (List Kind))
+gathers_in x = slot_gathers x.slots
 
 -- the schema of a type is one
 abbrev pub IsGood : Shape → Type 0
@@ -79,16 +84,28 @@ pub record Fine {g : Env} (x : Inside g) (rs : List ℕ) (ws : List ℕ) (b : �
   pub of : IsOf (scope x) rs v.core (form_of v.type)
   pub good : IsGood v.type
   pub walks : walks_in v.core ≡ ws
+  pub gathers : Gathers (scope x) (gathers_in x) v.core
   pub small : bound v.core + 3 ≤ b
 
 -- typed phrases in a row
 pub record FineAll {g : Env} (x : Inside g) (rs : List ℕ) (ws : List ℕ) (b : ℕ) (vs : List Typing) : Type 0 where
   pub of : AreOf (scope x) rs (exprs_from vs) (forms_in (types_of vs))
   pub walks : walks_in_all (exprs_from vs) ≡ ws
+  pub gathers : GathersAll (scope x) (gathers_in x) (exprs_from vs)
   pub small : bound_all (exprs_from vs) ≤ b
 
-pub slot_held : {g : Env} (x : Inside g) (i : ℕ) (s : Slot) → slice_get x.slots i ≡ Some s → IsSlot (scope x) i s.form
-slot_held x i s e = slice_get-map (λ (s : Slot). s.form) x.slots i ∙ ap (λ (o : Option Slot). option_map (λ (s : Slot). s.form) o) e
+pub slot_held : {g : Env} (x : Inside g) (i : ℕ) (s : Slot) → slice_get x.slots i ≡ Some s → IsSlot (scope x) i (form_of s.shape)
+slot_held x i s e =
+    let shapes : List Shape = map (λ (s : Slot). s.shape) x.slots in
+    let here : slice_get shapes i ≡ Some s.shape = slice_get-map (λ (s : Slot). s.shape) x.slots i ∙ ap (λ (o : Option Slot). option_map (λ (s : Slot). s.shape) o) e in
+    slice_get-map (λ (t : Shape). form_of t) shapes i ∙ ap (λ (o : Option Shape). option_map (λ (t : Shape). form_of t) o) here
+
+-- what the walk into a slot gathers
+pub walk_gathers : {g : Env} (x : Inside g) (i : ℕ) (s : Slot) (a : List Attr) → slice_get x.slots i ≡ Some s → s.gathers ≡ Some a → IsGathered (scope x) (gathers_in x) i (kinds_of a)
+walk_gathers x i s a e k =
+    let all : List (Option (List Attr)) = map (λ (s : Slot). s.gathers) x.slots in
+    let here : slice_get all i ≡ Some (Some a) = slice_get-map (λ (s : Slot). s.gathers) x.slots i ∙ ap (λ (o : Option Slot). option_map (λ (s : Slot). s.gathers) o) e ∙ ap (λ (o : Option (List Attr)). Some o) k in
+    slice_get-map (λ (o : Option (List Attr)). kinds_if o) all i ∙ ap (λ (o : Option (Option (List Attr))). option_map (λ (q : Option (List Attr)). kinds_if q) o) here
 
 -- ---- forms of types
 
@@ -116,14 +133,14 @@ module _ {g : Env} (x : Inside g) (rs : List ℕ) where
 
   -- other names of the walks, and more room
   pub moved : (ws ws' : List ℕ) (b b' : ℕ) (v : Typing) → ws ≡ ws' → b ≤ b' → Fine x rs ws b v → Fine x rs ws' b' v
-  moved ws ws' b b' v e l h = let s = h.small in record { of = h.of; good = h.good; walks = h.walks ∙ e; small = omega (arith, l, s) }
+  moved ws ws' b b' v e l h = let s = h.small in record { of = h.of; good = h.good; walks = h.walks ∙ e; gathers = h.gathers; small = omega (arith, l, s) }
 
   -- an operation of one operand
   pub one_prim : (ws : List ℕ) (b : ℕ) (v : Typing) (op : Op) (at : ℕ) (t : Shape) → OpIsOf (env_in x).relations op (form_of v.type ∷ []) (form_of t) → IsGood t →
       Fine x rs ws b v → Fine x rs ws (b + 4) (typing t (prim op (one_expr v.core) at))
   one_prim ws b v op at t o g h =
       let s = h.small in
-      record { of = (form_of v.type ∷ [], (h.of, tt), o); good = g; walks = append-nil (walks_in v.core) ∙ h.walks; small = omega (arith, s) }
+      record { of = (form_of v.type ∷ [], (h.of, tt), o); good = g; walks = append-nil (walks_in v.core) ∙ h.walks; gathers = (h.gathers, tt); small = omega (arith, s) }
 
   -- an operation of two operands
   pub two_prim : (ws ws' : List ℕ) (b b' : ℕ) (v w : Typing) (op : Op) (at : ℕ) (t : Shape) → OpIsOf (env_in x).relations op (form_of v.type ∷ form_of w.type ∷ []) (form_of t) → IsGood t →
@@ -135,15 +152,16 @@ module _ {g : Env} (x : Inside g) (rs : List ℕ) where
         of = (form_of v.type ∷ form_of w.type ∷ [], (h.of, (k.of, tt)), o);
         good = g;
         walks = ap (λ zs. walks_in v.core ++ zs) (append-nil (walks_in w.core)) ∙ ap (λ zs. zs ++ walks_in w.core) h.walks ∙ ap (λ zs. ws ++ zs) k.walks;
+        gathers = (h.gathers, (k.gathers, tt));
         small = omega (arith, s, r);
       }
 
   -- an operation of a list of operands
   pub all_prim : (ws : List ℕ) (b : ℕ) (vs : List Typing) (op : Op) (at : ℕ) (t : Shape) → OpIsOf (env_in x).relations op (forms_in (types_of vs)) (form_of t) → IsGood t →
       FineAll x rs ws b vs → Fine x rs ws (b + 4) (typing t (prim op (exprs_from vs) at))
-  all_prim ws b vs op at t o g h = let s = h.small in record { of = (forms_in (types_of vs), h.of, o); good = g; walks = h.walks; small = omega (arith, s) }
+  all_prim ws b vs op at t o g h = let s = h.small in record { of = (forms_in (types_of vs), h.of, o); good = g; walks = h.walks; gathers = h.gathers; small = omega (arith, s) }
 
   -- a call
   pub all_call : (ws : List ℕ) (b : ℕ) (vs : List Typing) (k : ℕ) (t : Shape) → IsCallee (scope x) k true (forms_in (types_of vs)) (Some (form_of t)) → IsGood t →
       FineAll x rs ws b vs → Fine x rs ws (b + 4) (typing t (call k (exprs_from vs)))
-  all_call ws b vs k t o g h = let s = h.small in record { of = (forms_in (types_of vs), h.of, o); good = g; walks = h.walks; small = omega (arith, s) }
+  all_call ws b vs k t o g h = let s = h.small in record { of = (forms_in (types_of vs), h.of, o); good = g; walks = h.walks; gathers = h.gathers; small = omega (arith, s) }

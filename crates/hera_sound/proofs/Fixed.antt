@@ -10,17 +10,17 @@ use Rattle.hera_syntax.specs.declared.expr.AggTree.{AggTree}
 use Rattle.hera_syntax.specs.declared.expr.AggTree.TheVariants.{Count, Of}
 use Rattle.hera_syntax.specs.declared.expr.NamedAgg.{NamedAgg}
 use Rattle.hera_syntax.specs.declared.expr.NamedAggs.{NamedAggs}
-use Rattle.hera_syntax.specs.declared.expr.Args.{Args, Args', Row_of-Expr, end_of-Expr, more_of-Expr}
+use Rattle.hera_syntax.specs.declared.expr.ArgTrees.{ArgTrees, ArgTrees', Row_of-Expr, end_of-Expr, more_of-Expr}
 use Rattle.hera_syntax.specs.declared.expr.Level.{Level}
 use Rattle.hera_syntax.specs.declared.expr.Level.TheVariants as levels
 use Rattle.hera_syntax.specs.declared.expr.Expr.{Expr, Expr', Row_of-Tail, end_of-Tail, more_of-Tail}
-use Rattle.hera_syntax.specs.declared.expr.Operand.{Operand, Inner', Prefix'}
+use Rattle.hera_syntax.specs.declared.expr.OperandTree.{OperandTree, Inner', Prefix'}
 use Rattle.hera_syntax.specs.declared.expr.Bindings.{Bindings, Bindings', Row_of-Binding, end_of-Binding, more_of-Binding}
 use Rattle.hera_syntax.specs.declared.expr.Atoms.{Atoms, Atoms', Row_of-Atom, end_of-Atom, more_of-Atom}
-use Rattle.hera_syntax.specs.declared.expr.Lines.{Lines, Lines', Row_of-Line, end_of-Line, more_of-Line}
+use Rattle.hera_syntax.specs.declared.expr.LineTrees.{LineTrees, LineTrees', Row_of-LineTree, end_of-LineTree, more_of-LineTree}
 use Rattle.hera_syntax.specs.declared.expr.Binding.{Binding'}
 use Rattle.hera_syntax.specs.declared.expr.Atom.{Atom, Atom'}
-use Rattle.hera_syntax.specs.declared.expr.Line.{Line, Line'}
+use Rattle.hera_syntax.specs.declared.expr.LineTree.{LineTree, LineTree'}
 use Rattle.hera_syntax.specs.declared.expr.Prime.{Prime, Int, Text, True, False, Fail, Name, Call', Paren', Row', Delta', Rows', Walk', Project', Rename', Pair', Group', Measure', Fold', Bulk', Part', Held-Prime-Call-2, Prime-Call-2-None', Prime-Call-2-Some', Held-Prime-Delta-1, Prime-Delta-1-None', Prime-Delta-1-Some', Held-Prime-Rows-4, Prime-Rows-4-None', Prime-Rows-4-Some'}
 use Rattle.hera_syntax.specs.Grammar as phrases
 use Rattle.hera_syntax.specs.Grammar.{Production}
@@ -270,7 +270,7 @@ mutual
         rest = b.rest;
       }
 
-  pub operand_fixed : (a b : Operand) (r s : List Entry) → operand_out a r ≡ operand_out b s → Same (operand_phrase a) (operand_phrase b) r s
+  pub operand_fixed : (a b : OperandTree) (r s : List Entry) → operand_out a r ≡ operand_out b s → Same (operand_phrase a) (operand_phrase b) r s
   operand_fixed (Inner' p e) (Inner' q f) r s h = expr_fixed e f r s h
   operand_fixed (Inner' p (Expr' l f shape k)) (Prefix' None q g field) r s h = absurd (no_prefix l h)
   operand_fixed (Inner' p (Expr' l f shape k)) (Prefix' (Some t) q g field) r s h = absurd (no_prefix l h)
@@ -286,8 +286,8 @@ mutual
         rest = i.rest;
       }
 
-  pub args_fixed : (a b : Args) (r s : List Entry) → args_out a r ≡ args_out b s → Same (args_phrases a) (args_phrases b) r s
-  args_fixed (Args' f shape k) (Args' g shape' j) r s h =
+  pub args_fixed : (a b : ArgTrees) (r s : List Entry) → args_out a r ≡ args_out b s → Same (args_phrases a) (args_phrases b) r s
+  args_fixed (ArgTrees' f shape k) (ArgTrees' g shape' j) r s h =
       let a = expr_fixed f g (args_more k (at_node phrases.more_args 1 ∷ r)) (args_more j (at_node phrases.more_args 1 ∷ s)) (tail_same h) in
       let b = args_more_fixed k j r s a.rest in
       record { same = ap (λ p. phrase p (args_rest k)) a.same ∙ ap (λ ps. phrase (expr_phrase g) ps) b.same; rest = b.rest }
@@ -316,17 +316,17 @@ mutual
       let b = atoms_more_fixed k j r s a.rest in
       record { same = ap (λ p. phrase p (atoms_rest k)) a.same ∙ ap (λ ps. phrase (atom_phrase g) ps) b.same; rest = b.rest }
 
-  lines_fixed : (w : Word) (a b : Lines) (r s : List Entry) → lines_out a r ≡ lines_out b s → Same (lines_phrases w a) (lines_phrases w b) r s
-  lines_fixed w (Lines' f shape k) (Lines' g shape' j) r s h =
+  lines_fixed : (w : Word) (a b : LineTrees) (r s : List Entry) → lines_out a r ≡ lines_out b s → Same (lines_phrases w a) (lines_phrases w b) r s
+  lines_fixed w (LineTrees' f shape k) (LineTrees' g shape' j) r s h =
       let a = line_fixed w f g (lines_more k (at_node phrases.more_lines 1 ∷ r)) (lines_more j (at_node phrases.more_lines 1 ∷ s)) (tail_same h) in
       let b = lines_more_fixed w k j r s a.rest in
       record { same = ap (λ p. phrase p (lines_rest w k)) a.same ∙ ap (λ ps. phrase (line_phrase w g) ps) b.same; rest = b.rest }
 
-  lines_more_fixed : (w : Word) {m : _} {m' : _} (k : Row_of-Line m) (j : Row_of-Line m') (r s : List Entry) → lines_more k (at_node phrases.more_lines 1 ∷ r) ≡ lines_more j (at_node phrases.more_lines 1 ∷ s) → Same (lines_rest w k) (lines_rest w j) r s
-  lines_more_fixed w end_of-Line end_of-Line r s h = record { same = refl; rest = tail_same h }
-  lines_more_fixed w end_of-Line (more_of-Line g j) r s h = absurd cc
-  lines_more_fixed w (more_of-Line f k) end_of-Line r s h = absurd cc
-  lines_more_fixed w (more_of-Line f k) (more_of-Line g j) r s h =
+  lines_more_fixed : (w : Word) {m : _} {m' : _} (k : Row_of-LineTree m) (j : Row_of-LineTree m') (r s : List Entry) → lines_more k (at_node phrases.more_lines 1 ∷ r) ≡ lines_more j (at_node phrases.more_lines 1 ∷ s) → Same (lines_rest w k) (lines_rest w j) r s
+  lines_more_fixed w end_of-LineTree end_of-LineTree r s h = record { same = refl; rest = tail_same h }
+  lines_more_fixed w end_of-LineTree (more_of-LineTree g j) r s h = absurd cc
+  lines_more_fixed w (more_of-LineTree f k) end_of-LineTree r s h = absurd cc
+  lines_more_fixed w (more_of-LineTree f k) (more_of-LineTree g j) r s h =
       let a = line_fixed w f g (lines_more k (at_node phrases.more_lines 1 ∷ r)) (lines_more j (at_node phrases.more_lines 1 ∷ s)) (tail_same (tail_same h)) in
       let b = lines_more_fixed w k j r s a.rest in
       record { same = ap (λ p. phrase p (lines_rest w k)) a.same ∙ ap (λ ps. phrase (line_phrase w g) ps) b.same; rest = b.rest }
@@ -367,8 +367,8 @@ mutual
         rest = tail_same a.rest;
       }
 
-  line_fixed : (w : Word) (a b : Line) (r s : List Entry) → line_out a r ≡ line_out b s → Same (line_phrase w a) (line_phrase w b) r s
-  line_fixed w (Line' x f) (Line' y g) r s h =
+  line_fixed : (w : Word) (a b : LineTree) (r s : List Entry) → line_out a r ≡ line_out b s → Same (line_phrase w a) (line_phrase w b) r s
+  line_fixed w (LineTree' x f) (LineTree' y g) r s h =
       let o = kept_same (tail_same h) in
       let a = args_fixed f g (left_out phrases.close_paren ∷ r) (left_out phrases.close_paren ∷ s) o.rest in
       record { same = ap (λ (t : Token). line w t.at (args_phrases f)) o.same ∙ ap (λ ps. line w y.at ps) a.same; rest = tail_same a.rest }

@@ -4,7 +4,7 @@ use Rattle.std.specs.Prelude.{Option, Some, None, map}
 use Rattle.std.specs.List.{flat_map}
 use Rattle.hera_syntax.specs.declared.token.Token.{Token}
 use Rattle.hera_syntax.specs.declared.expr.Expr.{Expr}
-use Rattle.hera_syntax.specs.declared.expr.Args.{Args}
+use Rattle.hera_syntax.specs.declared.expr.ArgTrees.{ArgTrees}
 use Rattle.hera_syntax.specs.declared.tree.AttrTree.{AttrTree}
 use Rattle.hera_syntax.specs.declared.tree.Attrs.{Attrs}
 use Rattle.hera_syntax.specs.declared.tree.SchemaTree.{SchemaTree}
@@ -66,7 +66,7 @@ type_fixed (Rel w f) (Rel v g) r s h = let k = kept_same (tail_same h) in let j 
 type_fixed (Tuple w f) (Tuple v g) r s h = let k = kept_same (tail_same h) in let j = schema_fixed f g r s k.rest in record { same = ap (λ z. tuple_type z) j.same; rest = j.rest }
 type_fixed _ _ r s h = absurd cc
 
-some_args_fixed : (k j : Option Args) (r s : List Entry) → some_args_out k r ≡ some_args_out j s → Same (some_args k) (some_args j) r s
+some_args_fixed : (k j : Option ArgTrees) (r s : List Entry) → some_args_out k r ≡ some_args_out j s → Same (some_args k) (some_args j) r s
 some_args_fixed None None r s h = record { same = refl; rest = tail_same h }
 some_args_fixed (Some a) (Some b) r s h = args_fixed a b r s (tail_same h)
 some_args_fixed None (Some b) r s h = absurd cc

@@ -1,14 +1,14 @@
 -- Outlines with what stands behind them: the same marks, without a join of lists to be regrouped.
 use Rattle.std.proofs.Common.{◌≡◌, List, [], ◌∷◌, ◌++◌, refl, ap, ◌∙◌, append_assoc}
-use Rattle.hera_syntax.specs.declared.expr.Args.{Args, Args', Row_of-Expr, end_of-Expr, more_of-Expr}
+use Rattle.hera_syntax.specs.declared.expr.ArgTrees.{ArgTrees, ArgTrees', Row_of-Expr, end_of-Expr, more_of-Expr}
 use Rattle.hera_syntax.specs.declared.expr.Expr.{Expr, Expr', Row_of-Tail, end_of-Tail, more_of-Tail}
-use Rattle.hera_syntax.specs.declared.expr.Operand.{Operand, Inner', Prefix'}
+use Rattle.hera_syntax.specs.declared.expr.OperandTree.{OperandTree, Inner', Prefix'}
 use Rattle.hera_syntax.specs.declared.expr.Bindings.{Bindings, Bindings', Row_of-Binding, end_of-Binding, more_of-Binding}
 use Rattle.hera_syntax.specs.declared.expr.Atoms.{Atoms, Atoms', Row_of-Atom, end_of-Atom, more_of-Atom}
-use Rattle.hera_syntax.specs.declared.expr.Lines.{Lines, Lines', Row_of-Line, end_of-Line, more_of-Line}
+use Rattle.hera_syntax.specs.declared.expr.LineTrees.{LineTrees, LineTrees', Row_of-LineTree, end_of-LineTree, more_of-LineTree}
 use Rattle.hera_syntax.specs.declared.expr.Binding.{Binding, Binding'}
 use Rattle.hera_syntax.specs.declared.expr.Atom.{Atom, Atom'}
-use Rattle.hera_syntax.specs.declared.expr.Line.{Line, Line'}
+use Rattle.hera_syntax.specs.declared.expr.LineTree.{LineTree, LineTree'}
 use Rattle.hera_syntax.specs.declared.expr.Prime.{Prime, Int, Text, True, False, Fail, Name, Call', Paren', Row', Delta', Rows', Walk', Project', Rename', Pair', Group', Measure', Fold', Bulk', Part', Held-Prime-Call-2, Prime-Call-2-None', Prime-Call-2-Some', Held-Prime-Delta-1, Prime-Delta-1-None', Prime-Delta-1-Some', Held-Prime-Rows-4, Prime-Rows-4-None', Prime-Rows-4-Some'}
 use Rattle.std.specs.List.{flat_map}
 use Rattle.hera_syntax.specs.Grammar as phrases
@@ -23,12 +23,12 @@ abbrev mutual
   tails_out s end_of-Tail r = r
   tails_out s (more_of-Tail op operand rest) r = at_node s 0 ∷ kept op ∷ operand_out operand (tails_out s rest r)
 
-  pub operand_out : Operand → List Entry → List Entry
+  pub operand_out : OperandTree → List Entry → List Entry
   operand_out (Inner' p e) r = expr_out e r
   operand_out (Prefix' op p operand field) r = prefix_start op ++ (at_node phrases.post 0 ∷ prime_out operand (field_outline field ++ r))
 
-  pub args_out : Args → List Entry → List Entry
-  args_out (Args' first shape rest) r = at_node phrases.args 0 ∷ expr_out first (args_more rest (at_node phrases.more_args 1 ∷ r))
+  pub args_out : ArgTrees → List Entry → List Entry
+  args_out (ArgTrees' first shape rest) r = at_node phrases.args 0 ∷ expr_out first (args_more rest (at_node phrases.more_args 1 ∷ r))
 
   pub args_more : {m : _} → Row_of-Expr m → List Entry → List Entry
   args_more end_of-Expr r = r
@@ -48,12 +48,12 @@ abbrev mutual
   atoms_more end_of-Atom r = r
   atoms_more (more_of-Atom e rest) r = at_node phrases.more_atoms 0 ∷ left_out phrases.comma ∷ atom_out e (atoms_more rest r)
 
-  pub lines_out : Lines → List Entry → List Entry
-  lines_out (Lines' first shape rest) r = at_node phrases.lines 0 ∷ line_out first (lines_more rest (at_node phrases.more_lines 1 ∷ r))
+  pub lines_out : LineTrees → List Entry → List Entry
+  lines_out (LineTrees' first shape rest) r = at_node phrases.lines 0 ∷ line_out first (lines_more rest (at_node phrases.more_lines 1 ∷ r))
 
-  pub lines_more : {m : _} → Row_of-Line m → List Entry → List Entry
-  lines_more end_of-Line r = r
-  lines_more (more_of-Line e rest) r = at_node phrases.more_lines 0 ∷ left_out phrases.comma ∷ line_out e (lines_more rest r)
+  pub lines_more : {m : _} → Row_of-LineTree m → List Entry → List Entry
+  lines_more end_of-LineTree r = r
+  lines_more (more_of-LineTree e rest) r = at_node phrases.more_lines 0 ∷ left_out phrases.comma ∷ line_out e (lines_more rest r)
 
   pub binding_out : Binding → List Entry → List Entry
   binding_out (Binding' name value) r = at_node phrases.binding 0 ∷ kept name ∷ left_out phrases.equals ∷ expr_out value r
@@ -61,8 +61,8 @@ abbrev mutual
   pub atom_out : Atom → List Entry → List Entry
   atom_out (Atom' sign name bracket args) r = at_node phrases.atom 0 ∷ kept sign ∷ kept name ∷ kept bracket ∷ args_out args (left_out phrases.close_paren ∷ r)
 
-  pub line_out : Line → List Entry → List Entry
-  line_out (Line' bracket args) r = at_node phrases.line 0 ∷ kept bracket ∷ args_out args (left_out phrases.close_paren ∷ r)
+  pub line_out : LineTree → List Entry → List Entry
+  line_out (LineTree' bracket args) r = at_node phrases.line 0 ∷ kept bracket ∷ args_out args (left_out phrases.close_paren ∷ r)
 
   pub call_out : Held-Prime-Call-2 → List Entry → List Entry
   call_out Prime-Call-2-None' r = at_node phrases.some_args 1 ∷ r
@@ -113,12 +113,12 @@ mutual
   tails_law s end_of-Tail r = refl
   tails_law s (more_of-Tail op operand rest) r = simp append_assoc (rw (tails_law s rest r, operand_law operand (tails_out s rest r)) refl)
 
-  pub operand_law : (e : Operand) (r : List Entry) → operand_outline e ++ r ≡ operand_out e r
+  pub operand_law : (e : OperandTree) (r : List Entry) → operand_outline e ++ r ≡ operand_out e r
   operand_law (Inner' p e) r = expr_law e r
   operand_law (Prefix' op p operand field) r = simp append_assoc (rw (prime_law operand (field_outline field ++ r)) refl)
 
-  pub args_law : (e : Args) (r : List Entry) → args_outline e ++ r ≡ args_out e r
-  args_law (Args' first shape rest) r = simp append_assoc (rw (args_more_law rest (at_node phrases.more_args 1 ∷ r), expr_law first (args_more rest (at_node phrases.more_args 1 ∷ r))) refl)
+  pub args_law : (e : ArgTrees) (r : List Entry) → args_outline e ++ r ≡ args_out e r
+  args_law (ArgTrees' first shape rest) r = simp append_assoc (rw (args_more_law rest (at_node phrases.more_args 1 ∷ r), expr_law first (args_more rest (at_node phrases.more_args 1 ∷ r))) refl)
 
   args_more_law : {m : _} (k : Row_of-Expr m) (r : List Entry) → args_rest k ++ r ≡ args_more k r
   args_more_law end_of-Expr r = refl
@@ -138,12 +138,12 @@ mutual
   atoms_more_law end_of-Atom r = refl
   atoms_more_law (more_of-Atom e rest) r = simp append_assoc (rw (atoms_more_law rest r, atom_law e (atoms_more rest r)) refl)
 
-  lines_law : (e : Lines) (r : List Entry) → lines_outline e ++ r ≡ lines_out e r
-  lines_law (Lines' first shape rest) r = simp append_assoc (rw (lines_more_law rest (at_node phrases.more_lines 1 ∷ r), line_law first (lines_more rest (at_node phrases.more_lines 1 ∷ r))) refl)
+  lines_law : (e : LineTrees) (r : List Entry) → lines_outline e ++ r ≡ lines_out e r
+  lines_law (LineTrees' first shape rest) r = simp append_assoc (rw (lines_more_law rest (at_node phrases.more_lines 1 ∷ r), line_law first (lines_more rest (at_node phrases.more_lines 1 ∷ r))) refl)
 
-  lines_more_law : {m : _} (k : Row_of-Line m) (r : List Entry) → lines_rest k ++ r ≡ lines_more k r
-  lines_more_law end_of-Line r = refl
-  lines_more_law (more_of-Line e rest) r = simp append_assoc (rw (lines_more_law rest r, line_law e (lines_more rest r)) refl)
+  lines_more_law : {m : _} (k : Row_of-LineTree m) (r : List Entry) → lines_rest k ++ r ≡ lines_more k r
+  lines_more_law end_of-LineTree r = refl
+  lines_more_law (more_of-LineTree e rest) r = simp append_assoc (rw (lines_more_law rest r, line_law e (lines_more rest r)) refl)
 
   binding_law : (e : Binding) (r : List Entry) → binding_outline e ++ r ≡ binding_out e r
   binding_law (Binding' name value) r = ap (λ ms. at_node phrases.binding 0 ∷ kept name ∷ left_out phrases.equals ∷ ms) (expr_law value r)
@@ -151,8 +151,8 @@ mutual
   atom_law : (e : Atom) (r : List Entry) → atom_outline e ++ r ≡ atom_out e r
   atom_law (Atom' sign name bracket args) r = simp append_assoc (rw (args_law args (left_out phrases.close_paren ∷ r)) refl)
 
-  line_law : (e : Line) (r : List Entry) → line_outline e ++ r ≡ line_out e r
-  line_law (Line' bracket args) r = simp append_assoc (rw (args_law args (left_out phrases.close_paren ∷ r)) refl)
+  line_law : (e : LineTree) (r : List Entry) → line_outline e ++ r ≡ line_out e r
+  line_law (LineTree' bracket args) r = simp append_assoc (rw (args_law args (left_out phrases.close_paren ∷ r)) refl)
 
   call_law : (k : Held-Prime-Call-2) (r : List Entry) → call_args k ++ r ≡ call_out k r
   call_law Prime-Call-2-None' r = refl

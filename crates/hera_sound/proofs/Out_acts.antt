@@ -3,14 +3,14 @@ use Rattle.std.proofs.Common.{◌≡◌, List, [], ◌∷◌, ◌++◌, refl, ap
 use Rattle.std.specs.Prelude.{Option, Some, None}
 use Rattle.hera_syntax.specs.declared.token.Token.{Token}
 use Rattle.hera_syntax.specs.declared.expr.Expr.{Expr}
-use Rattle.hera_syntax.specs.declared.expr.Args.{Args}
+use Rattle.hera_syntax.specs.declared.expr.ArgTrees.{ArgTrees}
 use Rattle.hera_syntax.specs.declared.tree.StmtTree.{StmtTree, Declare, Assign, Call, If', While', Foreach', Print, Apply, Assert, Commit, Rollback, Return, Row_of-StmtTree, end_of-StmtTree, more_of-StmtTree, Row_of-ElseIf, end_of-ElseIf, more_of-ElseIf, Held-StmtTree-If-5, None', Some'}
 use Rattle.hera_syntax.specs.Grammar as phrases
 use Rattle.hera_syntax.specs.Outline.{Entry, at_node, kept, left_out, expr_outline, some_args_outline}
 use Rattle.hera_syntax.specs.Programs.{type_outline, some_value_outline, stmt_outline, stmts_rest, elses_rest, last_outline}
 use Rattle.hera_sound.proofs.Out.{expr_out, args_out, expr_law, args_law}
 
-abbrev pub some_args_out : Option Args → List Entry → List Entry
+abbrev pub some_args_out : Option ArgTrees → List Entry → List Entry
 some_args_out None r = at_node phrases.some_args 1 ∷ r
 some_args_out (Some args) r = at_node phrases.some_args 0 ∷ args_out args r
 
@@ -22,7 +22,7 @@ abbrev pub value_out : Option Expr → List Entry → List Entry
 value_out None r = at_node phrases.some_value 1 ∷ r
 value_out (Some e) r = at_node phrases.some_value 0 ∷ expr_out e r
 
-some_args_law : (k : Option Args) (r : List Entry) → some_args_outline k ++ r ≡ some_args_out k r
+some_args_law : (k : Option ArgTrees) (r : List Entry) → some_args_outline k ++ r ≡ some_args_out k r
 some_args_law None r = refl
 some_args_law (Some args) r = ap (λ ms. at_node phrases.some_args 0 ∷ ms) (args_law args r)
 

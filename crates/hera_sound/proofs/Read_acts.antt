@@ -8,7 +8,7 @@ use Rattle.hera_syntax.specs.declared.token.TokenKind.{TokenKind}
 use Rattle.hera_syntax.specs.declared.token.TokenKind.TheVariants.{Ident as ident_token, Int as int_token, Text as text_token, Key as key_token, Punct as punct_token}
 use Rattle.hera_syntax.specs.declared.token.Token.{Token}
 use Rattle.hera_syntax.specs.declared.expr.Expr.{Expr}
-use Rattle.hera_syntax.specs.declared.expr.Args.{Args}
+use Rattle.hera_syntax.specs.declared.expr.ArgTrees.{ArgTrees}
 use Rattle.hera_syntax.specs.declared.tree.AttrTree.{AttrTree}
 use Rattle.hera_syntax.specs.declared.tree.SchemaTree.{SchemaTree}
 use Rattle.hera_syntax.specs.declared.tree.SchemaTree.TheVariants.{Name, Written}
@@ -69,7 +69,7 @@ type_made (Tuple w s) = schema_made s
 
 -- ---- statements
 
-some_args_read : (k : Option Args) (r : List Entry) → GoodMarks (some_args_out k r) → ReadAll (some_args k) r (some_args_out k r)
+some_args_read : (k : Option ArgTrees) (r : List Entry) → GoodMarks (some_args_out k r) → ReadAll (some_args k) r (some_args_out k r)
 some_args_read None r g = record { made = tt; rest = g; few = omega arith }
 some_args_read (Some a) r g = let k = args_read a r g in record { made = k.made; rest = k.rest; few = k.few }
 

@@ -14,17 +14,17 @@ use Rattle.hera_syntax.specs.declared.words.Mark.TheVariants as puncts
 use Rattle.hera_syntax.specs.declared.token.TokenKind.{TokenKind}
 use Rattle.hera_syntax.specs.declared.token.TokenKind.TheVariants.{Ident as ident_token, Int as int_token, Text as text_token, Key as key_token, Punct as punct_token}
 use Rattle.hera_syntax.specs.declared.token.Token.{Token}
-use Rattle.hera_syntax.specs.declared.expr.Args.{Args, Args', Row_of-Expr, end_of-Expr, more_of-Expr}
+use Rattle.hera_syntax.specs.declared.expr.ArgTrees.{ArgTrees, ArgTrees', Row_of-Expr, end_of-Expr, more_of-Expr}
 use Rattle.hera_syntax.specs.declared.expr.Level.{Level as Chain_level}
 use Rattle.hera_syntax.specs.declared.expr.Level.TheVariants as levels
 use Rattle.hera_syntax.specs.declared.expr.Expr.{Expr, Expr', Row_of-Tail, end_of-Tail, more_of-Tail}
-use Rattle.hera_syntax.specs.declared.expr.Operand.{Operand, Inner', Prefix'}
+use Rattle.hera_syntax.specs.declared.expr.OperandTree.{OperandTree, Inner', Prefix'}
 use Rattle.hera_syntax.specs.declared.expr.Bindings.{Bindings, Bindings', Row_of-Binding, end_of-Binding, more_of-Binding}
 use Rattle.hera_syntax.specs.declared.expr.Atoms.{Atoms, Atoms', Row_of-Atom, end_of-Atom, more_of-Atom}
-use Rattle.hera_syntax.specs.declared.expr.Lines.{Lines, Lines', Row_of-Line, end_of-Line, more_of-Line}
+use Rattle.hera_syntax.specs.declared.expr.LineTrees.{LineTrees, LineTrees', Row_of-LineTree, end_of-LineTree, more_of-LineTree}
 use Rattle.hera_syntax.specs.declared.expr.Binding.{Binding'}
 use Rattle.hera_syntax.specs.declared.expr.Atom.{Atom, Atom'}
-use Rattle.hera_syntax.specs.declared.expr.Line.{Line, Line'}
+use Rattle.hera_syntax.specs.declared.expr.LineTree.{LineTree, LineTree'}
 use Rattle.hera_syntax.specs.declared.expr.Prime.{Prime, Int, Text, True, False, Fail, Name, Call', Paren', Row', Delta', Rows', Walk', Project', Rename', Pair', Group', Measure', Fold', Bulk', Part', Held-Prime-Call-2, Prime-Call-2-None', Prime-Call-2-Some', Held-Prime-Delta-1, Prime-Delta-1-None', Prime-Delta-1-Some', Held-Prime-Rows-4, Prime-Rows-4-None', Prime-Rows-4-Some'}
 use Rattle.hera_syntax.specs.Grammar as phrases
 use Rattle.hera_syntax.specs.Grammar.{Production}
@@ -266,7 +266,7 @@ mutual
       let o = operator_at l w.kind in
       record { made = (o.0, a.made, b.made); level = (o.1, b.level); rest = b.rest; few = omega (arith, x, y) }
 
-  pub operand_read : (e : Operand) (r : List Entry) → GoodMarks (operand_out e r) → ReadPhrase (operand_phrase e) r (operand_out e r)
+  pub operand_read : (e : OperandTree) (r : List Entry) → GoodMarks (operand_out e r) → ReadPhrase (operand_phrase e) r (operand_out e r)
   operand_read (Inner' p e) r g = expr_read e r g
   operand_read (Prefix' op held f field) r g =
       let a = prime_read f (field_outline field ++ r) (marks_back (prefix_start op) (at_node phrases.post 0 ∷ prime_out f (field_outline field ++ r)) g) in
@@ -276,8 +276,8 @@ mutual
       let x = a.few in
       record { made = prefix_made op p (post_made (prime_phrase f) field a.made); rest = marks_back (field_outline field) r a.rest; few = omega (arith, u, v, x) }
 
-  pub args_read : (e : Args) (r : List Entry) → GoodMarks (args_out e r) → ReadAll (args_phrases e) r (args_out e r)
-  args_read (Args' f shape k) r g =
+  pub args_read : (e : ArgTrees) (r : List Entry) → GoodMarks (args_out e r) → ReadAll (args_phrases e) r (args_out e r)
+  args_read (ArgTrees' f shape k) r g =
       let a = expr_read f (args_more k (at_node phrases.more_args 1 ∷ r)) g in
       let b = args_more_read k (at_node phrases.more_args 1 ∷ r) a.rest in
       let x = a.few in
@@ -310,17 +310,17 @@ mutual
       let y = b.few in
       record { made = (a.made, b.made); atoms = (a.is, b.atoms); rest = b.rest; few = omega (arith, x, y) }
 
-  lines_read : (w : Word) (e : Lines) (r : List Entry) → GoodMarks (lines_out e r) → ReadLines w (lines_phrases w e) r (lines_out e r)
-  lines_read w (Lines' f shape k) r g =
+  lines_read : (w : Word) (e : LineTrees) (r : List Entry) → GoodMarks (lines_out e r) → ReadLines w (lines_phrases w e) r (lines_out e r)
+  lines_read w (LineTrees' f shape k) r g =
       let a = line_read w f (lines_more k (at_node phrases.more_lines 1 ∷ r)) g in
       let b = lines_more_read w k (at_node phrases.more_lines 1 ∷ r) a.rest in
       let x = a.few in
       let y = b.few in
       record { made = (a.made, b.made); lines = (a.is, b.lines); rest = b.rest; few = omega (arith, x, y) }
 
-  lines_more_read : (w : Word) {m : _} (k : Row_of-Line m) (r : List Entry) → GoodMarks (lines_more k r) → ReadLines w (lines_rest w k) r (lines_more k r)
-  lines_more_read w end_of-Line r g = record { made = tt; lines = tt; rest = g; few = omega arith }
-  lines_more_read w (more_of-Line f k) r g =
+  lines_more_read : (w : Word) {m : _} (k : Row_of-LineTree m) (r : List Entry) → GoodMarks (lines_more k r) → ReadLines w (lines_rest w k) r (lines_more k r)
+  lines_more_read w end_of-LineTree r g = record { made = tt; lines = tt; rest = g; few = omega arith }
+  lines_more_read w (more_of-LineTree f k) r g =
       let a = line_read w f (lines_more k r) g in
       let b = lines_more_read w k r a.rest in
       let x = a.few in
@@ -352,8 +352,8 @@ mutual
       let y = a.few in
       record { made = a.made; is = tt; rest = a.rest; few = omega (arith, y) }
 
-  line_read : (w : Word) (e : Line) (r : List Entry) → GoodMarks (line_out e r) → ReadLine w (line_phrase w e) r (line_out e r)
-  line_read w (Line' x f) r g =
+  line_read : (w : Word) (e : LineTree) (r : List Entry) → GoodMarks (line_out e r) → ReadLine w (line_phrase w e) r (line_out e r)
+  line_read w (LineTree' x f) r g =
       let a = args_read f (left_out phrases.close_paren ∷ r) g.1 in
       let y = a.few in
       record { made = a.made; is = refl; rest = a.rest; few = omega (arith, y) }

@@ -16,6 +16,7 @@ use Rattle.hera_meaning.specs.Hosts.{host_at, host_takes, host_gives}
 use Rattle.hera_meaning.specs.Forms.{Form, of_scalar, of_delta, form_of, kinds_of}
 use Rattle.hera_meaning.specs.Trees.{prim, call, host}
 use Rattle.hera_meaning.specs.Sound.{IsOf, AreOf, LinksAreOf, IsCallee, walks_in, walks_in_all, walks_in_links}
+use Rattle.hera_meaning.specs.Shapes.{Gathers, GathersAll, GathersLinks}
 use Rattle.hera_host.specs.Tables.{Host, specs_of, host_named, takes_at, gives_at}
 use Rattle.hera_rules.specs.declared.words.Word.{Word}
 use Rattle.hera_rules.specs.declared.env.FuncSig.{FuncSig}
@@ -27,7 +28,7 @@ use Rattle.hera_sound.proofs.Tests.{given_true, unless_none, cond_second, and_tr
 use Rattle.hera_sound.proofs.Schemas.{row_schema, not_above}
 use Rattle.hera_sound.proofs.Sizes.{bound, bound_all, bound_links}
 use Rattle.hera_sound.proofs.Rows_one.{relation_in}
-use Rattle.hera_sound.proofs.Fine.{Inside, env_in, scope, EnvIsGood, Fine, FineAll, forms_of, forms_in, into, moved, one_prim, all_prim, all_call, kind_form, kind_good, kind_forms, params_forms}
+use Rattle.hera_sound.proofs.Fine.{Inside, env_in, scope, gathers_in, EnvIsGood, Fine, FineAll, forms_of, forms_in, into, moved, one_prim, all_prim, all_call, kind_form, kind_good, kind_forms, params_forms}
 
 -- all phrases have this type
 abbrev pub AllHave : Shape → List Typing → Type 0
@@ -101,6 +102,7 @@ module _ {g : Env} (x : Inside g) (env : EnvIsGood x) (rs : List ℕ) where
             of = (i.spec, i.here, subst (λ (z : List Form). AreOf (scope x) rs (exprs_from vs) z) fs f.of, kind_form (gives_at (env_in x).hosts h) ∙ ap (λ (k : Kind). of_scalar k) i.gives);
             good = kind_good (gives_at (env_in x).hosts h);
             walks = f.walks;
+            gathers = f.gathers;
             small = omega (arith, s);
           })
 
@@ -186,11 +188,20 @@ module _ {g : Env} (x : Inside g) (env : EnvIsGood x) (rs : List ℕ) where
   atoms_of at (v ∷ []) t h = subst (λ (u : Shape). IsOf (scope x) rs v.core (form_of u)) t.0 h.0
   atoms_of at (v ∷ w ∷ vs) t h = (of_delta, subst (λ (u : Shape). IsOf (scope x) rs v.core (form_of u)) t.0 h.0, merges_of at (w ∷ vs) t.1 h.1)
 
+  merges_gather : (at : ℕ) (vs : List Typing) → GathersAll (scope x) (gathers_in x) (exprs_from vs) → GathersLinks (scope x) (gathers_in x) (merges_from at vs)
+  merges_gather at [] h = tt
+  merges_gather at (v ∷ vs) h = (h.0, merges_gather at vs h.1)
+
+  atoms_gather : (at : ℕ) (vs : List Typing) → GathersAll (scope x) (gathers_in x) (exprs_from vs) → Gathers (scope x) (gathers_in x) (atoms_core at vs)
+  atoms_gather at [] h = tt
+  atoms_gather at (v ∷ []) h = h.0
+  atoms_gather at (v ∷ w ∷ vs) h = (h.0, merges_gather at (w ∷ vs) h.1)
+
   pub atoms_fine : (ws : List ℕ) (b at : ℕ) (vs : List Typing) → AllHave delta vs → FineAll x rs ws b vs → Fine x rs ws (b + 4) (atoms_row at vs)
   atoms_fine ws b at vs t f =
       let s = f.small in
       let k = small_atoms at vs in
-      record { of = atoms_of at vs t f.of; good = tt; walks = walks_atoms at vs ∙ f.walks; small = omega (arith, s, k) }
+      record { of = atoms_of at vs t f.of; good = tt; walks = walks_atoms at vs ∙ f.walks; gathers = atoms_gather at vs f.gathers; small = omega (arith, s, k) }
 
 -- ---- the types of atoms and lines
 

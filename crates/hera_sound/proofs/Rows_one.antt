@@ -25,6 +25,7 @@ use Rattle.hera_meaning.specs.Deltas.{schema_of}
 use Rattle.hera_meaning.specs.Forms.{Form, of_tuple, of_table, of_delta, form_of, kinds_of, kind_at, IsWidth, OpIsOf}
 use Rattle.hera_meaning.specs.Trees.{Expr, local, relation, prim, select, map_each}
 use Rattle.hera_meaning.specs.Sound.{IsOf, IsSlot, is_const, const_form, walks_in}
+use Rattle.hera_meaning.specs.Shapes.{IsGathered}
 use Rattle.hera_rules.specs.declared.words.Word.{Word}
 use Rattle.hera_rules.specs.declared.words.Prefix.{Prefix}
 use Rattle.hera_rules.specs.declared.words.Prefix.TheVariants.{Minus as negated, Not as denied}
@@ -48,7 +49,8 @@ use Rattle.hera_sound.proofs.Tests.{given_true, unless_none, cond_second, cond_f
 use Rattle.hera_sound.proofs.Schemas.{is_place-below, int_at, stranger_none, places_good, good_aggs, project_schema, kinds_of-attrs_in, rename_schema, kinds_of-renamed, group_schema, kinds_of-group, join_schema, kinds_of-append, width_schema}
 use Rattle.hera_sound.proofs.Made.{IsPair}
 use Rattle.hera_sound.proofs.Ops.{sets_op, op_of, two_types}
-use Rattle.hera_sound.proofs.Fine.{Inside, env_in, scope, IsGood, EnvIsGood, IsVisible, AllVisible, Fine, into, one_prim, two_prim, kind_form, kind_good}
+use Rattle.hera_sound.specs.Types_found.{attrs_of_tuple, gathered}
+use Rattle.hera_sound.proofs.Fine.{Inside, env_in, scope, gathers_in, IsGood, EnvIsGood, IsVisible, AllVisible, Fine, into, one_prim, two_prim, kind_form, kind_good}
 
 -- ---- literals and names
 
@@ -100,14 +102,14 @@ has_kinds_form ks _ e = absurd cc
 
 module _ {g : Env} (x : Inside g) (env : EnvIsGood x) (rs : List ℕ) where
   pub literal_fine : (c : Const) → is_const c ≡ true → Fine x rs [] 10 (literal_row c)
-  literal_fine c e = record { of = (e, const_form_is c); good = const_good c; walks = refl; small = omega arith }
+  literal_fine c e = record { of = (e, const_form_is c); good = const_good c; walks = refl; gathers = tt; small = omega arith }
 
   relation_fine : (at : ℕ) (name : List ℕ) (o : Option ℕ) (r : Typing) → relation_named name (env_in x).relations ≡ o → relation_row (env_in x) at o ≡ Ok r → Fine x rs [] 10 r
   relation_fine at name None r k e = absurd cc
   relation_fine at name (Some i) r k e =
       let h : typing (rel (schema_of (env_in x).relations i)) (relation i) ≡ r = cc in
       let n = relation_in name (env_in x).relations i k in
-      into x rs [] 10 (typing (rel (schema_of (env_in x).relations i)) (relation i)) r h (record { of = (n, refl); good = env.schemas i n; walks = refl; small = omega arith })
+      into x rs [] 10 (typing (rel (schema_of (env_in x).relations i)) (relation i)) r h (record { of = (n, refl); good = env.schemas i n; walks = refl; gathers = tt; small = omega arith })
 
   pub name_fine : (ls : List Local) (w : Word) (r : Typing) → AllVisible x rs ls → name_row (env_in x) ls w ≡ Ok r → Fine x rs [] 10 r
   name_fine ls w r v e = by (local_named w.name ls) refl e
@@ -117,7 +119,7 @@ module _ {g : Env} (x : Inside g) (env : EnvIsGood x) (rs : List ℕ) where
       by (Some l) k e =
           let h : typing l.shape (local l.slot) ≡ r = cc in
           let f = found_visible x rs w.name ls l v k in
-          into x rs [] 10 (typing l.shape (local l.slot)) r h (record { of = (f.readable, f.slot); good = f.good; walks = refl; small = omega arith })
+          into x rs [] 10 (typing l.shape (local l.slot)) r h (record { of = (f.readable, f.slot); good = f.good; walks = refl; gathers = tt; small = omega arith })
 
   -- one operand of a type that a test has shown
   one_given : (ws : List ℕ) (b : ℕ) (v r : Typing) (op : Op) (at : ℕ) (s t : Shape) → v.type ≡ s → OpIsOf (env_in x).relations op (form_of s ∷ []) (form_of t) → IsGood t →
@@ -208,6 +210,7 @@ module _ {g : Env} (x : Inside g) (env : EnvIsGood x) (rs : List ℕ) where
         of = subst (λ (z : List Kind). IsOf (scope x) rs c (of_table z)) (sym (kinds_of-renamed names s)) f.of;
         good = rename_schema s names f.good q.0;
         walks = f.walks;
+        gathers = f.gathers;
         small = f.small;
       })
   rename_fine ws b at names c _ r e f = absurd (let p = unless_none (rename_repeat [] [] names) (Err (mismatch at)) r e in cc)
@@ -290,45 +293,47 @@ module _ {g : Env} (x : Inside g) (env : EnvIsGood x) (rs : List ℕ) where
 -- ---- walks
 
 module _ {g : Env} (x : Inside g) (rs : List ℕ) where
-  keep_fine : (ws ws' : List ℕ) (b b' n : ℕ) (s : List Attr) (c d : Expr) → IsSlot (scope x) n (of_tuple (kinds_of s)) →
+  keep_fine : (ws ws' : List ℕ) (b b' n : ℕ) (s : List Attr) (c d : Expr) → IsSlot (scope x) n (of_tuple (kinds_of s)) → IsGathered (scope x) (gathers_in x) n (kinds_of s) →
       Fine x rs ws b (typing (rel s) c) → Fine x (n ∷ rs) ws' b' (typing bool d) → Fine x rs (n ∷ (ws ++ ws')) (b + b' + 2) (typing (rel s) (select n c d))
-  keep_fine ws ws' b b' n s c d i f h =
+  keep_fine ws ws' b b' n s c d i j f h =
       let p = f.small in
       let q = h.small in
       record {
         of = (kinds_of s, f.of, i, h.of, refl);
         good = f.good;
         walks = ap (λ zs. n ∷ (zs ++ walks_in d)) f.walks ∙ ap (λ zs. n ∷ (ws ++ zs)) h.walks;
+        gathers = (f.gathers, h.gathers, (kinds_of s, i, j));
         small = omega (arith, p, q);
       }
 
-  map_fine : (ws ws' : List ℕ) (b b' n : ℕ) (s t : List Attr) (c d : Expr) → IsSlot (scope x) n (of_tuple (kinds_of s)) →
+  map_fine : (ws ws' : List ℕ) (b b' n : ℕ) (s t : List Attr) (c d : Expr) → IsSlot (scope x) n (of_tuple (kinds_of s)) → IsGathered (scope x) (gathers_in x) n (kinds_of t) →
       Fine x rs ws b (typing (rel s) c) → Fine x (n ∷ rs) ws' b' (typing (tuple t) d) → Fine x rs (n ∷ (ws ++ ws')) (b + b' + 2) (typing (rel t) (map_each n c d))
-  map_fine ws ws' b b' n s t c d i f h =
+  map_fine ws ws' b b' n s t c d i j f h =
       let p = f.small in
       let q = h.small in
       record {
         of = (kinds_of s, kinds_of t, f.of, i, h.of, refl);
         good = h.good;
         walks = ap (λ zs. n ∷ (zs ++ walks_in d)) f.walks ∙ ap (λ zs. n ∷ (ws ++ zs)) h.walks;
+        gathers = (f.gathers, h.gathers, (kinds_of t, n ∷ rs, h.of, j));
         small = omega (arith, p, q);
       }
 
-  image_fine : (ws ws' : List ℕ) (b b' at n : ℕ) (s : List Attr) (c d : Expr) (t : Shape) (r : Typing) → image_row at n c d t ≡ Ok r → IsSlot (scope x) n (of_tuple (kinds_of s)) →
+  image_fine : (ws ws' : List ℕ) (b b' at n : ℕ) (s : List Attr) (c d : Expr) (t : Shape) (r : Typing) → image_row at n c d t ≡ Ok r → IsSlot (scope x) n (of_tuple (kinds_of s)) → IsGathered (scope x) (gathers_in x) n (kinds_of (attrs_of_tuple t)) →
       Fine x rs ws b (typing (rel s) c) → Fine x (n ∷ rs) ws' b' (typing t d) → Fine x rs (n ∷ (ws ++ ws')) (b + b' + 2) r
-  image_fine ws ws' b b' at n s c d (tuple t) r e i f h =
+  image_fine ws ws' b b' at n s c d (tuple t) r e i j f h =
       let k : typing (rel t) (map_each n c d) ≡ r = cc in
-      into x rs (n ∷ (ws ++ ws')) (b + b' + 2) (typing (rel t) (map_each n c d)) r k (map_fine ws ws' b b' n s t c d i f h)
-  image_fine ws ws' b b' at n s c d _ r e i f h = absurd cc
+      into x rs (n ∷ (ws ++ ws')) (b + b' + 2) (typing (rel t) (map_each n c d)) r k (map_fine ws ws' b b' n s t c d i j f h)
+  image_fine ws ws' b b' at n s c d _ r e i j f h = absurd cc
 
-  pub walk_fine : (ws ws' : List ℕ) (b b' : ℕ) (walk : WalkKind) (at n : ℕ) (s : List Attr) (v w r : Typing) → v.type ≡ rel s → walk_row walk at n v w ≡ Ok r → IsSlot (scope x) n (of_tuple (kinds_of s)) →
+  pub walk_fine : (ws ws' : List ℕ) (b b' : ℕ) (walk : WalkKind) (at n : ℕ) (s : List Attr) (v w r : Typing) → v.type ≡ rel s → walk_row walk at n v w ≡ Ok r → IsSlot (scope x) n (of_tuple (kinds_of s)) → IsGathered (scope x) (gathers_in x) n (kinds_of (gathered walk (tuple s) w.type)) →
       Fine x rs ws b v → Fine x (n ∷ rs) ws' b' w → Fine x rs (n ∷ (ws ++ ws')) (b + b' + 2) r
-  walk_fine ws ws' b b' Keeping at n s v w r k e i f h =
+  walk_fine ws ws' b b' Keeping at n s v w r k e i j f h =
       let g = given_true (is_bool w.type) (mismatch at) (typing v.type (select n v.core w.core)) r e in
       let f' : Fine x rs ws b (typing (rel s) v.core) = subst (λ (t : Shape). Fine x rs ws b (typing t v.core)) k f in
       let h' : Fine x (n ∷ rs) ws' b' (typing bool w.core) = subst (λ (t : Shape). Fine x (n ∷ rs) ws' b' (typing t w.core)) (is_bool-true w.type g.0) h in
       let same : typing (rel s) (select n v.core w.core) ≡ r = ap (λ (t : Shape). typing t (select n v.core w.core)) (sym k) ∙ g.1 in
-      into x rs (n ∷ (ws ++ ws')) (b + b' + 2) (typing (rel s) (select n v.core w.core)) r same (keep_fine ws ws' b b' n s v.core w.core i f' h')
-  walk_fine ws ws' b b' Mapping at n s v w r k e i f h =
+      into x rs (n ∷ (ws ++ ws')) (b + b' + 2) (typing (rel s) (select n v.core w.core)) r same (keep_fine ws ws' b b' n s v.core w.core i j f' h')
+  walk_fine ws ws' b b' Mapping at n s v w r k e i j f h =
       let f' : Fine x rs ws b (typing (rel s) v.core) = subst (λ (t : Shape). Fine x rs ws b (typing t v.core)) k f in
-      image_fine ws ws' b b' at n s v.core w.core w.type r e i f' h
+      image_fine ws ws' b b' at n s v.core w.core w.type r e i j f' h

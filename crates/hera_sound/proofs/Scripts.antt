@@ -1,4 +1,4 @@
--- Typed scripts have sound programs.
+-- Typed scripts have sound programs, with the types that typing finds.
 use Rattle.std.proofs.Common.{◌≡◌, ℕ, zero, suc, ◌<◌, ◌≤◌, ◌+◌, ◌*◌, List, [], ◌∷◌, ◌++◌, length, take, refl, sym, ap, ◌∙◌, subst, arith, Bool, true, false, append_assoc, append-nil, length-append}
 use Rattle.std.specs.Prelude.{Ok, Err, Option, Some, None, ◌||◌, not, cond, is_some, map, slice_get, nat_lt, All}
 use Rattle.std.specs.Option.{option_map}
@@ -12,9 +12,11 @@ use Rattle.hera_meaning.specs.Schemas.{AreDistinct, IsSchema}
 use Rattle.hera_meaning.specs.Catalogues.{IsDecl, IsCatalogue, decl_name}
 use Rattle.hera_meaning.specs.Deltas.{schema_of}
 use Rattle.hera_meaning.specs.Identifiers.{IsIdentifier}
+use Rattle.hera_meaning.specs.Hosts.{Hosts}
 use Rattle.hera_meaning.specs.Forms.{Form, form_of}
 use Rattle.hera_meaning.specs.Trees.{Command, Body_tree, Program_tree}
-use Rattle.hera_meaning.specs.Sound.{Scope, Body_forms, IsBody, Sound, BlockIsSound, AreApart, has_slot, first_slots, returns, walks_of_block, scope_of, is_spec}
+use Rattle.hera_meaning.specs.Sound.{Scope, Body_forms, IsBody, Shaped, Sound, BlockIsSound, AreApart, has_slot, first_slots, returns, walks_of_block, scope_of, is_spec}
+use Rattle.hera_meaning.specs.Shapes.{Body_types, Body_shapes, without_names, forms_of as body_forms, BlockGathers, IsShaped}
 use Rattle.hera_meaning.proofs.Names.{distinct_push}
 use Rattle.hera_host.specs.Tables.{Host, specs_of, AreHosts}
 use Rattle.hera_rules.specs.declared.env.Local.{Local}
@@ -28,11 +30,12 @@ use Rattle.hera_rules.specs.Commands.{fields_row, type_row, block_from}
 use Rattle.hera_rules.specs.Programs.{relation_name, relations_row, names_row, local_name, param_row, params_row, func_row, funcs_row, proc_row, procs_row, env_row, body_with, ElabBody, returns_row, ElabFuncs, no_func_is, no_func_left, func_is, ElabProcs, no_proc_is, no_proc_left, proc_is, program_with, ElabScript, script_is}
 use Rattle.hera_sound.proofs.Tests.{then_ok, cond_second, cond_first}
 use Rattle.hera_sound.proofs.Schemas.{fields_behind, fields_schema}
-use Rattle.hera_sound.proofs.Slots.{Slot, held, slot_forms, walk_places, Stand, stand_behind, walk_at, places_apart, places_above, first_has}
+use Rattle.hera_sound.specs.Types_found.{Slot, held, slots_acts, param_slots, types_with, func_types, proc_types, types_found}
+use Rattle.hera_sound.proofs.Slots.{slot_forms, slot_gathers, walk_places, Stand, stand_behind, walk_at, places_apart, places_above, first_has}
 use Rattle.hera_sound.proofs.Sizes.{bound_block, bound_bodies, size_bound}
 use Rattle.hera_sound.proofs.Made.{RelationsAreMade, ParamsAreMade, FuncsAreMade, ProcsAreMade, ActsAreMade, acts_nodes, funcs_nodes, procs_nodes, ScriptIsMade}
 use Rattle.hera_sound.proofs.Fine.{Inside, scope, IsGood, EnvIsGood, forms_of, slot_held}
-use Rattle.hera_sound.proofs.Acts.{slots_acts, acts_many, AllSettable, type_good, acts_fine}
+use Rattle.hera_sound.proofs.Acts.{acts_many, AllSettable, type_good, acts_fine}
 
 -- ---- relations
 
@@ -146,24 +149,27 @@ module _ (rels : List RelDecl) (schemas : (r : ℕ) → r < length rels → IsSc
 
 record Entry : Type 0 where
   pub body : Body_tree
-  pub forms : Body_forms
+  pub types : Body_types
 
-abbrev param_slots : List Local → List Slot
-param_slots ls = map (λ l. held (form_of l.shape)) ls
+abbrev forms_as : Body_types → Body_forms
+forms_as t = body_forms (without_names t)
 
-abbrev entry_of : List Local → Bool → Acts → List Command → List Slot → Option Form → Entry
-entry_of params func block cs ss result = record { body = body_with params func block cs; forms = record { slots = slot_forms (param_slots params ++ ss); result = result } }
+abbrev entry_of : List Local → Bool → Acts → List Command → List Slot → Option Shape → Entry
+entry_of params func block cs ss result = record { body = body_with params func block cs; types = types_with params ss result }
 
 abbrev bodies_in : List Entry → List Body_tree
 bodies_in es = map (λ e. e.body) es
 
 abbrev forms_among : List Entry → List Body_forms
-forms_among es = map (λ e. e.forms) es
+forms_among es = map (λ e. forms_as e.types) es
+
+abbrev types_among : List Entry → List Body_types
+types_among es = map (λ e. e.types) es
 
 abbrev func_entries : {g : Env} {bodies all : List Body_tree} {sigs : List FuncSig} {fs : List Func_phrase} → ElabFuncs g bodies sigs fs all → List Entry
 func_entries no_func_is = []
 func_entries no_func_left = []
-func_entries (func_is {sig = sig} {f = f} {ds = ds} e r rest) = entry_of sig.params true f.block ds (slots_acts e) (Some (form_of sig.result)) ∷ func_entries rest
+func_entries (func_is {sig = sig} {f = f} {ds = ds} e r rest) = entry_of sig.params true f.block ds (slots_acts e) (Some sig.result) ∷ func_entries rest
 
 abbrev proc_entries : {g : Env} {bodies all : List Body_tree} {sigs : List ProcSig} {ps : List Proc_phrase} → ElabProcs g bodies sigs ps all → List Entry
 proc_entries no_proc_is = []
@@ -183,8 +189,8 @@ procs_are (proc_is {sig = sig} {p = p} {cs = cs} {bodies = bodies} e rest) = pro
 -- an entry has these parameters and this result
 record Callable (func : Bool) (params : List Local) (result : Option Form) (e : Entry) : Type 0 where
   pub func_is : e.body.func ≡ func
-  pub params_are : forms_of params ≡ take e.body.params e.forms.slots
-  pub result_is : e.forms.result ≡ result
+  pub params_are : forms_of params ≡ take e.body.params (forms_as e.types).slots
+  pub result_is : (forms_as e.types).result ≡ result
 
 params_taken : (ls : List Local) (ss : List Slot) → forms_of ls ≡ take (length ls) (slot_forms (param_slots ls ++ ss))
 params_taken [] ss = refl
@@ -213,13 +219,13 @@ func_found rels schemas k name f no_func_left h n e = absurd (omega arith)
 func_found rels schemas k name f (func_is {sig = sig} {sigs = sigs} {f = p} {fs = fs} {ds = ds} b r rest) h n e =
     by (is_same name sig.name) e (λ j. func_found rels schemas (k + 1) name f rest h.3 (omega (arith, n)) j)
   where
-    by : (c : Bool) → cond c (Some sig) (func_named name sigs) ≡ Some f → (func_named name sigs ≡ Some f → FoundFunc (k + 1) f (func_entries rest)) → FoundFunc k f (entry_of sig.params true p.block ds (slots_acts b) (Some (form_of sig.result)) ∷ func_entries rest)
+    by : (c : Bool) → cond c (Some sig) (func_named name sigs) ≡ Some f → (func_named name sigs ≡ Some f → FoundFunc (k + 1) f (func_entries rest)) → FoundFunc k f (entry_of sig.params true p.block ds (slots_acts b) (Some sig.result) ∷ func_entries rest)
     by true e ih =
         let same : sig ≡ f = cc in
-        subst (λ (z : FuncSig). FoundFunc k z (entry_of sig.params true p.block ds (slots_acts b) (Some (form_of sig.result)) ∷ func_entries rest)) same
+        subst (λ (z : FuncSig). FoundFunc k z (entry_of sig.params true p.block ds (slots_acts b) (Some sig.result) ∷ func_entries rest)) same
         (record {
           place = 0;
-          entry = entry_of sig.params true p.block ds (slots_acts b) (Some (form_of sig.result));
+          entry = entry_of sig.params true p.block ds (slots_acts b) (Some sig.result);
           number = let z = h.0 in omega (arith, z);
           here = refl;
           callable = record { func_is = refl; params_are = params_taken sig.params (slots_acts b); result_is = refl };
@@ -265,12 +271,12 @@ params_held n (l ∷ ls) ss = params_held (n + 1) ls ss ∙ ap (λ k. walk_place
 -- parameters from a place on stand in all slots
 abbrev ParamsStand : List Slot → ℕ → List Local → Type 0
 ParamsStand all k [] = Unit {0}
-ParamsStand all k (l ∷ ls) = (slice_get all k ≡ Some (held (form_of l.shape))) × ParamsStand all (k + 1) ls
+ParamsStand all k (l ∷ ls) = (slice_get all k ≡ Some (held l.shape)) × ParamsStand all (k + 1) ls
 
 params_stand : (front : List Slot) (ls : List Local) (ss : List Slot) (k : ℕ) → k ≡ length front → ParamsStand (front ++ (param_slots ls ++ ss)) k ls
 params_stand front [] ss k e = tt
 params_stand front (l ∷ ls) ss k e =
-    let s : Slot = held (form_of l.shape) in
+    let s : Slot = held l.shape in
     let n = length-append front (s ∷ []) in
     (ap (λ i. slice_get (front ++ (s ∷ (param_slots ls ++ ss))) i) e ∙ at front s (param_slots ls ++ ss), subst (λ (all : List Slot). ParamsStand all (k + 1) ls) (append_assoc front (s ∷ []) (param_slots ls ++ ss)) (params_stand (front ++ s ∷ []) ls ss (k + 1) (omega (arith, e, n))))
   where
@@ -281,11 +287,11 @@ params_stand front (l ∷ ls) ss k e =
 params_settable : {g : Env} (x : Inside g) (n k : ℕ) (ls : List Local) → AreParams k ls → ParamsStand x.slots k ls → k + length ls ≤ n → AllSettable x (first_slots n) [] n ls
 params_settable x n k [] h s l = tt
 params_settable x n k (p ∷ ls) h s l =
-    let here : slice_get x.slots p.slot ≡ Some (held (form_of p.shape)) = ap (λ i. slice_get x.slots i) h.0 ∙ s.0 in
+    let here : slice_get x.slots p.slot ≡ Some (held p.shape) = ap (λ i. slice_get x.slots i) h.0 ∙ s.0 in
     let e = h.0 in
-    let free : has_slot (scope x).walks p.slot ≡ false = walk_at p.slot x.slots (held (form_of p.shape)) here in (
+    let free : has_slot (scope x).walks p.slot ≡ false = walk_at p.slot x.slots (held p.shape) here in (
       record {
-        visible = record { readable = first_has n p.slot (omega (arith, e, l)); slot = slot_held x p.slot (held (form_of p.shape)) here; good = h.1 };
+        visible = record { readable = first_has n p.slot (omega (arith, e, l)); slot = slot_held x p.slot (held p.shape) here; good = h.1 };
         may = ap (λ b. not b || has_slot [] p.slot) free;
         below = omega (arith, e, l);
       },
@@ -300,15 +306,17 @@ module _ (g : Env) (bodies : List Body_tree) (forms : List Body_forms) where
   abbrev scope_with : Bool → Body_forms → List ℕ → Scope
   scope_with func own walks = record { rels = g.relations; hosts = specs_of g.hosts; bodies = bodies; forms = forms; func = func; own = own; walks = walks }
 
-  abbrev IsSoundEntry : Entry → Type 0
-  IsSoundEntry e = IsBody (scope_with e.body.func e.forms (walks_of_block e.body.block)) e.body
+  -- the body is sound with the entry's types, and its walks gather what these say
+  record IsSoundEntry (e : Entry) : Type 0 where
+    pub sound : IsBody (scope_with e.body.func (forms_as e.types) (walks_of_block e.body.block)) e.body
+    pub gathers : BlockGathers (scope_with e.body.func (forms_as e.types) (walks_of_block e.body.block)) (without_names e.types).gathers e.body.block
 
   record FineBody (e : Entry) (n : ℕ) : Type 0 where
     pub sound : IsSoundEntry e
     pub small : bound_block e.body.block ≤ 10 * n
 
   body_fine : (r : Option Shape) (params : List Local) (block : Acts) (cs : List Command) (e : ElabBody g r params block cs) → ((slots : List Slot) → EnvIsGood (inside (is_some r) slots (option_map form_of r))) →
-      AreParams 0 params → ActsAreMade block → (is_some r ≡ true → returns (block_from cs) ≡ true) → FineBody (entry_of params (is_some r) block cs (slots_acts e) (option_map form_of r)) (acts_nodes block)
+      AreParams 0 params → ActsAreMade block → (is_some r ≡ true → returns (block_from cs) ≡ true) → FineBody (entry_of params (is_some r) block cs (slots_acts e) r) (acts_nodes block)
   body_fine r params block cs e env h m ret =
       let ss : List Slot = slots_acts e in
       let all : List Slot = param_slots params ++ ss in
@@ -323,18 +331,23 @@ module _ (g : Env) (bodies : List Body_tree) (forms : List Body_forms) where
       let total : walk_places 0 all ≡ walk_places n ss = params_held 0 params ss ∙ ap (λ k. walk_places k ss) (let q : 0 + n ≡ n = omega arith in q) in
       let own : Body_forms = record { slots = slot_forms all; result = option_map form_of r } in
       let block_sound : BlockIsSound (scope_with (is_some r) own (walk_places 0 all)) [] (first_slots n) [] (block_from cs) = subst (λ (z : List Command). BlockIsSound (scope_with (is_some r) own (walk_places 0 all)) [] (first_slots n) [] (block_from z)) (sym same) f.sound in
+      let block_gathers : BlockGathers (scope_with (is_some r) own (walk_places 0 all)) (slot_gathers all) (block_from cs) =
+      subst (λ (z : List Command). BlockGathers (scope_with (is_some r) own (walk_places 0 all)) (slot_gathers all) (block_from z)) (sym same) f.gathers in
       let fl = length-forms all in
       let al = length-append (param_slots params) ss in
       let sl = acts_many e in
       record {
         sound = record {
-          params = omega arith;
-          slots = omega (arith, fl, al, pl, sl);
-          result = some_form r;
-          returning = ret;
-          walks_new = subst (λ (ws : List ℕ). All (λ i. n ≤ i) ws) (sym walks) (places_above n n ss (omega arith));
-          walks_apart = subst (λ (ws : List ℕ). AreApart ws) (sym walks) (places_apart n ss);
-          block = subst (λ (ws : List ℕ). BlockIsSound (scope_with (is_some r) own ws) [] (first_slots n) [] (block_from cs)) (total ∙ sym walks) block_sound;
+          sound = record {
+            params = omega arith;
+            slots = omega (arith, fl, al, pl, sl);
+            result = some_form r;
+            returning = ret;
+            walks_new = subst (λ (ws : List ℕ). All (λ i. n ≤ i) ws) (sym walks) (places_above n n ss (omega arith));
+            walks_apart = subst (λ (ws : List ℕ). AreApart ws) (sym walks) (places_apart n ss);
+            block = subst (λ (ws : List ℕ). BlockIsSound (scope_with (is_some r) own ws) [] (first_slots n) [] (block_from cs)) (total ∙ sym walks) block_sound;
+          };
+          gathers = subst (λ (ws : List ℕ). BlockGathers (scope_with (is_some r) own ws) (slot_gathers all) (block_from cs)) (total ∙ sym walks) block_gathers;
         };
         small = subst (λ (z : List Command). bound_block (block_from z) ≤ 10 * acts_nodes block) (sym same) f.small;
       }
@@ -360,8 +373,8 @@ module _ (g : Env) (bodies : List Body_tree) (forms : List Body_forms) where
   funcs_fine schemas k no_func_left env h m = record { sound = tt; small = omega arith }
   funcs_fine schemas k (func_is {sig = sig} {f = f} {fs = fs} {cs = cs} {ds = ds} b r rest) env h m =
       let z = returned f.name.at cs ds r in
-      let one : FineBody (entry_of sig.params true f.block cs (slots_acts b) (Some (form_of sig.result))) (acts_nodes f.block) = body_fine (Some sig.result) sig.params f.block cs b (env (Some sig.result)) h.2 m.0.2 (λ _. z.0) in
-      let one' : FineBody (entry_of sig.params true f.block ds (slots_acts b) (Some (form_of sig.result))) (acts_nodes f.block) = subst (λ (q : List Command). FineBody (entry_of sig.params true f.block q (slots_acts b) (Some (form_of sig.result))) (acts_nodes f.block)) z.1 one in
+      let one : FineBody (entry_of sig.params true f.block cs (slots_acts b) (Some sig.result)) (acts_nodes f.block) = body_fine (Some sig.result) sig.params f.block cs b (env (Some sig.result)) h.2 m.0.2 (λ _. z.0) in
+      let one' : FineBody (entry_of sig.params true f.block ds (slots_acts b) (Some sig.result)) (acts_nodes f.block) = subst (λ (q : List Command). FineBody (entry_of sig.params true f.block q (slots_acts b) (Some sig.result)) (acts_nodes f.block)) z.1 one in
       let more = funcs_fine schemas (k + 1) rest env h.3 m.1 in
       let p = one'.small in
       let q = more.small in
@@ -399,18 +412,31 @@ map_append [] ys = refl
 map_append (x ∷ xs) ys = ap (λ bs. x.body ∷ bs) (map_append xs ys)
 
 -- an entry by its number is the body and the forms of that number
-entry_at : (es : List Entry) (k : ℕ) (e : Entry) → slice_get es k ≡ Some e → (slice_get (bodies_in es) k ≡ Some e.body) × (slice_get (forms_among es) k ≡ Some e.forms)
+entry_at : (es : List Entry) (k : ℕ) (e : Entry) → slice_get es k ≡ Some e → (slice_get (bodies_in es) k ≡ Some e.body) × (slice_get (forms_among es) k ≡ Some (forms_as e.types))
 entry_at es k e h =
-    (slice_get-map (λ (e : Entry). e.body) es k ∙ ap (λ (o : Option Entry). option_map (λ (e : Entry). e.body) o) h, slice_get-map (λ (e : Entry). e.forms) es k ∙ ap (λ (o : Option Entry). option_map (λ (e : Entry). e.forms) o) h)
+    (slice_get-map (λ (e : Entry). e.body) es k ∙ ap (λ (o : Option Entry). option_map (λ (e : Entry). e.body) o) h, slice_get-map (λ (e : Entry). forms_as e.types) es k ∙ ap (λ (o : Option Entry). option_map (λ (e : Entry). forms_as e.types) o) h)
 
 sound_at : (g : Env) (bodies : List Body_tree) (forms : List Body_forms) (es : List Entry) (k : ℕ) (b : Body_tree) (own : Body_forms) → AreSoundEntries g bodies forms es → slice_get (bodies_in es) k ≡ Some b → slice_get (forms_among es) k ≡ Some own →
     IsBody (scope_with g bodies forms b.func own (walks_of_block b.block)) b
 sound_at g bodies forms [] k b own h e f = absurd cc
 sound_at g bodies forms (x ∷ es) zero b own h e f =
     let s : x.body ≡ b = cc in
-    let t : x.forms ≡ own = cc in
-    subst (λ (o : Body_forms). IsBody (scope_with g bodies forms b.func o (walks_of_block b.block)) b) t (subst (λ (c : Body_tree). IsBody (scope_with g bodies forms c.func x.forms (walks_of_block c.block)) c) s h.0)
+    let t : forms_as x.types ≡ own = cc in
+    subst (λ (o : Body_forms). IsBody (scope_with g bodies forms b.func o (walks_of_block b.block)) b) t (subst (λ (c : Body_tree). IsBody (scope_with g bodies forms c.func (forms_as x.types) (walks_of_block c.block)) c) s h.0.sound)
 sound_at g bodies forms (x ∷ es) (suc k) b own h e f = sound_at g bodies forms es k b own h.1 e f
+
+-- what a body with these shapes gathers
+abbrev GathersAs : Env → List Body_tree → List Body_forms → Body_tree → Body_shapes → Type 0
+GathersAs g bodies forms b own = BlockGathers (scope_with g bodies forms b.func (body_forms own) (walks_of_block b.block)) own.gathers b.block
+
+gathers_at : (g : Env) (bodies : List Body_tree) (forms : List Body_forms) (es : List Entry) (k : ℕ) (b : Body_tree) (own : Body_shapes) → AreSoundEntries g bodies forms es → slice_get (bodies_in es) k ≡ Some b → slice_get (map without_names (types_among es)) k ≡ Some own →
+    GathersAs g bodies forms b own
+gathers_at g bodies forms [] k b own h e f = absurd cc
+gathers_at g bodies forms (x ∷ es) zero b own h e f =
+    let s : x.body ≡ b = cc in
+    let t : without_names x.types ≡ own = cc in
+    subst (λ (o : Body_shapes). GathersAs g bodies forms b o) t (subst (λ (c : Body_tree). GathersAs g bodies forms c (without_names x.types)) s h.0.gathers)
+gathers_at g bodies forms (x ∷ es) (suc k) b own h e f = gathers_at g bodies forms es k b own h.1 e f
 
 sound_append : (g : Env) (bodies : List Body_tree) (forms : List Body_forms) (xs ys : List Entry) → AreSoundEntries g bodies forms xs → AreSoundEntries g bodies forms ys → AreSoundEntries g bodies forms (xs ++ ys)
 sound_append g bodies forms [] ys h k = k
@@ -423,6 +449,34 @@ bound_append (x ∷ xs) ys = let h = bound_append xs ys in omega (arith, h)
 length-same : (es : List Entry) → length (forms_among es) ≡ length (bodies_in es)
 length-same [] = refl
 length-same (e ∷ es) = ap (λ n. suc n) (length-same es)
+
+-- the entries' types are those that typing finds
+funcs_found : {g : Env} {bodies all : List Body_tree} {sigs : List FuncSig} {fs : List Func_phrase} (e : ElabFuncs g bodies sigs fs all) → types_among (func_entries e) ≡ func_types e
+funcs_found no_func_is = refl
+funcs_found no_func_left = refl
+funcs_found (func_is {sig = sig} e r rest) = ap (λ ts. types_with sig.params (slots_acts e) (Some sig.result) ∷ ts) (funcs_found rest)
+
+procs_found : {g : Env} {bodies all : List Body_tree} {sigs : List ProcSig} {ps : List Proc_phrase} (e : ElabProcs g bodies sigs ps all) → types_among (proc_entries e) ≡ proc_types e
+procs_found no_proc_is = refl
+procs_found no_proc_left = refl
+procs_found (proc_is {sig = sig} e rest) = ap (λ ts. types_with sig.params (slots_acts e) None ∷ ts) (procs_found rest)
+
+types_append : (xs ys : List Entry) → types_among (xs ++ ys) ≡ types_among xs ++ types_among ys
+types_append [] ys = refl
+types_append (x ∷ xs) ys = ap (λ ts. x.types ∷ ts) (types_append xs ys)
+
+forms_same : (es : List Entry) → forms_among es ≡ map body_forms (map without_names (types_among es))
+forms_same [] = refl
+forms_same (e ∷ es) = ap (λ fs. forms_as e.types ∷ fs) (forms_same es)
+
+-- the program is sound with these forms, and its walks gather what these shapes say
+record ShapedWith (p : Program_tree) (hosts : Hosts) (forms : List Body_forms) (shapes : List Body_shapes) : Type 0 where
+  pub shaped : Shaped p hosts forms
+  pub gathers : (k : ℕ) (b : Body_tree) (own : Body_shapes) → slice_get p.bodies k ≡ Some b → slice_get shapes k ≡ Some own → BlockGathers (scope_of p hosts forms b (body_forms own)) own.gathers b.block
+
+shaped_as : (p : Program_tree) (hosts : Hosts) (es : List Entry) → ShapedWith p hosts (forms_among es) (map without_names (types_among es)) → IsShaped p hosts (map without_names (types_among es))
+shaped_as p hosts es h =
+    let k = subst (λ (fs : List Body_forms). ShapedWith p hosts fs (map without_names (types_among es))) (forms_same es) h in record { shaped = k.shaped; gathers = k.gathers }
 
 -- what the first three passes promise
 record EnvBehind (hosts : List Host) (s : Script) (g : Env) : Type 0 where
@@ -454,8 +508,8 @@ env_behind hosts s g m e =
     subst (λ (z : Env). EnvBehind hosts s z) same
     (record { catalogue = cat; schemas = schemas; funcs = fs.good; funcs_many = omega (arith, n); procs = ps.good; procs_many = omega (arith, o); hosts_are = refl })
 
-pub script_sound : (hosts : List Host) (s : Script) (p : Program_tree) → AreHosts hosts → ScriptIsMade s → ElabScript hosts s p → Sound p (specs_of hosts)
-script_sound hosts s _ hs m (script_is {g = g} {funcs = funcs} {all = all} {cs = cs} env ef ep em) =
+pub script_shaped : (hosts : List Host) (s : Script) (p : Program_tree) → AreHosts hosts → ScriptIsMade s → (typed : ElabScript hosts s p) → IsShaped p (specs_of hosts) (map without_names (types_found typed))
+script_shaped hosts s _ hs m (script_is {g = g} {funcs = funcs} {all = all} {cs = cs} env ef ep em) =
     let k = env_behind hosts s g m env in
     let fe : List Entry = func_entries ef in
     let pe : List Entry = proc_entries ep in
@@ -465,7 +519,7 @@ script_sound hosts s _ hs m (script_is {g = g} {funcs = funcs} {all = all} {cs =
     let rest_is : all ≡ bodies_in (fe ++ pe) = procs_are ep ∙ ap (λ bs. bs ++ bodies_in pe) (funcs_are ef) ∙ sym (map_append fe pe) in
     let bodies_are : p.bodies ≡ bodies_in es = ap (λ bs. main.body ∷ bs) rest_is in
     let forms : List Body_forms = forms_among es in
-    let number : (i : ℕ) (e : Entry) → slice_get (fe ++ pe) i ≡ Some e → (slice_get p.bodies (1 + i) ≡ Some e.body) × (slice_get forms (1 + i) ≡ Some e.forms) = λ i e h.
+    let number : (i : ℕ) (e : Entry) → slice_get (fe ++ pe) i ≡ Some e → (slice_get p.bodies (1 + i) ≡ Some e.body) × (slice_get forms (1 + i) ≡ Some (forms_as e.types)) = λ i e h.
     (let there : slice_get es (1 + i) ≡ Some e = ap (λ z. slice_get es z) (let q : 1 + i ≡ suc i = omega arith in q) ∙ h in
     let both = entry_at es (1 + i) e there in (ap (λ bs. slice_get bs (1 + i)) bodies_are ∙ both.0, both.1)) in
     let fl = length-funcs ef k.funcs_many in
@@ -477,7 +531,7 @@ script_sound hosts s _ hs m (script_is {g = g} {funcs = funcs} {all = all} {cs =
           let n = h.number in (
             record {
               body = h.entry.body;
-              forms = h.entry.forms;
+              forms = forms_as h.entry.types;
               behind_main = omega (arith, n);
               body_is = ap (λ z. slice_get p.bodies z) n ∙ b.0;
               forms_are = ap (λ z. slice_get forms z) n ∙ b.1;
@@ -494,7 +548,7 @@ script_sound hosts s _ hs m (script_is {g = g} {funcs = funcs} {all = all} {cs =
           let at : f.number ≡ 1 + (length fe + h.place) = omega (arith, n, fl) in
           record {
             body = h.entry.body;
-            forms = h.entry.forms;
+            forms = forms_as h.entry.types;
             behind_main = omega (arith, n);
             body_is = ap (λ z. slice_get p.bodies z) at ∙ b.0;
             forms_are = ap (λ z. slice_get forms z) at ∙ b.1;
@@ -514,14 +568,21 @@ script_sound hosts s _ hs m (script_is {g = g} {funcs = funcs} {all = all} {cs =
     let s2 = pf.small in
     let s3 = mf.small in
     let few = m.few in
-    record {
-      forms = forms;
-      shaped = record {
-        relations = k.catalogue;
-        specs = All-map (λ spec. is_spec spec ≡ true) (λ (h : Host). h.spec) hosts hs;
-        main = record { body = main.body; here = refl; func = refl; params = refl };
-        many = length-same es ∙ ap length (sym bodies_are);
-        bodies = λ i b own e f. subst (λ z. IsBody (scope_of p z forms b own) b) (sym specs) (sound_at g p.bodies forms es i b own sound (ap (λ bs. slice_get bs i) (sym bodies_are) ∙ e) f);
-        size = omega (arith, sz, bb, s1, s2, s3, few);
-      };
-    }
+    let shaped : Shaped p (specs_of hosts) forms = record {
+      relations = k.catalogue;
+      specs = All-map (λ spec. is_spec spec ≡ true) (λ (h : Host). h.spec) hosts hs;
+      main = record { body = main.body; here = refl; func = refl; params = refl };
+      many = length-same es ∙ ap length (sym bodies_are);
+      bodies = λ i b own e f. subst (λ z. IsBody (scope_of p z forms b own) b) (sym specs) (sound_at g p.bodies forms es i b own sound (ap (λ bs. slice_get bs i) (sym bodies_are) ∙ e) f);
+      size = omega (arith, sz, bb, s1, s2, s3, few);
+    } in
+    let both : ShapedWith p (specs_of hosts) forms (map without_names (types_among es)) = record {
+      shaped = shaped;
+      gathers = λ i b own e f. subst (λ z. BlockGathers (scope_of p z forms b (body_forms own)) own.gathers b.block) (sym specs) (gathers_at g p.bodies forms es i b own sound (ap (λ bs. slice_get bs i) (sym bodies_are) ∙ e) f);
+    } in
+    let found : types_among es ≡ types_with [] (slots_acts em) None ∷ (func_types ef ++ proc_types ep) =
+    ap (λ ts. main.types ∷ ts) (types_append fe pe ∙ ap (λ ts. ts ++ types_among pe) (funcs_found ef) ∙ ap (λ ts. func_types ef ++ ts) (procs_found ep)) in
+    subst (λ (ts : List Body_types). IsShaped p (specs_of hosts) (map without_names ts)) found (shaped_as p (specs_of hosts) es both)
+
+pub script_sound : (hosts : List Host) (s : Script) (p : Program_tree) → AreHosts hosts → ScriptIsMade s → ElabScript hosts s p → Sound p (specs_of hosts)
+script_sound hosts s p hs m typed = let h = script_shaped hosts s p hs m typed in record { forms = map body_forms (map without_names (types_found typed)); shaped = h.shaped }

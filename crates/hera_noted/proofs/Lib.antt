@@ -1,0 +1,14 @@
+pub mod Seen_ops
+pub mod Expr_points
+pub mod Expr_flows
+pub mod Block_flows
+pub mod Ranges
+pub mod Block_ranges
+pub mod Cuts
+pub mod Written
+pub mod Noting
+pub mod Placed
+pub mod Bodies_found
+pub mod Law
+pub mod Told
+pub mod Pushed

@@ -1,0 +1,6 @@
+pub mod Adding
+pub mod Agreed
+pub mod Begun
+pub mod Fitting
+pub mod Steps
+mod Worked
