@@ -2,7 +2,7 @@
 use Rattle.std.proofs.Common.{◌≡◌, ℕ, suc, List, [], ◌∷◌, ◌++◌, Option, Some, Bool, true, false, refl, sym, ap, subst, ◌∙◌}
 use Rattle.hera_syntax.specs.declared.expr.Level.{Level}
 use Rattle.hera_syntax.specs.declared.expr.Level.TheVariants as levels
-use Rattle.hera_syntax.specs.declared.expr.Operand.{Operand}
+use Rattle.hera_syntax.specs.declared.expr.OperandTree.{OperandTree}
 use Rattle.hera_syntax.specs.declared.expr.Tail.{Tail}
 use Rattle.hera_syntax.specs.declared.token.Token.{Token}
 use Rattle.hera_syntax.specs.declared.token.Terminal.{Terminal}
@@ -84,7 +84,7 @@ sticks_as {a = a} {b = b} e s = subst (λ ops. Sticks (keep ops ∷ []) a b) e s
 pub compared_none : (first : List Entry) {whole : List Entry} {tails : List Tail} → whole ≡ first ++ comparison_rest tails → tails ≡ [] → whole ≡ first ++ node phrases.more_cmp 1
 compared_none first e n = e ∙ ap (λ ts. first ++ comparison_rest ts) n
 
-pub compared_one : (first : Operand) (tail : Tail) {whole : List Entry} {given : Operand} {tails none : List Tail} →
+pub compared_one : (first : OperandTree) (tail : Tail) {whole : List Entry} {given : OperandTree} {tails none : List Tail} →
     whole ≡ node phrases.cmp 0 ++ operand_outline given ++ comparison_rest tails → given ≡ first → tails ≡ none ++ tail ∷ [] → none ≡ [] →
     whole ≡ node phrases.cmp 0 ++ operand_outline first ++ (node phrases.more_cmp 0 ++ tail_outline tail)
 compared_one first tail {tails = tails} e f m n =

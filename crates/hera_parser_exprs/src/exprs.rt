@@ -15,8 +15,8 @@ use crate::terminals::{
     RENAME, SEMICOLON, SIGNS, SQUARE, WALK_WORDS,
 };
 use hera_syntax::{
-    Args, Atom, Atoms, Binding, Bindings, Expr, Level, Line, Lines, Operand, Post, Prefix, Prime,
-    Tail, Terminal, Token,
+    ArgTrees, Atom, Atoms, Binding, Bindings, Expr, Level, LineTree, LineTrees, OperandTree, Post,
+    Prefix, Prime, Tail, Terminal, Token,
 };
 use std::alloc::Global;
 
@@ -93,18 +93,18 @@ impl<'a> Parser<'a> {
 
     /// An operand of a level.
     #[cycle(expr)]
-    fn operand(&mut self, alloc: Global, level: Level) -> Result<Operand, Stop>
+    fn operand(&mut self, alloc: Global, level: Level) -> Result<OperandTree, Stop>
         ensures reads { IfOk result (λ tree. Gives (phrase (operand_of level) ∷ []) self.old (operand_outline tree) [] self.new) }
         ensures sticks { IsErrOf result Stop.Syntax → Sticks (phrase (operand_of level) ∷ []) self.old self.new }
         ensures shorter { OnOk result (length self.new < length self.old) }
     {
         let Some(below) = level.below() else {
             let prefix = self.prefix_level(alloc)?;
-            return Ok(Operand::prefix(prefix));
+            return Ok(OperandTree::prefix(prefix));
         };
         let inner = self.level(alloc, below)?;
         let boxed = Box::new(alloc, inner)?;
-        Ok(Operand::inner(boxed))
+        Ok(OperandTree::inner(boxed))
     }
 
     /// `('-' | '!')? post`
@@ -417,7 +417,7 @@ impl<'a> Parser<'a> {
 
     /// `expr (',' expr)*`
     #[cycle(expr)]
-    pub(crate) fn args(&mut self, alloc: Global) -> Result<Args, Stop>
+    pub(crate) fn args(&mut self, alloc: Global) -> Result<ArgTrees, Stop>
         ensures reads { IfOk result (λ tree. Gives (phrase phrases.args ∷ []) self.old (args_outline tree) [] self.new) }
         ensures sticks { IsErrOf result Stop.Syntax → Sticks (phrase phrases.args ∷ []) self.old self.new }
         ensures shorter { OnOk result (length self.new < length self.old) }
@@ -429,7 +429,7 @@ impl<'a> Parser<'a> {
             items = items.with(item)?;
         }
         let Items { first, rest } = items;
-        Ok(Args::new(first, rest))
+        Ok(ArgTrees::new(first, rest))
     }
 
     /// `name '=' expr (',' name '=' expr)*`
@@ -468,7 +468,7 @@ impl<'a> Parser<'a> {
 
     /// `line (',' line)*`
     #[cycle(expr)]
-    fn lines(&mut self, alloc: Global) -> Result<Lines, Stop>
+    fn lines(&mut self, alloc: Global) -> Result<LineTrees, Stop>
         ensures reads { IfOk result (λ tree. Gives (phrase phrases.lines ∷ []) self.old (lines_outline tree) [] self.new) }
         ensures sticks { IsErrOf result Stop.Syntax → Sticks (phrase phrases.lines ∷ []) self.old self.new }
         ensures shorter { OnOk result (length self.new < length self.old) }
@@ -480,7 +480,7 @@ impl<'a> Parser<'a> {
             items = items.with(item)?;
         }
         let Items { first, rest } = items;
-        Ok(Lines::new(first, rest))
+        Ok(LineTrees::new(first, rest))
     }
 
     /// `name '=' expr`
@@ -513,7 +513,7 @@ impl<'a> Parser<'a> {
 
     /// `'(' args ')'`
     #[cycle(expr)]
-    fn line(&mut self, alloc: Global) -> Result<Line, Stop>
+    fn line(&mut self, alloc: Global) -> Result<LineTree, Stop>
         ensures reads { IfOk result (λ tree. Gives (phrase phrases.line ∷ []) self.old (line_outline tree) [] self.new) }
         ensures sticks { IsErrOf result Stop.Syntax → Sticks (phrase phrases.line ∷ []) self.old self.new }
         ensures shorter { OnOk result (length self.new < length self.old) }
@@ -522,11 +522,11 @@ impl<'a> Parser<'a> {
         let args = self.args(alloc);
         let part = self.joined_until(bracket, args, CLOSE_PAREN)?;
         let (bracket, args) = part;
-        Ok(Line::new(bracket, args))
+        Ok(LineTree::new(bracket, args))
     }
 
     /// `args?`
-    pub fn some_args(&mut self, alloc: Global) -> Result<Option<Args>, Stop>
+    pub fn some_args(&mut self, alloc: Global) -> Result<Option<ArgTrees>, Stop>
         ensures reads { IfOk result (λ tree. Gives (phrase phrases.some_args ∷ []) self.old (some_args_outline tree) [] self.new) }
         ensures sticks { IsErrOf result Stop.Syntax → Sticks (phrase phrases.some_args ∷ []) self.old self.new }
         ensures no_longer { OnOk result (length self.new ≤ length self.old) }

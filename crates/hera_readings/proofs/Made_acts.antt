@@ -2,7 +2,7 @@
 use Rattle.std.proofs.Common.{◌≡◌, List, [], ◌∷◌, ◌++◌, Option, Some, None, ◌⊎◌, inl, inr, refl, ap, ◌∙◌, append_assoc, zero-lt-suc}
 use Rattle.std.specs.List.{flat_map}
 use Rattle.hera_syntax.specs.declared.token.Token.{Token}
-use Rattle.hera_syntax.specs.declared.expr.Args.{Args}
+use Rattle.hera_syntax.specs.declared.expr.ArgTrees.{ArgTrees}
 use Rattle.hera_syntax.specs.declared.expr.Expr.{Expr}
 use Rattle.hera_syntax.specs.declared.tree.SchemaTree.TheVariants.{Name, Written}
 use Rattle.hera_syntax.specs.declared.tree.TypeTree.TheVariants.{Kind, Delta, Rel, Tuple}
@@ -89,7 +89,7 @@ makes_some_text = (λ (t, _) short. (Some t, refl), (λ _ short. (None, refl), t
 pub makes_named : Makes phrases.named 0 (alternatives phrases.named)
 makes_named = (λ (e, _) short. (inl e, refl), (λ (b, (args, _)) short. (inr (b, args), refl), tt))
 
-assign_or_call : (n : Token) (x : Expr ⊎ (Token × Option Args)) → Made phrases.stmt (node phrases.stmt 1 ++ hold n ++ named_outline x)
+assign_or_call : (n : Token) (x : Expr ⊎ (Token × Option ArgTrees)) → Made phrases.stmt (node phrases.stmt 1 ++ hold n ++ named_outline x)
 assign_or_call n (inl e) = (Assign n e, refl)
 assign_or_call n (inr (b, args)) = (Call n b args, refl)
 

@@ -5,14 +5,14 @@ use Rattle.hera_syntax.specs.declared.token.Token.{Token}
 use Rattle.hera_syntax.specs.declared.expr.Expr.{Expr}
 use Rattle.hera_syntax.specs.declared.expr.Level.{Level}
 use Rattle.hera_syntax.specs.declared.expr.Level.TheVariants as levels
-use Rattle.hera_syntax.specs.declared.expr.Operand.{Operand, Inner', Prefix'}
+use Rattle.hera_syntax.specs.declared.expr.OperandTree.{OperandTree, Inner', Prefix'}
 use Rattle.hera_syntax.specs.declared.expr.Tail.{Tail}
-use Rattle.hera_syntax.specs.declared.expr.Args.{Args}
+use Rattle.hera_syntax.specs.declared.expr.ArgTrees.{ArgTrees}
 use Rattle.hera_syntax.specs.declared.expr.Binding.{Binding'}
 use Rattle.hera_syntax.specs.declared.expr.Atom.{Atom'}
-use Rattle.hera_syntax.specs.declared.expr.Line.{Line'}
+use Rattle.hera_syntax.specs.declared.expr.LineTree.{LineTree'}
 use Rattle.hera_syntax.specs.declared.expr.Atoms.{Atoms}
-use Rattle.hera_syntax.specs.declared.expr.Lines.{Lines}
+use Rattle.hera_syntax.specs.declared.expr.LineTrees.{LineTrees}
 use Rattle.hera_syntax.specs.declared.expr.AggTree.TheVariants.{Count, Of}
 use Rattle.hera_syntax.specs.declared.expr.Prime.{Int, Text, True, False, Fail, Name, Call', Paren', Row', Delta', Rows', Walk', Project', Rename', Pair', Group', Measure', Fold', Bulk', Part', Prime-Call-2-None', Prime-Call-2-Some', Prime-Delta-1-None', Prime-Delta-1-Some', Prime-Rows-4-None', Prime-Rows-4-Some'}
 use Rattle.hera_syntax.specs.Grammar.{Production, Part, alternatives}
@@ -130,11 +130,11 @@ pub makes_more_lines : Makes phrases.more_lines 0 (alternatives phrases.more_lin
 makes_more_lines = (λ (e, (xs, _)) short. (e ∷ xs, row_more lines_row e xs (node phrases.more_lines 1)), (λ _ short. ([], refl), tt))
 
 pub makes_line : Makes phrases.line 0 (alternatives phrases.line)
-makes_line = (λ (b, (args, _)) short. (Line' b args, refl), tt)
+makes_line = (λ (b, (args, _)) short. (LineTree' b args, refl), tt)
 
 -- ---- what no operator splits
 
-name_or_call : (n : Token) (c : Option (Token × Option Args)) → Made phrases.prime (node phrases.prime 5 ++ hold n ++ call_outline c)
+name_or_call : (n : Token) (c : Option (Token × Option ArgTrees)) → Made phrases.prime (node phrases.prime 5 ++ hold n ++ call_outline c)
 name_or_call n None = (Name n, refl)
 name_or_call n (Some (b, None)) = (Call' n b Prime-Call-2-None', refl)
 name_or_call n (Some (b, Some args)) = (Call' n b (Prime-Call-2-Some' box args), refl)
@@ -143,7 +143,7 @@ delta : (b : Token) (o : Option Atoms) → Made phrases.prime (node phrases.prim
 delta b None = (Delta' b Prime-Delta-1-None', refl)
 delta b (Some atoms) = (Delta' b (Prime-Delta-1-Some' box atoms), refl)
 
-rows : (w b n c : Token) (o : Option Lines) → Made phrases.prime (node phrases.prime 9 ++ hold w ++ hold b ++ hold n ++ skip phrases.close_paren ++ hold c ++ some_lines_outline o ++ skip phrases.close_brace)
+rows : (w b n c : Token) (o : Option LineTrees) → Made phrases.prime (node phrases.prime 9 ++ hold w ++ hold b ++ hold n ++ skip phrases.close_paren ++ hold c ++ some_lines_outline o ++ skip phrases.close_brace)
 rows w b n c None = (Rows' w b n c Prime-Rows-4-None', refl)
 rows w b n c (Some lines) = (Rows' w b n c (Prime-Rows-4-Some' box lines), refl)
 
@@ -222,10 +222,10 @@ makes_prefix = (λ (t, (p, _)) short. ((Some t, p), refl), (λ (p, _) short. ((N
 -- ---- operators
 
 -- the operand of a prefix's value
-abbrev operand_of_prefix : Node phrases.prefix → Operand
+abbrev operand_of_prefix : Node phrases.prefix → OperandTree
 operand_of_prefix (op, (p, field)) = Prefix' op box p field
 
-chained : (level : Level) (first : Operand) (ts : List Tail) → ¬ (level ≡ levels.Comparisons)
+chained : (level : Level) (first : OperandTree) (ts : List Tail) → ¬ (level ≡ levels.Comparisons)
     → Short (node (production_of level) 0 ++ operand_outline first ++ (flat_map (tail_row level) ts ++ node (more_of level) 1))
     → (e : Expr) × (expr_outline e ≡ node (production_of level) 0 ++ operand_outline first ++ (flat_map (tail_row level) ts ++ node (more_of level) 1))
 chained level first ts other short =
@@ -241,7 +241,7 @@ makes_level phrases.terms = (λ (e, (ts, _)) short. chained levels.Terms (Inner'
 makes_level phrases.smashes = (λ (e, (ts, _)) short. chained levels.Smashes (Inner' box e) ts (λ h. cc) short, tt)
 makes_level phrases.merges = (λ (p, (ts, _)) short. chained levels.Merges (operand_of_prefix p) ts (λ h. cc) short, tt)
 
-one_more : (l : phrases.Level) (op : Token) (operand : Operand) (ts : List Tail)
+one_more : (l : phrases.Level) (op : Token) (operand : OperandTree) (ts : List Tail)
     → Made (phrases.more l) (node (phrases.more l) 0 ++ hold op ++ operand_outline operand ++ (flat_map (level_row l) ts ++ node (phrases.more l) 1))
 one_more l op operand ts = let t : Tail = record { op = op; operand = operand } in (t ∷ ts, row_more (level_row l) t ts (node (phrases.more l) 1))
 

@@ -6,13 +6,13 @@ use Rattle.hera_syntax.specs.declared.token.Token.{Token}
 use Rattle.hera_syntax.specs.declared.expr.Expr.{Expr}
 use Rattle.hera_syntax.specs.declared.expr.Tail.{Tail}
 use Rattle.hera_syntax.specs.declared.expr.Prime.{Prime}
-use Rattle.hera_syntax.specs.declared.expr.Args.{Args}
+use Rattle.hera_syntax.specs.declared.expr.ArgTrees.{ArgTrees}
 use Rattle.hera_syntax.specs.declared.expr.Binding.{Binding}
 use Rattle.hera_syntax.specs.declared.expr.Bindings.{Bindings}
 use Rattle.hera_syntax.specs.declared.expr.Atom.{Atom}
 use Rattle.hera_syntax.specs.declared.expr.Atoms.{Atoms}
-use Rattle.hera_syntax.specs.declared.expr.Line.{Line}
-use Rattle.hera_syntax.specs.declared.expr.Lines.{Lines}
+use Rattle.hera_syntax.specs.declared.expr.LineTree.{LineTree}
+use Rattle.hera_syntax.specs.declared.expr.LineTrees.{LineTrees}
 use Rattle.hera_syntax.specs.declared.expr.Names.{Names}
 use Rattle.hera_syntax.specs.declared.expr.Renaming.{Renaming}
 use Rattle.hera_syntax.specs.declared.expr.Renamings.{Renamings}
@@ -66,13 +66,13 @@ Node phrases.main = Main
 Node phrases.block = Block
 Node phrases.stmts = List StmtTree
 Node phrases.stmt = StmtTree
-Node phrases.named = Expr ⊎ (Token × Option Args)
+Node phrases.named = Expr ⊎ (Token × Option ArgTrees)
 Node phrases.else_part = Elses
 Node phrases.after_else = (ElseIf × Elses) ⊎ Block
 Node phrases.some_value = Option Expr
 Node phrases.some_text = Option Token
-Node phrases.some_args = Option Args
-Node phrases.args = Args
+Node phrases.some_args = Option ArgTrees
+Node phrases.args = ArgTrees
 Node phrases.more_args = List Expr
 Node (phrases.level l) = Expr
 Node (phrases.more l) = List Tail
@@ -82,7 +82,7 @@ Node phrases.prefix = Option Token × (Prime × Option Token)
 Node phrases.post = Prime × Option Token
 Node phrases.field = Option Token
 Node phrases.prime = Prime
-Node phrases.call = Option (Token × Option Args)
+Node phrases.call = Option (Token × Option ArgTrees)
 Node phrases.bindings = Bindings
 Node phrases.more_bindings = List Binding
 Node phrases.binding = Binding
@@ -90,10 +90,10 @@ Node phrases.some_atoms = Option Atoms
 Node phrases.atoms = Atoms
 Node phrases.more_atoms = List Atom
 Node phrases.atom = Atom
-Node phrases.some_lines = Option Lines
-Node phrases.lines = Lines
-Node phrases.more_lines = List Line
-Node phrases.line = Line
+Node phrases.some_lines = Option LineTrees
+Node phrases.lines = LineTrees
+Node phrases.more_lines = List LineTree
+Node phrases.line = LineTree
 Node phrases.names = Names
 Node phrases.more_names = List Token
 Node phrases.renamings = Renamings
@@ -104,7 +104,7 @@ Node phrases.more_aggs = List NamedAgg
 Node phrases.named_agg = NamedAgg
 Node phrases.agg = AggTree
 
-abbrev pub named_outline : Expr ⊎ (Token × Option Args) → List Entry
+abbrev pub named_outline : Expr ⊎ (Token × Option ArgTrees) → List Entry
 named_outline (inl e) = node phrases.named 0 ++ skip phrases.equals ++ expr_outline e ++ skip phrases.semicolon
 named_outline (inr (b, args)) = node phrases.named 1 ++ hold b ++ some_args_outline args ++ skip phrases.close_paren ++ skip phrases.semicolon
 
@@ -123,7 +123,7 @@ abbrev pub more_cmp_outline : Option Tail → List Entry
 more_cmp_outline None = node phrases.more_cmp 1
 more_cmp_outline (Some t) = node phrases.more_cmp 0 ++ tail_outline t
 
-abbrev pub call_outline : Option (Token × Option Args) → List Entry
+abbrev pub call_outline : Option (Token × Option ArgTrees) → List Entry
 call_outline None = node phrases.call 1
 call_outline (Some (b, args)) = node phrases.call 0 ++ hold b ++ some_args_outline args ++ skip phrases.close_paren
 

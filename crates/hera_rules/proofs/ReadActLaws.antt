@@ -4,7 +4,7 @@ use Rattle.std.specs.Prelude.{Vec, Option, Some, None}
 use Rattle.std.specs.declared.alloc.Global.{Global}
 use Rattle.hera_syntax.specs.declared.token.Token.{Token}
 use Rattle.hera_syntax.specs.declared.expr.Expr.{Expr}
-use Rattle.hera_syntax.specs.declared.expr.Args.{Args}
+use Rattle.hera_syntax.specs.declared.expr.ArgTrees.{ArgTrees}
 use Rattle.hera_syntax.specs.declared.tree.TypeTree.{TypeTree}
 use Rattle.hera_syntax.specs.declared.tree.Block.{Block}
 use Rattle.hera_syntax.specs.declared.tree.ElseIf.{ElseIf}
@@ -30,7 +30,7 @@ pub act_of-Assign : (n : Token) (e : Expr) → act_of (variant.Assign n e) ≡ a
 unfolding act_of
 act_of-Assign n e = refl
 
-pub act_of-Call : (n b : Token) (args : Option Args) → act_of (variant.Call n b args) ≡ performing (word_of n) (some_args args)
+pub act_of-Call : (n b : Token) (args : Option ArgTrees) → act_of (variant.Call n b args) ≡ performing (word_of n) (some_args args)
 unfolding act_of
 act_of-Call n b args = refl
 

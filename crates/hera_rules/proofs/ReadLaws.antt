@@ -6,19 +6,19 @@ use Rattle.hera_syntax.specs.declared.token.Token.{Token}
 use Rattle.hera_syntax.specs.declared.expr.Names.{Names}
 use Rattle.hera_syntax.specs.declared.expr.Renamings.{Renamings}
 use Rattle.hera_syntax.specs.declared.expr.NamedAggs.{NamedAggs}
-use Rattle.hera_syntax.specs.declared.expr.Args.{Args, Args', out-Args, Row_of-Expr, end_of-Expr, more_of-Expr, items-the_row-Expr}
+use Rattle.hera_syntax.specs.declared.expr.ArgTrees.{ArgTrees, ArgTrees', out-ArgTrees, Row_of-Expr, end_of-Expr, more_of-Expr, items-the_row-Expr}
 use Rattle.hera_syntax.specs.declared.expr.Bindings.{Bindings, Bindings', out-Bindings, Row_of-Binding, end_of-Binding, more_of-Binding, items-the_row-Binding}
 use Rattle.hera_syntax.specs.declared.expr.Binding.{Binding, Binding', out-Binding}
 use Rattle.hera_syntax.specs.declared.expr.Atoms.{Atoms, Atoms', out-Atoms, Row_of-Atom, end_of-Atom, more_of-Atom, items-the_row-Atom}
 use Rattle.hera_syntax.specs.declared.expr.Atom.{Atom, Atom', out-Atom}
-use Rattle.hera_syntax.specs.declared.expr.Lines.{Lines, Lines', out-Lines, Row_of-Line, end_of-Line, more_of-Line, items-the_row-Line}
-use Rattle.hera_syntax.specs.declared.expr.Line.{Line, Line', out-Line}
+use Rattle.hera_syntax.specs.declared.expr.LineTrees.{LineTrees, LineTrees', out-LineTrees, Row_of-LineTree, end_of-LineTree, more_of-LineTree, items-the_row-LineTree}
+use Rattle.hera_syntax.specs.declared.expr.LineTree.{LineTree, LineTree', out-LineTree}
 use Rattle.hera_syntax.specs.declared.expr.Level.{Level}
 use Rattle.hera_syntax.specs.declared.expr.Expr.{Expr, Expr', out-Expr, Row_of-Tail, end_of-Tail, more_of-Tail, items-the_row-Tail}
 use Rattle.hera_syntax.specs.declared.expr.Prefix.{Prefix}
-use Rattle.hera_syntax.specs.declared.expr.Operand.TheViews as view
+use Rattle.hera_syntax.specs.declared.expr.OperandTree.TheViews as view
 use Rattle.hera_syntax.specs.declared.expr.Prime.TheVariants as variant
-use Rattle.hera_syntax.specs.declared.expr.Operand.TheViews.{the_lemmas}
+use Rattle.hera_syntax.specs.declared.expr.OperandTree.TheViews.{the_lemmas}
 use Rattle.hera_meaning.specs.declared.scalars.Scalar.TheVariants.{Int as int_scalar, Bool as bool_scalar, Text as text_scalar}
 use Rattle.hera_meaning.specs.declared.trees.Const.TheVariants.{Scalar as scalar, FailDelta as fail_delta}
 use Rattle.std.specs.Prelude.{true, false}
@@ -51,10 +51,10 @@ unfolding expr_phrase
 atom_rows n end_of-Atom = refl
 atom_rows n (more_of-Atom a rest) = ap (λ us. phrase (atom_phrase a) us) (atom_rows _ rest)
 
-line_rows : (w : Word) (n : _) (k : Row_of-Line n) → lines_rest w k ≡ lines_in w (items-the_row-Line n k)
+line_rows : (w : Word) (n : _) (k : Row_of-LineTree n) → lines_rest w k ≡ lines_in w (items-the_row-LineTree n k)
 unfolding expr_phrase
-line_rows w n end_of-Line = refl
-line_rows w n (more_of-Line l rest) = ap (λ us. phrase (line_phrase w l) us) (line_rows w _ rest)
+line_rows w n end_of-LineTree = refl
+line_rows w n (more_of-LineTree l rest) = ap (λ us. phrase (line_phrase w l) us) (line_rows w _ rest)
 
 pub expr_phrase-read : (e : Expr) → expr_phrase e ≡ chain_phrase (operand_phrase (out-Expr e).first) (expr_uses_in (out-Expr e).level (out-Expr e).rest.items)
 unfolding expr_phrase
@@ -68,9 +68,9 @@ pub operand_phrase-Prefix : (p : Prefix) → operand_phrase (view.Prefix p) ≡ 
 unfolding expr_phrase
 operand_phrase-Prefix p = refl
 
-pub args_phrases-read : (a : Args) → args_phrases a ≡ phrase (expr_phrase (out-Args a).first) (phrases_in (out-Args a).rest.items)
+pub args_phrases-read : (a : ArgTrees) → args_phrases a ≡ phrase (expr_phrase (out-ArgTrees a).first) (phrases_in (out-ArgTrees a).rest.items)
 unfolding expr_phrase
-args_phrases-read (Args' first shape rest) = search (rules, the_lemmas, arg_rows)
+args_phrases-read (ArgTrees' first shape rest) = search (rules, the_lemmas, arg_rows)
 
 pub bindings_phrases-read : (a : Bindings) → bindings_phrases a ≡ phrase (binding_phrase (out-Bindings a).first) (bindings_in (out-Bindings a).rest.items)
 unfolding expr_phrase
@@ -96,13 +96,13 @@ pub atom_phrase-read : (a : Atom) → atom_phrase a ≡ atom (sign_of (out-Atom 
 unfolding expr_phrase out-Atom denote.Hole.Carrier.out
 atom_phrase-read (Atom' sign name bracket args) = refl
 
-pub lines_phrases-read : (w : Word) (a : Lines) → lines_phrases w a ≡ phrase (line_phrase w (out-Lines a).first) (lines_in w (out-Lines a).rest.items)
+pub lines_phrases-read : (w : Word) (a : LineTrees) → lines_phrases w a ≡ phrase (line_phrase w (out-LineTrees a).first) (lines_in w (out-LineTrees a).rest.items)
 unfolding expr_phrase
-lines_phrases-read w (Lines' first shape rest) = search (rules, the_lemmas, line_rows)
+lines_phrases-read w (LineTrees' first shape rest) = search (rules, the_lemmas, line_rows)
 
-pub line_phrase-read : (w : Word) (l : Line) → line_phrase w l ≡ line w (out-Line l).bracket.at (args_phrases (out-Line l).args)
-unfolding expr_phrase out-Line denote.Hole.Carrier.out
-line_phrase-read w (Line' bracket args) = refl
+pub line_phrase-read : (w : Word) (l : LineTree) → line_phrase w l ≡ line w (out-LineTree l).bracket.at (args_phrases (out-LineTree l).args)
+unfolding expr_phrase out-LineTree denote.Hole.Carrier.out
+line_phrase-read w (LineTree' bracket args) = refl
 
 pub prime_phrase-Int : (t : Token) → prime_phrase (variant.Int t) ≡ literal (scalar (int_scalar (int_of t.kind)))
 unfolding expr_phrase
@@ -172,7 +172,7 @@ pub prime_phrase-Part : (w b n : Token) (of : Box Expr Global) → prime_phrase 
 unfolding expr_phrase
 prime_phrase-Part w b n of = refl
 
-pub prime_phrase-Call : (n b : Token) (args : Option (Box Args Global)) → prime_phrase (view.Call n b args) ≡ calling (word_of n) (args_in args)
+pub prime_phrase-Call : (n b : Token) (args : Option (Box ArgTrees Global)) → prime_phrase (view.Call n b args) ≡ calling (word_of n) (args_in args)
 unfolding expr_phrase
 prime_phrase-Call n b None = refl
 prime_phrase-Call n b (Some args) = refl
@@ -182,7 +182,7 @@ unfolding expr_phrase
 prime_phrase-Delta b None = refl
 prime_phrase-Delta b (Some args) = refl
 
-pub prime_phrase-Rows : (w b n c : Token) (args : Option (Box Lines Global)) → prime_phrase (view.Rows w b n c args) ≡ lines (word_of n) w.at (some_lines (word_of n) args)
+pub prime_phrase-Rows : (w b n c : Token) (args : Option (Box LineTrees Global)) → prime_phrase (view.Rows w b n c args) ≡ lines (word_of n) w.at (some_lines (word_of n) args)
 unfolding expr_phrase
 prime_phrase-Rows w b n c None = refl
 prime_phrase-Rows w b n c (Some args) = refl

@@ -20,18 +20,18 @@ use Rattle.hera_syntax.specs.declared.expr.AggTree.{AggTree}
 use Rattle.hera_syntax.specs.declared.expr.AggTree.TheVariants.{Count, Of}
 use Rattle.hera_syntax.specs.declared.expr.NamedAgg.{NamedAgg}
 use Rattle.hera_syntax.specs.declared.expr.NamedAggs.{NamedAggs}
-use Rattle.hera_syntax.specs.declared.expr.Args.{Args, Args', Row_of-Expr, end_of-Expr, more_of-Expr}
+use Rattle.hera_syntax.specs.declared.expr.ArgTrees.{ArgTrees, ArgTrees', Row_of-Expr, end_of-Expr, more_of-Expr}
 use Rattle.hera_syntax.specs.declared.expr.Level.{Level}
 use Rattle.hera_syntax.specs.declared.expr.Level.TheVariants as levels
 use Rattle.hera_syntax.specs.declared.expr.Expr.{Expr, Expr', Row_of-Tail, end_of-Tail, more_of-Tail}
-use Rattle.hera_syntax.specs.declared.expr.Operand.{Operand, Inner', Prefix'}
+use Rattle.hera_syntax.specs.declared.expr.OperandTree.{OperandTree, Inner', Prefix'}
 use Rattle.hera_syntax.specs.declared.expr.Tail.{Tail}
 use Rattle.hera_syntax.specs.declared.expr.Bindings.{Bindings, Bindings', Row_of-Binding, end_of-Binding, more_of-Binding}
 use Rattle.hera_syntax.specs.declared.expr.Atoms.{Atoms, Atoms', Row_of-Atom, end_of-Atom, more_of-Atom}
-use Rattle.hera_syntax.specs.declared.expr.Lines.{Lines, Lines', Row_of-Line, end_of-Line, more_of-Line}
+use Rattle.hera_syntax.specs.declared.expr.LineTrees.{LineTrees, LineTrees', Row_of-LineTree, end_of-LineTree, more_of-LineTree}
 use Rattle.hera_syntax.specs.declared.expr.Binding.{Binding, Binding'}
 use Rattle.hera_syntax.specs.declared.expr.Atom.{Atom, Atom'}
-use Rattle.hera_syntax.specs.declared.expr.Line.{Line, Line'}
+use Rattle.hera_syntax.specs.declared.expr.LineTree.{LineTree, LineTree'}
 use Rattle.hera_syntax.specs.declared.expr.Prefix.{Prefix}
 use Rattle.hera_syntax.specs.declared.expr.Post.{Post}
 use Rattle.hera_syntax.specs.declared.expr.Prime.{Prime, Int, Text, True, False, Fail, Name, Call', Paren', Row', Delta', Rows', Walk', Project', Rename', Pair', Group', Measure', Fold', Bulk', Part', Held-Prime-Call-2, Prime-Call-2-None', Prime-Call-2-Some', Held-Prime-Delta-1, Prime-Delta-1-None', Prime-Delta-1-Some', Held-Prime-Rows-4, Prime-Rows-4-None', Prime-Rows-4-Some'}
@@ -185,12 +185,12 @@ unfoldable mutual
   expr_uses level end_of-Tail = no_use
   expr_uses level (more_of-Tail op operand rest) = uses (joint_at level op.kind) op.at (operand_phrase operand) (expr_uses level rest)
 
-  pub operand_phrase : Operand → Phrase
+  pub operand_phrase : OperandTree → Phrase
   operand_phrase (Inner' p e) = expr_phrase e
   operand_phrase (Prefix' op p operand field) = prefix_phrase op (post_phrase (prime_phrase operand) field)
 
-  pub args_phrases : Args → Phrases
-  args_phrases (Args' first shape rest) = phrase (expr_phrase first) (args_rest rest)
+  pub args_phrases : ArgTrees → Phrases
+  args_phrases (ArgTrees' first shape rest) = phrase (expr_phrase first) (args_rest rest)
 
   pub args_rest : {m : _} → Row_of-Expr m → Phrases
   args_rest end_of-Expr = no_phrase
@@ -227,15 +227,15 @@ unfoldable mutual
   pub atom_phrase : Atom → Phrase
   atom_phrase (Atom' sign name bracket args) = atom (sign_of sign.kind) (word_of name) (args_phrases args)
 
-  pub lines_phrases : Word → Lines → Phrases
-  lines_phrases w (Lines' first shape rest) = phrase (line_phrase w first) (lines_rest w rest)
+  pub lines_phrases : Word → LineTrees → Phrases
+  lines_phrases w (LineTrees' first shape rest) = phrase (line_phrase w first) (lines_rest w rest)
 
-  pub lines_rest : {m : _} → Word → Row_of-Line m → Phrases
-  lines_rest w end_of-Line = no_phrase
-  lines_rest w (more_of-Line l rest) = phrase (line_phrase w l) (lines_rest w rest)
+  pub lines_rest : {m : _} → Word → Row_of-LineTree m → Phrases
+  lines_rest w end_of-LineTree = no_phrase
+  lines_rest w (more_of-LineTree l rest) = phrase (line_phrase w l) (lines_rest w rest)
 
-  pub line_phrase : Word → Line → Phrase
-  line_phrase w (Line' bracket args) = line w bracket.at (args_phrases args)
+  pub line_phrase : Word → LineTree → Phrase
+  line_phrase w (LineTree' bracket args) = line w bracket.at (args_phrases args)
 
   pub call_args : Held-Prime-Call-2 → Phrases
   call_args Prime-Call-2-None' = no_phrase
@@ -299,11 +299,11 @@ abbrev pub atoms_in : List Atom → Phrases
 atoms_in [] = no_phrase
 atoms_in (a ∷ rest) = phrase (atom_phrase a) (atoms_in rest)
 
-abbrev pub lines_in : Word → List Line → Phrases
+abbrev pub lines_in : Word → List LineTree → Phrases
 lines_in w [] = no_phrase
 lines_in w (l ∷ ls) = phrase (line_phrase w l) (lines_in w ls)
 
-abbrev pub args_in : Option (Box Args Global) → Phrases
+abbrev pub args_in : Option (Box ArgTrees Global) → Phrases
 args_in None = no_phrase
 args_in (Some b) = args_phrases b.value
 
@@ -311,6 +311,6 @@ abbrev pub some_atoms : Option (Box Atoms Global) → Phrases
 some_atoms None = no_phrase
 some_atoms (Some b) = atoms_phrases b.value
 
-abbrev pub some_lines : Word → Option (Box Lines Global) → Phrases
+abbrev pub some_lines : Word → Option (Box LineTrees Global) → Phrases
 some_lines w None = no_phrase
 some_lines w (Some b) = lines_phrases w b.value

@@ -2,7 +2,7 @@
 use Rattle.std.specs.Prelude.{ℕ, List, [], ◌∷◌, map, Option, Some, None}
 use Rattle.hera_syntax.specs.declared.token.Token.{Token}
 use Rattle.hera_syntax.specs.declared.expr.Expr.{Expr}
-use Rattle.hera_syntax.specs.declared.expr.Args.{Args}
+use Rattle.hera_syntax.specs.declared.expr.ArgTrees.{ArgTrees}
 use Rattle.hera_syntax.specs.declared.tree.AttrTree.{AttrTree}
 use Rattle.hera_syntax.specs.declared.tree.Attrs.{Attrs}
 use Rattle.hera_syntax.specs.declared.tree.SchemaTree.{SchemaTree}
@@ -39,7 +39,7 @@ type_phrase (Delta t) = delta_type
 type_phrase (Rel word s) = rel_type (schema_phrase s)
 type_phrase (Tuple word s) = tuple_type (schema_phrase s)
 
-abbrev pub some_args : Option Args → Phrases
+abbrev pub some_args : Option ArgTrees → Phrases
 some_args None = no_phrase
 some_args (Some args) = args_phrases args
 

@@ -23,11 +23,11 @@ pub struct Local {
 
 /// Locals, the oldest first.
 #[derive(Drop)]
-pub struct Locals {
+pub struct LocalList {
     items: Vec<Local>,
 }
 
-impl Model for Locals {
+impl Model for LocalList {
     ghost use Rattle.std.specs.Prelude.{List};
     ghost use Rattle.hera_rules.specs.declared.env.Local.{Local};
 
@@ -42,7 +42,7 @@ pub struct FuncSig {
     pub name: Name,
     pub number: u32,
     pub result: Shape,
-    pub params: Locals,
+    pub params: LocalList,
 }
 
 /// A proc: its name, the number of its body and its parameters.
@@ -50,7 +50,7 @@ pub struct FuncSig {
 pub struct ProcSig {
     pub name: Name,
     pub number: u32,
-    pub params: Locals,
+    pub params: LocalList,
 }
 
 /// The declared relations, at most 256. A relation's number is its place.
@@ -101,12 +101,12 @@ pub struct Item {
     pub arg: Core,
 }
 
-impl Locals {
+impl LocalList {
     /// These locals.
-    pub fn new(items: Vec<Local>) -> Locals
+    pub fn new(items: Vec<Local>) -> LocalList
         ensures { result ≡ items.items }
     {
-        Locals { items }
+        LocalList { items }
     }
 
     /// The locals in order.

@@ -11,7 +11,7 @@ mod fault;
 mod laws;
 mod words;
 
-pub use env::{FuncSig, Globals, Item, Local, LocalScope, Locals, ProcSig, Relations, Typed};
+pub use env::{FuncSig, Globals, Item, Local, LocalList, LocalScope, ProcSig, Relations, Typed};
 pub use fault::TypeFault;
 pub use laws::typing_is_exact;
 pub use words::{

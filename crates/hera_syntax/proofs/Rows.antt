@@ -2,10 +2,10 @@
 use Rattle.std.proofs.Common.{◌≡◌, List, [], ◌∷◌, ◌++◌, ◌≤◌, length, arith, refl, ap, sym, ◌∙◌}
 use Rattle.std.specs.List.{flat_map}
 use Rattle.hera_syntax.specs.Grammar as phrases
-use Rattle.hera_syntax.specs.declared.expr.Args.{Row_of-Expr, end_of-Expr, more_of-Expr, items-the_row-Expr}
+use Rattle.hera_syntax.specs.declared.expr.ArgTrees.{Row_of-Expr, end_of-Expr, more_of-Expr, items-the_row-Expr}
 use Rattle.hera_syntax.specs.declared.expr.Bindings.{Row_of-Binding, end_of-Binding, more_of-Binding, items-the_row-Binding}
 use Rattle.hera_syntax.specs.declared.expr.Atoms.{Row_of-Atom, end_of-Atom, more_of-Atom, items-the_row-Atom}
-use Rattle.hera_syntax.specs.declared.expr.Lines.{Row_of-Line, end_of-Line, more_of-Line, items-the_row-Line}
+use Rattle.hera_syntax.specs.declared.expr.LineTrees.{Row_of-LineTree, end_of-LineTree, more_of-LineTree, items-the_row-LineTree}
 use Rattle.hera_syntax.specs.declared.tree.StmtTree.{Row_of-StmtTree, end_of-StmtTree, more_of-StmtTree, items-the_row-StmtTree, items_shown-the_row-StmtTree-0, items_hidden-the_row-StmtTree-0, Row_of-ElseIf, end_of-ElseIf, more_of-ElseIf, items-the_row-ElseIf, items_hidden-the_row-ElseIf-1, back-StmtTree-If-5}
 use Rattle.hera_syntax.specs.declared.tree.StmtTree.TheBlock.{hidden-the_row-StmtTree-0, hidden-the_row-ElseIf-1, back-StmtTree-If-5}
 use Rattle.std.proofs.Common.{Vec, Global, Option, Some, None}
@@ -15,7 +15,7 @@ use Rattle.hera_syntax.specs.Programs.{stmt_outline, stmts_rest, stmt_row, elses
 use Rattle.hera_syntax.specs.Outline.{Entry, args_rest, args_row, atom_outline, atoms_rest, atoms_row, binding_outline, bindings_rest, bindings_row, chain, comparison_rest, expr_outline, hold, line_outline, lines_rest, lines_row, more_of, node, operand_outline, production_of, skip, tail_row, tails_outline}
 use Rattle.hera_syntax.specs.declared.expr.Level.{Level}
 use Rattle.hera_syntax.specs.declared.expr.Level.TheVariants as levels
-use Rattle.hera_syntax.specs.declared.expr.Operand.{Operand}
+use Rattle.hera_syntax.specs.declared.expr.OperandTree.{OperandTree}
 use Rattle.hera_syntax.specs.declared.expr.Expr.{Row_of-Tail, end_of-Tail, more_of-Tail, items-the_row-Tail}
 
 pub tail_rows : (level : Level) (n : _) (k : Row_of-Tail n) → flat_map (λ tail. node (more_of level) 0 ++ tail) (tails_outline k) ≡ flat_map (tail_row level) (items-the_row-Tail n k)
@@ -34,7 +34,7 @@ plain_chain levels.Terms first tails h = refl
 plain_chain levels.Smashes first tails h = refl
 plain_chain levels.Merges first tails h = refl
 
-pub chain_rows : (level : Level) (first : Operand) (n : _) (k : Row_of-Tail n) → ¬ (level ≡ levels.Comparisons) →
+pub chain_rows : (level : Level) (first : OperandTree) (n : _) (k : Row_of-Tail n) → ¬ (level ≡ levels.Comparisons) →
     chain level (operand_outline first) (tails_outline k) ≡ node (production_of level) 0 ++ operand_outline first ++ flat_map (tail_row level) (items-the_row-Tail n k) ++ node (more_of level) 1
 chain_rows level first n k h =
     plain_chain level (operand_outline first) (tails_outline k) h
@@ -64,9 +64,9 @@ pub atoms_rows : (n : _) (k : Row_of-Atom n) → atoms_rest k ≡ flat_map atoms
 atoms_rows n end_of-Atom = refl
 atoms_rows n (more_of-Atom e rest) = ap (λ r. (node phrases.more_atoms 0 ++ skip phrases.comma ++ atom_outline e) ++ r) (atoms_rows _ rest)
 
-pub lines_rows : (n : _) (k : Row_of-Line n) → lines_rest k ≡ flat_map lines_row (items-the_row-Line n k)
-lines_rows n end_of-Line = refl
-lines_rows n (more_of-Line e rest) = ap (λ r. (node phrases.more_lines 0 ++ skip phrases.comma ++ line_outline e) ++ r) (lines_rows _ rest)
+pub lines_rows : (n : _) (k : Row_of-LineTree n) → lines_rest k ≡ flat_map lines_row (items-the_row-LineTree n k)
+lines_rows n end_of-LineTree = refl
+lines_rows n (more_of-LineTree e rest) = ap (λ r. (node phrases.more_lines 0 ++ skip phrases.comma ++ line_outline e) ++ r) (lines_rows _ rest)
 
 pub stmts_rows : (n : _) (k : Row_of-StmtTree n) → stmts_rest k ≡ flat_map stmt_row (items-the_row-StmtTree n k)
 stmts_rows n end_of-StmtTree = refl

@@ -15,18 +15,18 @@ use Rattle.hera_syntax.specs.declared.expr.AggTree.{AggTree}
 use Rattle.hera_syntax.specs.declared.expr.AggTree.TheVariants.{Count, Of}
 use Rattle.hera_syntax.specs.declared.expr.NamedAgg.{NamedAgg}
 use Rattle.hera_syntax.specs.declared.expr.NamedAggs.{NamedAggs}
-use Rattle.hera_syntax.specs.declared.expr.Args.{Args, Args', Row_of-Expr, end_of-Expr, more_of-Expr}
+use Rattle.hera_syntax.specs.declared.expr.ArgTrees.{ArgTrees, ArgTrees', Row_of-Expr, end_of-Expr, more_of-Expr}
 use Rattle.hera_syntax.specs.declared.expr.Level.{Level}
 use Rattle.hera_syntax.specs.declared.expr.Level.TheVariants as levels
 use Rattle.hera_syntax.specs.declared.expr.Expr.{Expr, Expr', Row_of-Tail, end_of-Tail, more_of-Tail}
-use Rattle.hera_syntax.specs.declared.expr.Operand.{Operand, Inner', Prefix'}
+use Rattle.hera_syntax.specs.declared.expr.OperandTree.{OperandTree, Inner', Prefix'}
 use Rattle.hera_syntax.specs.declared.expr.Tail.{Tail}
 use Rattle.hera_syntax.specs.declared.expr.Bindings.{Bindings, Bindings', Row_of-Binding, end_of-Binding, more_of-Binding}
 use Rattle.hera_syntax.specs.declared.expr.Atoms.{Atoms, Atoms', Row_of-Atom, end_of-Atom, more_of-Atom}
-use Rattle.hera_syntax.specs.declared.expr.Lines.{Lines, Lines', Row_of-Line, end_of-Line, more_of-Line}
+use Rattle.hera_syntax.specs.declared.expr.LineTrees.{LineTrees, LineTrees', Row_of-LineTree, end_of-LineTree, more_of-LineTree}
 use Rattle.hera_syntax.specs.declared.expr.Binding.{Binding, Binding'}
 use Rattle.hera_syntax.specs.declared.expr.Atom.{Atom, Atom'}
-use Rattle.hera_syntax.specs.declared.expr.Line.{Line, Line'}
+use Rattle.hera_syntax.specs.declared.expr.LineTree.{LineTree, LineTree'}
 use Rattle.hera_syntax.specs.declared.expr.Prefix.{Prefix}
 use Rattle.hera_syntax.specs.declared.expr.Post.{Post}
 use Rattle.hera_syntax.specs.declared.expr.Prime.{Prime, Int, Text, True, False, Fail, Name, Call', Paren', Row', Delta', Rows', Walk', Project', Rename', Pair', Group', Measure', Fold', Bulk', Part', Held-Prime-Call-2, Prime-Call-2-None', Prime-Call-2-Some', Held-Prime-Delta-1, Prime-Delta-1-None', Prime-Delta-1-Some', Held-Prime-Rows-4, Prime-Rows-4-None', Prime-Rows-4-Some'}
@@ -130,12 +130,12 @@ abbrev mutual
   tails_outline end_of-Tail = []
   tails_outline (more_of-Tail op operand rest) = (hold op ++ operand_outline operand) ∷ tails_outline rest
 
-  pub operand_outline : Operand → List Entry
+  pub operand_outline : OperandTree → List Entry
   operand_outline (Inner' p e) = expr_outline e
   operand_outline (Prefix' op p operand field) = prefix_start op ++ (node phrases.post 0 ++ prime_outline operand ++ field_outline field)
 
-  pub args_outline : Args → List Entry
-  args_outline (Args' first shape rest) = node phrases.args 0 ++ expr_outline first ++ args_rest rest ++ node phrases.more_args 1
+  pub args_outline : ArgTrees → List Entry
+  args_outline (ArgTrees' first shape rest) = node phrases.args 0 ++ expr_outline first ++ args_rest rest ++ node phrases.more_args 1
 
   pub args_rest : {m : _} → Row_of-Expr m → List Entry
   args_rest end_of-Expr = []
@@ -155,12 +155,12 @@ abbrev mutual
   atoms_rest end_of-Atom = []
   atoms_rest (more_of-Atom e rest) = (node phrases.more_atoms 0 ++ skip phrases.comma ++ atom_outline e) ++ atoms_rest rest
 
-  pub lines_outline : Lines → List Entry
-  lines_outline (Lines' first shape rest) = node phrases.lines 0 ++ line_outline first ++ lines_rest rest ++ node phrases.more_lines 1
+  pub lines_outline : LineTrees → List Entry
+  lines_outline (LineTrees' first shape rest) = node phrases.lines 0 ++ line_outline first ++ lines_rest rest ++ node phrases.more_lines 1
 
-  pub lines_rest : {m : _} → Row_of-Line m → List Entry
-  lines_rest end_of-Line = []
-  lines_rest (more_of-Line e rest) = (node phrases.more_lines 0 ++ skip phrases.comma ++ line_outline e) ++ lines_rest rest
+  pub lines_rest : {m : _} → Row_of-LineTree m → List Entry
+  lines_rest end_of-LineTree = []
+  lines_rest (more_of-LineTree e rest) = (node phrases.more_lines 0 ++ skip phrases.comma ++ line_outline e) ++ lines_rest rest
 
   pub binding_outline : Binding → List Entry
   binding_outline (Binding' name value) = node phrases.binding 0 ++ hold name ++ skip phrases.equals ++ expr_outline value
@@ -168,8 +168,8 @@ abbrev mutual
   pub atom_outline : Atom → List Entry
   atom_outline (Atom' sign name bracket args) = node phrases.atom 0 ++ hold sign ++ hold name ++ hold bracket ++ args_outline args ++ skip phrases.close_paren
 
-  pub line_outline : Line → List Entry
-  line_outline (Line' bracket args) = node phrases.line 0 ++ hold bracket ++ args_outline args ++ skip phrases.close_paren
+  pub line_outline : LineTree → List Entry
+  line_outline (LineTree' bracket args) = node phrases.line 0 ++ hold bracket ++ args_outline args ++ skip phrases.close_paren
 
   pub call_args : Held-Prime-Call-2 → List Entry
   call_args Prime-Call-2-None' = node phrases.some_args 1
@@ -230,7 +230,7 @@ abbrev pub comparison_rest : List Tail → List Entry
 comparison_rest [] = node phrases.more_cmp 1
 comparison_rest (t ∷ ts) = node phrases.more_cmp 0 ++ tail_outline t
 
-abbrev pub some_args_outline : Option Args → List Entry
+abbrev pub some_args_outline : Option ArgTrees → List Entry
 some_args_outline None = node phrases.some_args 1
 some_args_outline (Some args) = node phrases.some_args 0 ++ args_outline args
 
@@ -238,7 +238,7 @@ abbrev pub some_atoms_outline : Option Atoms → List Entry
 some_atoms_outline None = node phrases.some_atoms 1
 some_atoms_outline (Some atoms) = node phrases.some_atoms 0 ++ atoms_outline atoms
 
-abbrev pub some_lines_outline : Option Lines → List Entry
+abbrev pub some_lines_outline : Option LineTrees → List Entry
 some_lines_outline None = node phrases.some_lines 1
 some_lines_outline (Some lines) = node phrases.some_lines 0 ++ lines_outline lines
 
@@ -255,5 +255,5 @@ abbrev pub atoms_row : Atom → List Entry
 atoms_row e = node phrases.more_atoms 0 ++ skip phrases.comma ++ atom_outline e
 
 -- one more item of a list
-abbrev pub lines_row : Line → List Entry
+abbrev pub lines_row : LineTree → List Entry
 lines_row e = node phrases.more_lines 0 ++ skip phrases.comma ++ line_outline e

@@ -84,7 +84,7 @@ impl Level {
 #[cycle(expr)]
 pub struct Expr {
     pub level: Level,
-    pub first: Operand,
+    pub first: OperandTree,
     pub rest: Vec<Tail>,
 }
 
@@ -93,13 +93,13 @@ pub struct Expr {
 #[cycle(expr)]
 pub struct Tail {
     pub op: Token,
-    pub operand: Operand,
+    pub operand: OperandTree,
 }
 
 /// An operand of a level.
 #[derive(Drop)]
 #[cycle(expr)]
-pub enum Operand {
+pub enum OperandTree {
     /// An expression of the next level.
     Inner(Box<Expr>),
     /// The operand of the last level.
@@ -142,7 +142,7 @@ pub enum Prime {
     Call {
         name: Token,
         bracket: Token,
-        args: Option<Box<Args>>,
+        args: Option<Box<ArgTrees>>,
     },
     /// `'(' expr ')'`
     Paren {
@@ -165,7 +165,7 @@ pub enum Prime {
         bracket: Token,
         name: Token,
         brace: Token,
-        lines: Option<Box<Lines>>,
+        lines: Option<Box<LineTrees>>,
     },
     /// `('select' | 'map') '(' name 'in' expr ':' expr ')'`
     Walk {
@@ -237,7 +237,7 @@ pub enum Prime {
 /// `expr (',' expr)*`
 #[derive(Drop)]
 #[cycle(expr)]
-pub struct Args {
+pub struct ArgTrees {
     pub first: Expr,
     pub rest: Vec<Expr>,
 }
@@ -265,7 +265,7 @@ pub struct Atom {
     pub sign: Token,
     pub name: Token,
     pub bracket: Token,
-    pub args: Args,
+    pub args: ArgTrees,
 }
 
 /// `atom (',' atom)*`
@@ -279,17 +279,17 @@ pub struct Atoms {
 /// `'(' args ')'`
 #[derive(Drop)]
 #[cycle(expr)]
-pub struct Line {
+pub struct LineTree {
     pub bracket: Token,
-    pub args: Args,
+    pub args: ArgTrees,
 }
 
 /// `line (',' line)*`
 #[derive(Drop)]
 #[cycle(expr)]
-pub struct Lines {
-    pub first: Line,
-    pub rest: Vec<Line>,
+pub struct LineTrees {
+    pub first: LineTree,
+    pub rest: Vec<LineTree>,
 }
 
 /// `name (',' name)*`

@@ -11,8 +11,8 @@ mod tree;
 mod words;
 
 pub use expr::{
-    AggTree, Args, Atom, Atoms, Binding, Bindings, Expr, Level, Line, Lines, NamedAgg, NamedAggs,
-    Names, Operand, Post, Prefix, Prime, Renaming, Renamings, Tail,
+    AggTree, ArgTrees, Atom, Atoms, Binding, Bindings, Expr, Level, LineTree, LineTrees, NamedAgg,
+    NamedAggs, Names, OperandTree, Post, Prefix, Prime, Renaming, Renamings, Tail,
 };
 pub use token::{PieceShape, Terminal, Token, TokenKind};
 pub use tokens::{DEPTH_LIMIT, SCRIPT_LIMIT, Tokens};

@@ -1,7 +1,7 @@
 //! The trees of statements, declarations and the whole program.
 
 use crate::Token;
-use crate::expr::{Args, Expr};
+use crate::expr::{ArgTrees, Expr};
 
 mod build;
 
@@ -98,7 +98,7 @@ pub enum StmtTree {
     Call {
         name: Token,
         bracket: Token,
-        args: Option<Args>,
+        args: Option<ArgTrees>,
     },
     /// `'if' '(' expr ')' block ('else' 'if' '(' expr ')' block)* ('else' block)?`
     If {

@@ -5,4 +5,3 @@ pub mod Names
 pub mod Returning
 pub mod Steps
 pub mod Turns
-pub mod Sets

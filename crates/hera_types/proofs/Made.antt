@@ -95,6 +95,10 @@ module _ (hosts : List Host) (s : Script) where
       body_row g None [] s.main ≡ Err f → check_script hosts s ≡ Err f
   script_main {g = g} {all = all} {f = f} e x y h = rw (e, x, y) (main_breaks g s all (check_body g None [] s.main) f h)
 
+  pub script_done : {g : Env} {funcs all : List Body_tree} {b : Body_tree} → env_row hosts s ≡ Ok g → check_funcs g [] g.funcs s.funcs ≡ Ok funcs → check_procs g funcs g.procs s.procs ≡ Ok all →
+      body_row g None [] s.main ≡ Ok b → check_script hosts s ≡ Ok (record { relations = g.relations; bodies = b ∷ all })
+  script_done {g = g} {all = all} {b = b} e x y h = rw (e, x, y) (main_is g s all (check_body g None [] s.main) b h)
+
 -- what names mean: the first three passes
 module _ (hosts : List Host) (s : Script) where
   pub env_funcs_named : {rels : List RelDecl} {ws : List Word} {f : TypeFault} → relations_row [] s.relations ≡ Ok rels → map (λ (f : Func_phrase). f.name) s.funcs ≡ ws →

@@ -1,3 +1,2 @@
-pub mod NameSets
 pub mod Passes
 pub mod Scopes

@@ -15,11 +15,11 @@ ghost use Rattle.hera_types.specs.Scopes.{ActGives, Extends, all_armed, arm_row,
 
 use crate::statements::{apply, assign, claim, commit, declare, give_back, perform, print};
 use hera_meaning::{Arm, Shape, Stmt};
-use hera_rules::{Globals, LocalScope, TypeFault};
+use hera_rules::TypeFault;
 use hera_syntax::{Block, ElseIf, Expr, StmtTree, Token};
-use hera_types_exprs::{Waiting, expr, leave, push_local, take_slot};
-use hera_types_parts::{into_core, put};
-use hera_types_rows::{cond_row_of, effect_row_of, variable_row_of};
+use hera_types_checks::{check_cond, check_effect, check_variable};
+use hera_types_exprs::{Waiting, expr};
+use hera_types_parts::{GlobalNames, LocalNames, into_core, put};
 use std::alloc::Global;
 
 /// The statements of a block. The locals behind it are those before it.
@@ -27,21 +27,21 @@ use std::alloc::Global;
 #[tactic(auto, using(hera_rules::proofs::ReadActLaws::read_acts))]
 pub fn block(
     alloc: Global,
-    globals: &Globals,
+    globals: &GlobalNames,
     returned: &Option<Shape>,
-    scope: &mut LocalScope,
+    scope: &mut LocalNames,
     e: &Block,
 ) -> Result<Vec<Stmt>, TypeFault>
     ensures checks { Gives commands_of result (check_acts (env_of globals.now) returned.now scope.old.locals.items scope.old.next [] (block_acts e.now)) }
     ensures keeps { OnOk result (Keeps scope.old scope.new (slots_of_acts (block_acts e.now))) }
 {
-    let depth = scope.locals.len();
+    let depth = scope.visible();
     let mut all = Vec::new(alloc);
     for stmt in &e.stmts {
         let core = statement(alloc, globals, returned, scope, stmt)?;
         put(&mut all, core)?;
     }
-    leave(scope, depth);
+    scope.leave(depth);
     Ok(all)
 }
 
@@ -50,9 +50,9 @@ pub fn block(
 #[tactic(auto, using(hera_rules::proofs::ReadActLaws::read_acts))]
 fn arm(
     alloc: Global,
-    globals: &Globals,
+    globals: &GlobalNames,
     returned: &Option<Shape>,
-    scope: &mut LocalScope,
+    scope: &mut LocalNames,
     b: &Block,
     condition: &Expr,
     at: u32,
@@ -61,7 +61,7 @@ fn arm(
     ensures keeps { OnOk result (Keeps scope.old scope.new (slots_of (expr_phrase condition.now) + slots_of_acts (block_acts b.now))) }
 {
     let value = expr(alloc, globals, scope, condition)?;
-    let cond = cond_row_of(at, value)?;
+    let cond = check_cond(at, value)?;
     let inner = block(alloc, globals, returned, scope, b)?;
     Ok(Arm { cond, block: inner })
 }
@@ -71,9 +71,9 @@ fn arm(
 #[tactic(auto, using(hera_rules::proofs::ReadActLaws::read_acts))]
 fn arms(
     alloc: Global,
-    globals: &Globals,
+    globals: &GlobalNames,
     returned: &Option<Shape>,
-    scope: &mut LocalScope,
+    scope: &mut LocalNames,
     at: u32,
     condition: &Expr,
     first: &Block,
@@ -105,9 +105,9 @@ fn arms(
 #[tactic(auto, using(hera_rules::proofs::ReadActLaws::read_acts))]
 fn branches(
     alloc: Global,
-    globals: &Globals,
+    globals: &GlobalNames,
     returned: &Option<Shape>,
-    scope: &mut LocalScope,
+    scope: &mut LocalNames,
     at: u32,
     condition: &Expr,
     first: &Block,
@@ -135,9 +135,9 @@ fn branches(
 #[tactic(auto, using(hera_rules::proofs::ReadActLaws::read_acts))]
 fn repeat(
     alloc: Global,
-    globals: &Globals,
+    globals: &GlobalNames,
     returned: &Option<Shape>,
-    scope: &mut LocalScope,
+    scope: &mut LocalNames,
     at: u32,
     condition: &Expr,
     inner: &Block,
@@ -155,9 +155,9 @@ fn repeat(
 #[tactic(auto, using(hera_rules::proofs::ReadActLaws::read_acts))]
 fn visit(
     alloc: Global,
-    globals: &Globals,
+    globals: &GlobalNames,
     returned: &Option<Shape>,
-    scope: &mut LocalScope,
+    scope: &mut LocalNames,
     at: u32,
     name: &Token,
     over: &Expr,
@@ -167,22 +167,14 @@ fn visit(
     ensures next { OnOk result (scope.new.next ≡ scope.old.next + slots_of_act (visiting at (word_of name.now) (expr_phrase over.now) (block_acts inner.now))) }
     ensures grows { OnOk result (Extends scope.old.locals.items scope.new.locals.items) }
 {
-    let depth = scope.locals.len();
-    let slot = take_slot(scope)?;
+    let depth = scope.visible();
+    let slot = scope.take_slot()?;
     let of = expr(alloc, globals, scope, over)?;
     let range = Waiting { typed: of };
-    let local = variable_row_of(
-        globals,
-        &scope.locals,
-        alloc,
-        name,
-        at,
-        slot,
-        &range.typed.shape,
-    )?;
-    push_local(scope, local)?;
+    let local = check_variable(globals, scope, alloc, name, at, slot, &range.typed.shape)?;
+    scope.push_local(local)?;
     let body = block(alloc, globals, returned, scope, inner)?;
-    leave(scope, depth);
+    scope.leave(depth);
     let typed = range.into_typed();
     Ok(Stmt::Foreach(slot, into_core(typed), body))
 }
@@ -192,9 +184,9 @@ fn visit(
 #[tactic(auto, using(hera_rules::proofs::ReadActLaws::read_acts))]
 fn statement(
     alloc: Global,
-    globals: &Globals,
+    globals: &GlobalNames,
     returned: &Option<Shape>,
-    scope: &mut LocalScope,
+    scope: &mut LocalNames,
     e: &StmtTree,
 ) -> Result<Stmt, TypeFault>
     ensures checks { ActGives result scope.new.locals.items (env_of globals.now) returned.now scope.old.locals.items scope.old.next (act_of e.now) }
@@ -216,7 +208,7 @@ fn statement(
         StmtTree::Apply { word, value } => apply(alloc, globals, returned, scope, word.at, value),
         StmtTree::Assert { word, value } => claim(alloc, globals, returned, scope, word.at, value),
         StmtTree::Commit { word, label } => commit(alloc, returned, word.at, label),
-        StmtTree::Rollback(word) => effect_row_of(returned.is_some(), word.at, Stmt::Rollback),
+        StmtTree::Rollback(word) => check_effect(returned.is_some(), word.at, Stmt::Rollback),
         StmtTree::Return { word, value } => give_back(alloc, globals, returned, scope, word, value),
     }
 }
@@ -226,9 +218,9 @@ fn statement(
 #[tactic(auto, using(hera_rules::proofs::ReadActLaws::read_acts))]
 fn nested(
     alloc: Global,
-    globals: &Globals,
+    globals: &GlobalNames,
     returned: &Option<Shape>,
-    scope: &mut LocalScope,
+    scope: &mut LocalNames,
     e: &StmtTree,
 ) -> Result<Stmt, TypeFault>
     requires { has_block e.now ≡ true }

@@ -1,19 +1,20 @@
 // The fourth pass over a script: the bodies of funcs, procs and main.
 
-ghost use Rattle.std.specs.Prelude.{◌≡◌, ◌+◌, [], Some, None, IfOk, is_some, map};
+ghost use Rattle.std.specs.Prelude.{◌≡◌, ◌+◌, [], Some, None, IfErr, IfOk, is_some, length, map};
 ghost use Rattle.hera_meaning.specs.Plain.{arms_in, block_in, body_of, command_of};
 ghost use Rattle.hera_meaning.specs.Sound.{arms_return as all_return, command_returns, returns};
 ghost use Rattle.hera_rules.specs.Agrees.{Gives};
 ghost use Rattle.hera_rules.specs.CheckedScripts.{check_funcs, check_procs};
 ghost use Rattle.hera_rules.specs.Environments.{env_of};
 ghost use Rattle.hera_rules.specs.ReadActs.{block_acts, func_phrase, main_acts, proc_phrase};
+ghost use Rattle.hera_rules.specs.declared.fault.TypeFault.TheVariants as fault;
 ghost use Rattle.hera_types.specs.Passes.{bodies_of, body_row, func_body_row};
 
 use crate::blocks::block;
 use hera_meaning::{Arm, Body, Shape, Stmt};
-use hera_rules::{FuncSig, Globals, Local, LocalScope, ProcSig, TypeFault};
+use hera_rules::{FuncSig, Local, ProcSig, TypeFault};
 use hera_syntax::{Block, Func, Main, Proc};
-use hera_types_parts::{number_of, put};
+use hera_types_parts::{GlobalNames, LocalNames, number_of, put};
 use std::alloc::{AllocError, Global};
 
 // ---- what returns
@@ -66,17 +67,6 @@ fn block_returns(stmts: &[Stmt]) -> bool
 
 // ---- bodies
 
-/// A copy of locals.
-fn locals_copy(alloc: Global, locals: &[Local]) -> Result<Vec<Local>, AllocError>
-    ensures { IfOk result (λ copy. copy.items ≡ locals.now) }
-{
-    let mut copy = Vec::new(alloc);
-    for local in locals {
-        put(&mut copy, local_copy(local)?)?;
-    }
-    Ok(copy)
-}
-
 /// A copy of a local.
 fn local_copy(local: &Local) -> Result<Local, AllocError>
     ensures { IfOk result (λ copy. copy ≡ local.now) }
@@ -90,26 +80,38 @@ fn local_copy(local: &Local) -> Result<Local, AllocError>
     })
 }
 
+/// The scope of a body: its parameters, and the first slot behind them. Where two have one name, which the third
+/// pass rules out, it answers Memory.
+fn body_locals(alloc: Global, params: &[Local]) -> Result<LocalNames, TypeFault>
+    ensures locals { IfOk result (λ scope. scope.locals.items ≡ params.now) }
+    ensures next { IfOk result (λ scope. scope.next ≡ length params.now) }
+    ensures refused { IfErr result (λ f. f ≡ fault.Memory) }
+{
+    let count = number_of(params.len())?;
+    let mut scope = LocalNames::new(alloc, count);
+    for local in params {
+        scope.push_local(local_copy(local)?)?;
+    }
+    Ok(scope)
+}
+
 /// A body with these parameters, which returns this.
 fn body_of_block(
     alloc: Global,
-    globals: &Globals,
+    globals: &GlobalNames,
     returned: &Option<Shape>,
     params: &[Local],
     e: &Block,
 ) -> Result<Body, TypeFault>
     ensures { Gives body_of result (body_row (env_of globals.now) returned.now params.now (block_acts e.now)) }
 {
-    let count = number_of(params.len())?;
-    let locals = locals_copy(alloc, params)?;
-    let mut scope = LocalScope {
-        locals,
-        next: count,
-    };
+    let mut scope = body_locals(alloc, params)?;
+    let count = scope.next_slot();
     let stmts = block(alloc, globals, returned, &mut scope, e)?;
+    let slots = scope.next_slot();
     Ok(Body {
         params: count,
-        slots: scope.next,
+        slots,
         func: returned.is_some(),
         block: stmts,
     })
@@ -118,7 +120,7 @@ fn body_of_block(
 /// The body of a func, whose last statement returns.
 fn func_body(
     alloc: Global,
-    globals: &Globals,
+    globals: &GlobalNames,
     sig: &FuncSig,
     tree: &Func,
 ) -> Result<Body, TypeFault>
@@ -135,7 +137,7 @@ fn func_body(
 /// The body of a proc.
 fn proc_body(
     alloc: Global,
-    globals: &Globals,
+    globals: &GlobalNames,
     sig: &ProcSig,
     tree: &Proc,
 ) -> Result<Body, TypeFault>
@@ -145,13 +147,18 @@ fn proc_body(
 }
 
 /// The bodies of the funcs, one for each signature.
-pub fn func_bodies(alloc: Global, globals: &Globals, trees: &[Func]) -> Result<Vec<Body>, TypeFault>
-    ensures { Gives bodies_of result (check_funcs (env_of globals.now) [] globals.now.funcs.items (map func_phrase trees.now)) }
+pub fn func_bodies(
+    alloc: Global,
+    globals: &GlobalNames,
+    sigs: &[FuncSig],
+    trees: &[Func],
+) -> Result<Vec<Body>, TypeFault>
+    ensures { Gives bodies_of result (check_funcs (env_of globals.now) [] sigs.now (map func_phrase trees.now)) }
 {
     let mut bodies = Vec::new(alloc);
-    let count = trees.len().min(globals.funcs.len());
+    let count = trees.len().min(sigs.len());
     for i in 0..count {
-        let body = func_body(alloc, globals, &globals.funcs[i], &trees[i])?;
+        let body = func_body(alloc, globals, &sigs[i], &trees[i])?;
         put(&mut bodies, body)?;
     }
     Ok(bodies)
@@ -160,23 +167,28 @@ pub fn func_bodies(alloc: Global, globals: &Globals, trees: &[Func]) -> Result<V
 /// These bodies, and behind them those of the procs, one for each signature.
 pub fn proc_bodies(
     alloc: Global,
-    globals: &Globals,
+    globals: &GlobalNames,
+    sigs: &[ProcSig],
     front: Vec<Body>,
     trees: &[Proc],
 ) -> Result<Vec<Body>, TypeFault>
-    ensures { Gives bodies_of result (check_procs (env_of globals.now) (bodies_of front) globals.now.procs.items (map proc_phrase trees.now)) }
+    ensures { Gives bodies_of result (check_procs (env_of globals.now) (bodies_of front) sigs.now (map proc_phrase trees.now)) }
 {
     let mut bodies = front;
-    let count = trees.len().min(globals.procs.len());
+    let count = trees.len().min(sigs.len());
     for i in 0..count {
-        let body = proc_body(alloc, globals, &globals.procs[i], &trees[i])?;
+        let body = proc_body(alloc, globals, &sigs[i], &trees[i])?;
         put(&mut bodies, body)?;
     }
     Ok(bodies)
 }
 
 /// The body of main, empty where there is no main.
-pub fn main_body(alloc: Global, globals: &Globals, tree: &Option<Main>) -> Result<Body, TypeFault>
+pub fn main_body(
+    alloc: Global,
+    globals: &GlobalNames,
+    tree: &Option<Main>,
+) -> Result<Body, TypeFault>
     ensures { Gives body_of result (body_row (env_of globals.now) None [] (main_acts tree.now)) }
 {
     match tree {

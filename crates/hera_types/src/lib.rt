@@ -3,11 +3,11 @@
 
 mod blocks;
 mod bodies;
-mod name_set;
+mod param_list;
 mod relations;
 mod scripts;
 mod signatures;
 mod statements;
 
 pub use hera_rules::TypeFault;
-pub use scripts::elaborate;
+pub use scripts::{elaborate, globals_of};

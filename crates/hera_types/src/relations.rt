@@ -12,8 +12,8 @@ ghost use Rattle.hera_rules.specs.ReadActs.{relation_phrase};
 use hera_meaning::{Name, RelDecl};
 use hera_rules::{Relations, TypeFault};
 use hera_syntax::{Relation, Token};
+use hera_types_checks::check_fields;
 use hera_types_parts::{made, name_bytes, name_copy};
-use hera_types_rows::fields_row_of;
 use std::alloc::Global;
 
 /// Whether one of the relations has this name.
@@ -42,7 +42,7 @@ fn relation_of(alloc: Global, relations: &Relations, tree: &Relation) -> Result<
     ensures decl { Gives (λ decl. decl) result (relation_row relations.now (relation_phrase tree.now)) }
     ensures few { OnOk result (length relations.now < 256) }
 {
-    let attrs = fields_row_of(alloc, &tree.attrs)?;
+    let attrs = check_fields(alloc, &tree.attrs)?;
     let name = relation_name_of(alloc, relations, &tree.name)?;
     let schema = made(attrs)?;
     Ok(RelDecl { name, schema })

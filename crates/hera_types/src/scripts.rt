@@ -18,10 +18,11 @@ use crate::bodies::{func_bodies, main_body, proc_bodies};
 use crate::relations::relations_of;
 use crate::signatures::{funcs_of, procs_of, relation_names, with_funcs, with_procs};
 use hera_host::{HostNames, HostTable};
-use hera_meaning::{Body, Program, RelDecl};
+use hera_meaning::{Body, Program};
 use hera_rules::{Globals, TypeFault};
 use hera_sound::typed_programs_are_sound;
 use hera_syntax::Tree;
+use hera_types_parts::GlobalNames;
 use std::alloc::{AllocError, Global};
 
 /// The program of a script, or its first fault in the order of checking.
@@ -44,20 +45,21 @@ fn checked(alloc: Global, tree: &Tree, hosts: &HostNames) -> Result<Program, Typ
     ensures { Gives program_of result (check_script hosts.now (script_of tree.now)) }
 {
     let globals = globals_of(alloc, tree, hosts)?;
-    let funcs = func_bodies(alloc, &globals, &tree.funcs)?;
-    let mut bodies = proc_bodies(alloc, &globals, funcs, &tree.procs)?;
+    let funcs = func_bodies(alloc, &globals, globals.funcs(), &tree.funcs)?;
+    let mut bodies = proc_bodies(alloc, &globals, globals.procs(), funcs, &tree.procs)?;
     let main = main_body(alloc, &globals, &tree.main)?;
     put_first(&mut bodies, main)?;
-    let relations = relations_into(globals);
+    let relations = globals.into_relations().into_decls();
     Ok(Program { relations, bodies })
 }
 
-/// What the global names of a script mean: the first three passes.
-fn globals_of<'a>(
+/// What the global names of a script mean, or the first fault among them: the first three passes, which look at the
+/// relations, then at the names of funcs and procs, then at their signatures. `Memory` tells nothing of the script.
+pub fn globals_of<'a>(
     alloc: Global,
     tree: &Tree,
     hosts: &'a HostNames,
-) -> Result<Globals<'a>, TypeFault>
+) -> Result<GlobalNames<'a>, TypeFault>
     ensures { Gives env_of result (env_row hosts.now (script_of tree.now)) }
 {
     let relations = relations_of(alloc, &tree.relations)?;
@@ -66,25 +68,13 @@ fn globals_of<'a>(
     let taken = with_procs(alloc, some, &tree.procs)?;
     let funcs = funcs_of(alloc, &relations, &taken, &tree.funcs)?;
     let procs = procs_of(alloc, &relations, &taken, funcs.len(), &tree.procs)?;
-    Ok(Globals {
+    let globals = Globals {
         relations,
         funcs,
         procs,
         hosts,
-    })
-}
-
-/// The declared relations.
-fn relations_into(globals: Globals) -> Vec<RelDecl>
-    ensures { result.items ≡ globals.entry.relations }
-{
-    let Globals {
-        relations,
-        funcs: _,
-        procs: _,
-        hosts: _,
-    } = globals;
-    relations.into_decls()
+    };
+    Ok(GlobalNames::new(alloc, globals)?)
 }
 
 /// A body more, in front of these.

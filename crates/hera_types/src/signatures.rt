@@ -20,12 +20,12 @@ ghost use Rattle.hera_rules.specs.ReadActs.{func_phrase, param_phrase, params_ph
 ghost use Rattle.hera_rules.specs.declared.fault.TypeFault.TheVariants as fault;
 ghost use Rattle.hera_types.specs.Passes.{func_names, proc_names};
 
-use crate::name_set::{NameSet, ParamList};
+use crate::param_list::ParamList;
 use hera_meaning::Name;
-use hera_rules::{FuncSig, Local, Locals, ProcSig, Relations, TypeFault};
+use hera_rules::{FuncSig, Local, LocalList, ProcSig, Relations, TypeFault};
 use hera_syntax::{Func, Param, Params, Proc, Token};
-use hera_types_parts::{name_bytes, name_copy, number_of, put};
-use hera_types_rows::type_row_of;
+use hera_types_checks::check_type;
+use hera_types_parts::{NameSet, add_new, name_bytes, name_copy, number_of, put};
 use std::alloc::{AllocError, Global};
 
 // ---- names
@@ -47,11 +47,7 @@ pub fn relation_names(alloc: Global, relations: &Relations) -> Result<NameSet, A
 {
     let mut names = NameSet::new(alloc);
     for decl in relations.decls() {
-        let name = decl.name.bytes();
-        if names.has(name) {
-            return Err(AllocError);
-        }
-        names.add(name)?;
+        add_new(&mut names, decl.name.bytes())?;
     }
     Ok(names)
 }
@@ -93,7 +89,7 @@ fn param_of(
     ensures row { Gives (λ local. local) result (param_row relations.now taken.now locals.now (param_phrase tree.now)) }
     ensures new { IfOk result (λ local. holds (map local_name locals.now) local.name ≡ false) }
 {
-    let shape = type_row_of(alloc, relations, &tree.type_tree)?;
+    let shape = check_type(alloc, relations, &tree.type_tree)?;
     let name = name_bytes(&tree.name);
     if taken.has(name) || locals.has(name) {
         return Err(TypeFault::Repeated { at: tree.name.at });
@@ -109,12 +105,12 @@ fn params_of(
     relations: &Relations,
     taken: &NameSet,
     trees: &Option<Params>,
-) -> Result<Locals, TypeFault>
+) -> Result<LocalList, TypeFault>
     ensures { Gives (λ locals. locals) result (params_row relations.now taken.now [] (some_params trees.now)) }
 {
     match trees {
         Some(list) => some_params_of(alloc, relations, taken, list),
-        None => Ok(Locals::new(Vec::new(alloc))),
+        None => Ok(LocalList::new(Vec::new(alloc))),
     }
 }
 
@@ -124,7 +120,7 @@ fn some_params_of(
     relations: &Relations,
     taken: &NameSet,
     trees: &Params,
-) -> Result<Locals, TypeFault>
+) -> Result<LocalList, TypeFault>
     ensures { Gives (λ locals. locals) result (params_row relations.now taken.now [] (params_phrase trees.now)) }
 {
     let none = ParamList::new(alloc);
@@ -147,7 +143,7 @@ fn func_of(
 ) -> Result<FuncSig, TypeFault>
     ensures { Gives (λ sig. sig) result (func_row relations.now taken.now number (func_phrase tree.now)) }
 {
-    let result = type_row_of(alloc, relations, &tree.type_tree)?;
+    let result = check_type(alloc, relations, &tree.type_tree)?;
     let params = params_of(alloc, relations, taken, &tree.params)?;
     let name = name_copy(alloc, &tree.name)?;
     Ok(FuncSig {

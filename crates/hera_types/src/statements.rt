@@ -17,22 +17,22 @@ ghost use Rattle.hera_rules.specs.Typing.{slots_of_all};
 ghost use Rattle.hera_types.specs.Scopes.{ActGives, Extends};
 
 use hera_meaning::{Shape, Stmt, Text};
-use hera_rules::{Globals, LocalScope, TypeFault, Typed};
-use hera_syntax::{Args, Expr, Token, TypeTree};
-use hera_types_exprs::{Waiting, args, expr, push_local, take_slot};
-use hera_types_parts::{into_core, text_copy};
-use hera_types_rows::{
-    apply_row_of, assert_row_of, assign_row_of, declare_row_of, effect_row_of, perform_row_of,
-    print_row_of, return_row_of, return_value_row_of, type_row_of,
+use hera_rules::{TypeFault, Typed};
+use hera_syntax::{ArgTrees, Expr, Token, TypeTree};
+use hera_types_checks::{
+    check_apply, check_assert, check_assign, check_declare, check_effect, check_perform,
+    check_print, check_return, check_return_value, check_type,
 };
+use hera_types_exprs::{Waiting, args, expr};
+use hera_types_parts::{GlobalNames, LocalNames, into_core, text_copy};
 use std::alloc::Global;
 
 /// A declaration. Its local is visible behind it.
 pub fn declare(
     alloc: Global,
-    globals: &Globals,
+    globals: &GlobalNames,
     returned: &Option<Shape>,
-    scope: &mut LocalScope,
+    scope: &mut LocalNames,
     type_tree: &TypeTree,
     name: &Token,
     value: &Expr,
@@ -41,20 +41,20 @@ pub fn declare(
     ensures next { OnOk result (scope.new.next ≡ scope.old.next + slots_of_act (declaring (type_phrase type_tree.now) (word_of name.now) (expr_phrase value.now))) }
     ensures grows { OnOk result (Extends scope.old.locals.items scope.new.locals.items) }
 {
-    let slot = take_slot(scope)?;
-    let shape = type_row_of(alloc, &globals.relations, type_tree)?;
+    let slot = scope.take_slot()?;
+    let shape = check_type(alloc, globals.relations(), type_tree)?;
     let given = expr(alloc, globals, scope, value)?;
     let initial = Waiting { typed: given };
-    let local = declare_row_of(
+    let local = check_declare(
         alloc,
         globals,
-        &scope.locals,
+        scope,
         name,
         slot,
         shape,
         &initial.typed.shape,
     )?;
-    push_local(scope, local)?;
+    scope.push_local(local)?;
     let typed = initial.into_typed();
     Ok(Stmt::Set(slot, into_core(typed)))
 }
@@ -62,9 +62,9 @@ pub fn declare(
 /// An assignment.
 pub fn assign(
     alloc: Global,
-    globals: &Globals,
+    globals: &GlobalNames,
     returned: &Option<Shape>,
-    scope: &mut LocalScope,
+    scope: &mut LocalNames,
     name: &Token,
     value: &Expr,
 ) -> Result<Stmt, TypeFault>
@@ -73,32 +73,32 @@ pub fn assign(
     ensures grows { OnOk result (Extends scope.old.locals.items scope.new.locals.items) }
 {
     let typed = expr(alloc, globals, scope, value)?;
-    assign_row_of(&scope.locals, name, typed)
+    check_assign(scope, name, typed)
 }
 
 /// A call of a proc.
 pub fn perform(
     alloc: Global,
-    globals: &Globals,
+    globals: &GlobalNames,
     returned: &Option<Shape>,
-    scope: &mut LocalScope,
+    scope: &mut LocalNames,
     name: &Token,
-    list: &Option<Args>,
+    list: &Option<ArgTrees>,
 ) -> Result<Stmt, TypeFault>
     ensures checks { ActGives result scope.new.locals.items (env_of globals.now) returned.now scope.old.locals.items scope.old.next (performing (word_of name.now) (some_args list.now)) }
     ensures next { OnOk result (scope.new.next ≡ scope.old.next + slots_of_act (performing (word_of name.now) (some_args list.now))) }
     ensures grows { OnOk result (Extends scope.old.locals.items scope.new.locals.items) }
 {
     let values = some_values(alloc, globals, scope, list)?;
-    perform_row_of(alloc, globals, returned.is_some(), name, values)
+    check_perform(alloc, globals, returned.is_some(), name, values)
 }
 
 /// A print.
 pub fn print(
     alloc: Global,
-    globals: &Globals,
+    globals: &GlobalNames,
     returned: &Option<Shape>,
-    scope: &mut LocalScope,
+    scope: &mut LocalNames,
     at: u32,
     value: &Expr,
 ) -> Result<Stmt, TypeFault>
@@ -107,15 +107,15 @@ pub fn print(
     ensures grows { OnOk result (Extends scope.old.locals.items scope.new.locals.items) }
 {
     let typed = expr(alloc, globals, scope, value)?;
-    print_row_of(returned.is_some(), at, typed)
+    check_print(returned.is_some(), at, typed)
 }
 
 /// An apply.
 pub fn apply(
     alloc: Global,
-    globals: &Globals,
+    globals: &GlobalNames,
     returned: &Option<Shape>,
-    scope: &mut LocalScope,
+    scope: &mut LocalNames,
     at: u32,
     value: &Expr,
 ) -> Result<Stmt, TypeFault>
@@ -124,15 +124,15 @@ pub fn apply(
     ensures grows { OnOk result (Extends scope.old.locals.items scope.new.locals.items) }
 {
     let typed = expr(alloc, globals, scope, value)?;
-    apply_row_of(returned.is_some(), at, typed)
+    check_apply(returned.is_some(), at, typed)
 }
 
 /// An assert.
 pub fn claim(
     alloc: Global,
-    globals: &Globals,
+    globals: &GlobalNames,
     returned: &Option<Shape>,
-    scope: &mut LocalScope,
+    scope: &mut LocalNames,
     at: u32,
     value: &Expr,
 ) -> Result<Stmt, TypeFault>
@@ -141,7 +141,7 @@ pub fn claim(
     ensures grows { OnOk result (Extends scope.old.locals.items scope.new.locals.items) }
 {
     let typed = expr(alloc, globals, scope, value)?;
-    assert_row_of(at, typed)
+    check_assert(at, typed)
 }
 
 /// A commit, with or without a label.
@@ -154,7 +154,7 @@ pub fn commit(
     ensures { Gives command_of result (effect_row (is_some returned.now) at (trees.commit (label_of label.now))) }
 {
     let copy = label_copy(alloc, label)?;
-    effect_row_of(returned.is_some(), at, Stmt::Commit(copy))
+    check_effect(returned.is_some(), at, Stmt::Commit(copy))
 }
 
 /// A copy of a label.
@@ -171,9 +171,9 @@ fn label_copy(alloc: Global, label: &Option<Token>) -> Result<Option<Text>, Type
 /// A return.
 pub fn give_back(
     alloc: Global,
-    globals: &Globals,
+    globals: &GlobalNames,
     returned: &Option<Shape>,
-    scope: &mut LocalScope,
+    scope: &mut LocalNames,
     word: &Token,
     value: &Option<Expr>,
 ) -> Result<Stmt, TypeFault>
@@ -182,7 +182,7 @@ pub fn give_back(
     ensures grows { OnOk result (Extends scope.old.locals.items scope.new.locals.items) }
 {
     match value {
-        None => return_row_of(returned, word.at),
+        None => check_return(returned, word.at),
         Some(inner) => give_value(alloc, globals, returned, scope, word.at, inner),
     }
 }
@@ -190,9 +190,9 @@ pub fn give_back(
 /// A return with a value.
 fn give_value(
     alloc: Global,
-    globals: &Globals,
+    globals: &GlobalNames,
     returned: &Option<Shape>,
-    scope: &mut LocalScope,
+    scope: &mut LocalNames,
     at: u32,
     value: &Expr,
 ) -> Result<Stmt, TypeFault>
@@ -201,15 +201,15 @@ fn give_value(
     ensures grows { OnOk result (Extends scope.old.locals.items scope.new.locals.items) }
 {
     let typed = expr(alloc, globals, scope, value)?;
-    return_value_row_of(returned, at, typed)
+    check_return_value(returned, at, typed)
 }
 
 /// The values of arguments, of which there may be none.
 fn some_values(
     alloc: Global,
-    globals: &Globals,
-    scope: &mut LocalScope,
-    list: &Option<Args>,
+    globals: &GlobalNames,
+    scope: &mut LocalNames,
+    list: &Option<ArgTrees>,
 ) -> Result<Vec<Typed>, TypeFault>
     ensures checks { Gives list_of result (check_all (env_of globals.now) scope.old.locals.items scope.old.next [] (some_args list.now)) }
     ensures keeps { OnOk result (Keeps scope.old scope.new (slots_of_all (some_args list.now))) }

@@ -9,7 +9,7 @@ use Rattle.hera_syntax.specs.declared.expr.Tail.{Tail}
 use Rattle.hera_syntax.specs.declared.expr.Expr.{Expr}
 use Rattle.hera_syntax.specs.declared.expr.Binding.{Binding, out-Binding}
 use Rattle.hera_syntax.specs.declared.expr.Atom.{Atom}
-use Rattle.hera_syntax.specs.declared.expr.Line.{Line}
+use Rattle.hera_syntax.specs.declared.expr.LineTree.{LineTree}
 use Rattle.hera_rules.specs.declared.words.Word.{Word}
 use Rattle.hera_rules.specs.declared.words.Joint.{Joint}
 use Rattle.hera_rules.specs.declared.env.Local.{Local}
@@ -128,10 +128,10 @@ atoms_more xs i x h e = ap atoms_in (next_at xs i x h e)
 pub atoms_none : (xs : List Atom) (i : ℕ) → length xs ≤ i → atoms_in (drop i xs) ≡ no_phrase
 atoms_none xs i h = ap atoms_in (none_at xs i h)
 
-pub lines_more : (w : Word) (xs : List Line) (i : ℕ) (x : Line) → i < length xs → x ≡ get_or xs i x → lines_in w (drop i xs) ≡ phrase (line_phrase w x) (lines_in w (drop (i + 1) xs))
+pub lines_more : (w : Word) (xs : List LineTree) (i : ℕ) (x : LineTree) → i < length xs → x ≡ get_or xs i x → lines_in w (drop i xs) ≡ phrase (line_phrase w x) (lines_in w (drop (i + 1) xs))
 lines_more w xs i x h e = ap (lines_in w) (next_at xs i x h e)
 
-pub lines_none : (w : Word) (xs : List Line) (i : ℕ) → length xs ≤ i → lines_in w (drop i xs) ≡ no_phrase
+pub lines_none : (w : Word) (xs : List LineTree) (i : ℕ) → length xs ≤ i → lines_in w (drop i xs) ≡ no_phrase
 lines_none w xs i h = ap (lines_in w) (none_at xs i h)
 
 pub at_locals : (g : Env) (n : ℕ) (p : Phrase) {ls ls' : List Local} {r : Result Typing TypeFault} → ls ≡ ls' → check g ls n p ≡ r → check g ls' n p ≡ r

@@ -28,20 +28,21 @@ ghost use Rattle.hera_rules.specs.Read.{
 ghost use Rattle.hera_rules.specs.Typing.{slots_of, slots_of_all};
 ghost use Rattle.hera_types_exprs.specs.Parts.{has_many_parts, has_one_part, list_of};
 
-use crate::forms::{
-    bool_literal, fail_literal, int_literal, named_row_of, one_row_of, text_literal,
-};
-use crate::scopes::{Waiting, leave, push_local, take_slot};
-use hera_rules::{Globals, LocalScope, TypeFault, Typed};
+use crate::forms::{bool_literal, check_named, check_one, fail_literal, int_literal, text_literal};
+use crate::waiting::Waiting;
+use hera_rules::{TypeFault, Typed};
 use hera_syntax::{
-    Args, Atom, Atoms, Bindings, Expr, Line, Lines, Operand, Post, Prefix, Prime, Token,
+    ArgTrees, Atom, Atoms, Bindings, Expr, LineTree, LineTrees, OperandTree, Post, Prefix, Prime,
+    Token,
+};
+use hera_types_algebra::check_pair;
+use hera_types_checks::{
+    Chain, check_atom, check_atoms, check_call, check_field, check_line, check_lines, check_prefix,
+    check_variable, check_walk,
 };
 use hera_types_parts::{
-    level_joint, name_row_of, pair_word, prefix_word, put, sign_word, walk_word,
-};
-use hera_types_rows::{
-    Chain, atom_row_of, atoms_row_of, call_row_of, field_row_of, line_row_of, lines_row_of,
-    pair_row_of, prefix_row_of, variable_row_of, walk_row_of,
+    GlobalNames, LocalNames, check_name, level_joint, pair_word, prefix_word, put, sign_word,
+    walk_word,
 };
 use std::alloc::Global;
 
@@ -50,8 +51,8 @@ use std::alloc::Global;
 #[tactic(auto, using(crate::proofs::Steps::steps))]
 pub fn expr(
     alloc: Global,
-    globals: &Globals,
-    scope: &mut LocalScope,
+    globals: &GlobalNames,
+    scope: &mut LocalNames,
     e: &Expr,
 ) -> Result<Typed, TypeFault>
     ensures checks { Gives typing_of result (check (env_of globals.now) scope.old.locals.items scope.old.next (expr_phrase e.now)) }
@@ -72,16 +73,16 @@ pub fn expr(
 #[tactic(auto, using(crate::proofs::Steps::steps))]
 fn operand(
     alloc: Global,
-    globals: &Globals,
-    scope: &mut LocalScope,
-    e: &Operand,
+    globals: &GlobalNames,
+    scope: &mut LocalNames,
+    e: &OperandTree,
 ) -> Result<Typed, TypeFault>
     ensures checks { Gives typing_of result (check (env_of globals.now) scope.old.locals.items scope.old.next (operand_phrase e.now)) }
     ensures keeps { OnOk result (Keeps scope.old scope.new (slots_of (operand_phrase e.now))) }
 {
     match e {
-        Operand::Inner(inner) => expr(alloc, globals, scope, inner),
-        Operand::Prefix(inner) => prefix(alloc, globals, scope, inner),
+        OperandTree::Inner(inner) => expr(alloc, globals, scope, inner),
+        OperandTree::Prefix(inner) => prefix(alloc, globals, scope, inner),
     }
 }
 
@@ -90,8 +91,8 @@ fn operand(
 #[tactic(auto, using(crate::proofs::Steps::steps))]
 fn prefix(
     alloc: Global,
-    globals: &Globals,
-    scope: &mut LocalScope,
+    globals: &GlobalNames,
+    scope: &mut LocalNames,
     e: &Prefix,
 ) -> Result<Typed, TypeFault>
     ensures checks { Gives typing_of result (check (env_of globals.now) scope.old.locals.items scope.old.next (prefix_of_tree e.now)) }
@@ -100,7 +101,7 @@ fn prefix(
     let value = post(alloc, globals, scope, &e.operand)?;
     match &e.op {
         None => Ok(value),
-        Some(token) => prefix_row_of(alloc, prefix_word(token), token.at, value),
+        Some(token) => check_prefix(alloc, prefix_word(token), token.at, value),
     }
 }
 
@@ -109,8 +110,8 @@ fn prefix(
 #[tactic(auto, using(crate::proofs::Steps::steps))]
 fn post(
     alloc: Global,
-    globals: &Globals,
-    scope: &mut LocalScope,
+    globals: &GlobalNames,
+    scope: &mut LocalNames,
     e: &Post,
 ) -> Result<Typed, TypeFault>
     ensures checks { Gives typing_of result (check (env_of globals.now) scope.old.locals.items scope.old.next (post_of e.now)) }
@@ -119,7 +120,7 @@ fn post(
     let value = prime(alloc, globals, scope, &e.operand)?;
     match &e.field {
         None => Ok(value),
-        Some(token) => field_row_of(alloc, token, value),
+        Some(token) => check_field(alloc, token, value),
     }
 }
 
@@ -128,8 +129,8 @@ fn post(
 #[tactic(auto, using(crate::proofs::Steps::steps))]
 fn prime(
     alloc: Global,
-    globals: &Globals,
-    scope: &mut LocalScope,
+    globals: &GlobalNames,
+    scope: &mut LocalNames,
     e: &Prime,
 ) -> Result<Typed, TypeFault>
     ensures checks { Gives typing_of result (check (env_of globals.now) scope.old.locals.items scope.old.next (prime_phrase e.now)) }
@@ -141,7 +142,7 @@ fn prime(
         Prime::True(_) => Ok(bool_literal(true)),
         Prime::False(_) => Ok(bool_literal(false)),
         Prime::Fail(_) => Ok(fail_literal()),
-        Prime::Name(token) => name_row_of(globals, &scope.locals, token),
+        Prime::Name(token) => check_name(globals, scope, token),
         Prime::Paren { inner, .. } => expr(alloc, globals, scope, inner),
         Prime::Call { name, args, .. } => call(alloc, globals, scope, name, args),
         Prime::Row { bracket, bindings } => row(alloc, globals, scope, bracket.at, bindings),
@@ -164,8 +165,8 @@ fn prime(
 #[tactic(auto, using(crate::proofs::Steps::steps))]
 fn many_parts(
     alloc: Global,
-    globals: &Globals,
-    scope: &mut LocalScope,
+    globals: &GlobalNames,
+    scope: &mut LocalNames,
     e: &Prime,
 ) -> Result<Typed, TypeFault>
     requires { has_many_parts e.now ≡ true }
@@ -201,8 +202,8 @@ fn many_parts(
 #[tactic(auto, using(crate::proofs::Steps::steps))]
 fn one_part(
     alloc: Global,
-    globals: &Globals,
-    scope: &mut LocalScope,
+    globals: &GlobalNames,
+    scope: &mut LocalNames,
     e: &Prime,
 ) -> Result<Typed, TypeFault>
     requires { has_one_part e.now ≡ true }
@@ -218,7 +219,7 @@ fn one_part(
         | Prime::Bulk { over, .. }
         | Prime::Part { over, .. } => {
             let value = expr(alloc, globals, scope, over)?;
-            one_row_of(alloc, globals, e, value)
+            check_one(alloc, globals, e, value)
         }
         _ => unreachable!(),
     }
@@ -229,10 +230,10 @@ fn one_part(
 #[tactic(auto, using(crate::proofs::Steps::steps))]
 fn call(
     alloc: Global,
-    globals: &Globals,
-    scope: &mut LocalScope,
+    globals: &GlobalNames,
+    scope: &mut LocalNames,
     name: &Token,
-    list: &Option<Box<Args>>,
+    list: &Option<Box<ArgTrees>>,
 ) -> Result<Typed, TypeFault>
     ensures checks { Gives typing_of result (check (env_of globals.now) scope.old.locals.items scope.old.next (phrases.calling (word_of name.now) (args_in list.now))) }
     ensures keeps { OnOk result (Keeps scope.old scope.new (slots_of (phrases.calling (word_of name.now) (args_in list.now)))) }
@@ -240,9 +241,9 @@ fn call(
     match list {
         Some(inner) => {
             let values = args(alloc, globals, scope, inner)?;
-            call_row_of(alloc, globals, name, values)
+            check_call(alloc, globals, name, values)
         }
-        None => call_row_of(alloc, globals, name, Vec::new(alloc)),
+        None => check_call(alloc, globals, name, Vec::new(alloc)),
     }
 }
 
@@ -251,8 +252,8 @@ fn call(
 #[tactic(auto, using(crate::proofs::Steps::steps))]
 fn row(
     alloc: Global,
-    globals: &Globals,
-    scope: &mut LocalScope,
+    globals: &GlobalNames,
+    scope: &mut LocalNames,
     at: u32,
     list: &Bindings,
 ) -> Result<Typed, TypeFault>
@@ -260,7 +261,7 @@ fn row(
     ensures keeps { OnOk result (Keeps scope.old scope.new (slots_of (phrases.row at (bindings_words list.now) (bindings_phrases list.now)))) }
 {
     let values = bindings(alloc, globals, scope, list)?;
-    named_row_of(alloc, at, list, values)
+    check_named(alloc, at, list, values)
 }
 
 /// A delta literal and its atoms, if any.
@@ -268,8 +269,8 @@ fn row(
 #[tactic(auto, using(crate::proofs::Steps::steps))]
 fn delta(
     alloc: Global,
-    globals: &Globals,
-    scope: &mut LocalScope,
+    globals: &GlobalNames,
+    scope: &mut LocalNames,
     at: u32,
     list: &Option<Box<Atoms>>,
 ) -> Result<Typed, TypeFault>
@@ -279,9 +280,9 @@ fn delta(
     match list {
         Some(inner) => {
             let values = atoms(alloc, globals, scope, inner)?;
-            atoms_row_of(alloc, at, values)
+            check_atoms(alloc, at, values)
         }
-        None => atoms_row_of(alloc, at, Vec::new(alloc)),
+        None => check_atoms(alloc, at, Vec::new(alloc)),
     }
 }
 
@@ -290,11 +291,11 @@ fn delta(
 #[tactic(auto, using(crate::proofs::Steps::steps))]
 fn rows(
     alloc: Global,
-    globals: &Globals,
-    scope: &mut LocalScope,
+    globals: &GlobalNames,
+    scope: &mut LocalNames,
     name: &Token,
     at: u32,
-    list: &Option<Box<Lines>>,
+    list: &Option<Box<LineTrees>>,
 ) -> Result<Typed, TypeFault>
     ensures checks { Gives typing_of result (check (env_of globals.now) scope.old.locals.items scope.old.next (phrases.lines (word_of name.now) at (some_lines (word_of name.now) list.now))) }
     ensures keeps { OnOk result (Keeps scope.old scope.new (slots_of (phrases.lines (word_of name.now) at (some_lines (word_of name.now) list.now)))) }
@@ -302,9 +303,9 @@ fn rows(
     match list {
         Some(inner) => {
             let values = lines(alloc, globals, scope, inner, name)?;
-            lines_row_of(alloc, globals, name, at, values)
+            check_lines(alloc, globals, name, at, values)
         }
-        None => lines_row_of(alloc, globals, name, at, Vec::new(alloc)),
+        None => check_lines(alloc, globals, name, at, Vec::new(alloc)),
     }
 }
 
@@ -313,8 +314,8 @@ fn rows(
 #[tactic(auto, using(crate::proofs::Steps::steps))]
 fn walk(
     alloc: Global,
-    globals: &Globals,
-    scope: &mut LocalScope,
+    globals: &GlobalNames,
+    scope: &mut LocalNames,
     word: &Token,
     name: &Token,
     over: &Expr,
@@ -323,24 +324,24 @@ fn walk(
     ensures checks { Gives typing_of result (check (env_of globals.now) scope.old.locals.items scope.old.next (phrases.walking (walk_of word.now.kind) word.now.at (word_of name.now) (expr_phrase over.now) (expr_phrase body.now))) }
     ensures keeps { OnOk result (Keeps scope.old scope.new (slots_of (phrases.walking (walk_of word.now.kind) word.now.at (word_of name.now) (expr_phrase over.now) (expr_phrase body.now)))) }
 {
-    let depth = scope.locals.len();
-    let slot = take_slot(scope)?;
+    let depth = scope.visible();
+    let slot = scope.take_slot()?;
     let of = expr(alloc, globals, scope, over)?;
     let range = Waiting { typed: of };
-    let local = variable_row_of(
+    let local = check_variable(
         globals,
-        &scope.locals,
+        scope,
         alloc,
         name,
         word.at,
         slot,
         &range.typed.shape,
     )?;
-    push_local(scope, local)?;
+    scope.push_local(local)?;
     let inner = expr(alloc, globals, scope, body)?;
-    leave(scope, depth);
+    scope.leave(depth);
     let typed = range.into_typed();
-    walk_row_of(alloc, walk_word(word), word.at, slot, typed, inner)
+    check_walk(alloc, walk_word(word), word.at, slot, typed, inner)
 }
 
 /// A `union`, a `minus`, an `inter` or a `join`: its left part, then its right.
@@ -348,8 +349,8 @@ fn walk(
 #[tactic(auto, using(crate::proofs::Steps::steps))]
 fn pair(
     alloc: Global,
-    globals: &Globals,
-    scope: &mut LocalScope,
+    globals: &GlobalNames,
+    scope: &mut LocalNames,
     word: &Token,
     left: &Expr,
     right: &Expr,
@@ -361,7 +362,7 @@ fn pair(
     let first = Waiting { typed: own };
     let other = expr(alloc, globals, scope, right)?;
     let typed = first.into_typed();
-    pair_row_of(alloc, pair_word(word), word.at, typed, other)
+    check_pair(alloc, pair_word(word), word.at, typed, other)
 }
 
 /// Arguments from the left.
@@ -369,9 +370,9 @@ fn pair(
 #[tactic(auto, using(crate::proofs::Steps::steps))]
 pub fn args(
     alloc: Global,
-    globals: &Globals,
-    scope: &mut LocalScope,
-    e: &Args,
+    globals: &GlobalNames,
+    scope: &mut LocalNames,
+    e: &ArgTrees,
 ) -> Result<Vec<Typed>, TypeFault>
     ensures checks { Gives list_of result (check_all (env_of globals.now) scope.old.locals.items scope.old.next [] (args_phrases e.now)) }
     ensures keeps { OnOk result (Keeps scope.old scope.new (slots_of_all (args_phrases e.now))) }
@@ -391,8 +392,8 @@ pub fn args(
 #[tactic(auto, using(crate::proofs::Steps::steps))]
 fn bindings(
     alloc: Global,
-    globals: &Globals,
-    scope: &mut LocalScope,
+    globals: &GlobalNames,
+    scope: &mut LocalNames,
     e: &Bindings,
 ) -> Result<Vec<Typed>, TypeFault>
     ensures checks { Gives list_of result (check_all (env_of globals.now) scope.old.locals.items scope.old.next [] (bindings_phrases e.now)) }
@@ -413,8 +414,8 @@ fn bindings(
 #[tactic(auto, using(crate::proofs::Steps::steps))]
 fn atoms(
     alloc: Global,
-    globals: &Globals,
-    scope: &mut LocalScope,
+    globals: &GlobalNames,
+    scope: &mut LocalNames,
     e: &Atoms,
 ) -> Result<Vec<Typed>, TypeFault>
     ensures checks { Gives list_of result (check_all (env_of globals.now) scope.old.locals.items scope.old.next [] (atoms_phrases e.now)) }
@@ -435,15 +436,15 @@ fn atoms(
 #[tactic(auto, using(crate::proofs::Steps::steps))]
 fn atom(
     alloc: Global,
-    globals: &Globals,
-    scope: &mut LocalScope,
+    globals: &GlobalNames,
+    scope: &mut LocalNames,
     e: &Atom,
 ) -> Result<Typed, TypeFault>
     ensures checks { Gives typing_of result (check (env_of globals.now) scope.old.locals.items scope.old.next (atom_phrase e.now)) }
     ensures keeps { OnOk result (Keeps scope.old scope.new (slots_of (atom_phrase e.now))) }
 {
     let values = args(alloc, globals, scope, &e.args)?;
-    atom_row_of(alloc, globals, sign_word(&e.sign), &e.name, values)
+    check_atom(alloc, globals, sign_word(&e.sign), &e.name, values)
 }
 
 /// The lines of `rows` from the left.
@@ -451,9 +452,9 @@ fn atom(
 #[tactic(auto, using(crate::proofs::Steps::steps))]
 fn lines(
     alloc: Global,
-    globals: &Globals,
-    scope: &mut LocalScope,
-    e: &Lines,
+    globals: &GlobalNames,
+    scope: &mut LocalNames,
+    e: &LineTrees,
     name: &Token,
 ) -> Result<Vec<Typed>, TypeFault>
     ensures checks { Gives list_of result (check_all (env_of globals.now) scope.old.locals.items scope.old.next [] (lines_phrases (word_of name.now) e.now)) }
@@ -474,14 +475,14 @@ fn lines(
 #[tactic(auto, using(crate::proofs::Steps::steps))]
 fn line(
     alloc: Global,
-    globals: &Globals,
-    scope: &mut LocalScope,
-    e: &Line,
+    globals: &GlobalNames,
+    scope: &mut LocalNames,
+    e: &LineTree,
     name: &Token,
 ) -> Result<Typed, TypeFault>
     ensures checks { Gives typing_of result (check (env_of globals.now) scope.old.locals.items scope.old.next (line_phrase (word_of name.now) e.now)) }
     ensures keeps { OnOk result (Keeps scope.old scope.new (slots_of (line_phrase (word_of name.now) e.now))) }
 {
     let values = args(alloc, globals, scope, &e.args)?;
-    line_row_of(alloc, globals, name, e.bracket.at, values)
+    check_line(alloc, globals, name, e.bracket.at, values)
 }

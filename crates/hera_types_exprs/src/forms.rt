@@ -1,4 +1,4 @@
-// The rows of typing for the forms of an expression, once its parts are typed.
+// Checks of the forms of an expression, once its parts are typed.
 
 ghost use Rattle.std.specs.Prelude.{◌≡◌, IfOk, IfErr, true};
 ghost use Rattle.hera_rules.specs.Agrees.{Gives, typing_of, typings_of};
@@ -12,19 +12,18 @@ ghost use Rattle.hera_rules.specs.Rules.{group_row, literal_row, project_row, re
 ghost use Rattle.hera_types_exprs.specs.Parts.{has_one_part, one_row};
 
 use hera_meaning::{Const, Core, Scalar, Shape};
-use hera_rules::{Aggregate, Globals, TypeFault, Typed, Word};
+use hera_rules::{Aggregate, TypeFault, Typed, Word};
 use hera_syntax::{Bindings, NamedAggs, Names, Prime, Renamings, Token, TokenKind};
+use hera_types_algebra::{check_group, check_project, check_rename};
+use hera_types_checks::{check_bulk, check_fold, check_part, check_row, check_test};
 use hera_types_parts::{
-    aggregates, fold_word, part_word, put, renamings, sign_word, test_word, text_copy, word, words,
-};
-use hera_types_rows::{
-    bulk_row_of, fold_row_of, group_row_of, part_row_of, project_row_of, rename_row_of, row_row_of,
-    test_row_of,
+    GlobalNames, aggregates, fold_word, part_word, put, renamings, sign_word, test_word, text_copy,
+    word, words,
 };
 use std::alloc::Global;
 
 /// `[a = e]`, once its values are typed.
-pub fn named_row_of(
+pub fn check_named(
     alloc: Global,
     at: u32,
     bindings: &Bindings,
@@ -33,14 +32,14 @@ pub fn named_row_of(
     ensures { Gives typing_of result (row_row at (bindings_words bindings.now) (typings_of values.items)) }
 {
     let names = binding_names(alloc, bindings)?;
-    row_row_of(alloc, at, names, values)
+    check_row(alloc, at, names, values)
 }
 
 /// A form with one part, once that is typed.
 #[tactic(auto, using(crate::proofs::Steps::steps))]
-pub fn one_row_of(
+pub fn check_one(
     alloc: Global,
-    globals: &Globals,
+    globals: &GlobalNames,
     e: &Prime,
     value: Typed,
 ) -> Result<Typed, TypeFault>
@@ -48,27 +47,27 @@ pub fn one_row_of(
     ensures { Gives typing_of result (one_row (env_of globals.now) (prime_phrase e.now) (typing_of value)) }
 {
     match e {
-        Prime::Project { word, names, .. } => project_row_by(alloc, word.at, names, value),
+        Prime::Project { word, names, .. } => check_project_by(alloc, word.at, names, value),
         Prime::Rename {
             word,
             renamings: names,
             ..
-        } => rename_row_by(alloc, word.at, names, value),
+        } => check_rename_by(alloc, word.at, names, value),
         Prime::Group {
             word,
             names,
             aggs,
             ..
-        } => group_row_by(alloc, word.at, names, aggs, value),
-        Prime::Measure { word, .. } => test_row_of(alloc, test_word(word), word.at, value),
-        Prime::Fold { word, name, .. } => fold_row_of(alloc, fold_word(word), word.at, name, value),
+        } => check_group_by(alloc, word.at, names, aggs, value),
+        Prime::Measure { word, .. } => check_test(alloc, test_word(word), word.at, value),
+        Prime::Fold { word, name, .. } => check_fold(alloc, fold_word(word), word.at, name, value),
         Prime::Bulk {
             word,
             sign,
             name,
             ..
-        } => bulk_row_of(alloc, globals, sign_word(sign), name, word.at, value),
-        Prime::Part { word, name, .. } => part_row_of(
+        } => check_bulk(alloc, globals, sign_word(sign), name, word.at, value),
+        Prime::Part { word, name, .. } => check_part(
             alloc,
             globals,
             part_word(word),
@@ -81,11 +80,11 @@ pub fn one_row_of(
 }
 
 /// A `project`, once its operand is typed.
-fn project_row_by(alloc: Global, at: u32, names: &Names, value: Typed) -> Result<Typed, TypeFault>
+fn check_project_by(alloc: Global, at: u32, names: &Names, value: Typed) -> Result<Typed, TypeFault>
     ensures { Gives typing_of result (project_row at (words_of names.now) (typing_of value)) }
 {
     match words(alloc, names) {
-        Ok(all) => project_row_of(alloc, at, all, value),
+        Ok(all) => check_project(alloc, at, all, value),
         Err(_) => {
             drop(value);
             Err(TypeFault::Memory)
@@ -94,7 +93,7 @@ fn project_row_by(alloc: Global, at: u32, names: &Names, value: Typed) -> Result
 }
 
 /// A `rename`, once its operand is typed.
-fn rename_row_by(
+fn check_rename_by(
     alloc: Global,
     at: u32,
     names: &Renamings,
@@ -103,7 +102,7 @@ fn rename_row_by(
     ensures { Gives typing_of result (rename_row at (renamed_all names.now) (typing_of value)) }
 {
     match renamings(alloc, names) {
-        Ok(all) => rename_row_of(alloc, at, all, value),
+        Ok(all) => check_rename(alloc, at, all, value),
         Err(_) => {
             drop(value);
             Err(TypeFault::Memory)
@@ -112,7 +111,7 @@ fn rename_row_by(
 }
 
 /// A `group`, once its operand is typed.
-fn group_row_by(
+fn check_group_by(
     alloc: Global,
     at: u32,
     names: &Names,
@@ -122,7 +121,7 @@ fn group_row_by(
     ensures { Gives typing_of result (group_row at (words_of names.now) (aggregates_of aggs.now) (typing_of value)) }
 {
     match keys_and_aggregates(alloc, names, aggs) {
-        Ok((by, all)) => group_row_of(alloc, at, by, all, value),
+        Ok((by, all)) => check_group(alloc, at, by, all, value),
         Err(_) => {
             drop(value);
             Err(TypeFault::Memory)

@@ -3,7 +3,7 @@
 
 mod exprs;
 mod forms;
-mod scopes;
+mod waiting;
 
 pub use exprs::{args, expr};
-pub use scopes::{Waiting, leave, push_local, take_slot};
+pub use waiting::Waiting;

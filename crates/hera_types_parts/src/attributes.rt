@@ -1,45 +1,15 @@
 // Names and attributes in lists.
 
 ghost use Rattle.hera_meaning.specs.Forms.{kind_at};
-ghost use Rattle.hera_rules.specs.Rules.{attr_in, place_in, places_in, repeat_in, stranger_in, word_names};
-ghost use Rattle.hera_sets.specs.Rows.{holds, is_same};
-ghost use Rattle.std.specs.List.{list_any};
-ghost use Rattle.std.specs.Prelude.{IfErr, IfOk, OnOk, [], map, ◌++◌, ◌≡◌};
+ghost use Rattle.hera_rules.specs.Rules.{attr_in, place_in, places_in, stranger_in};
+ghost use Rattle.std.specs.Prelude.{IfErr, IfOk, OnOk, map, ◌++◌, ◌≡◌};
 ghost use Rattle.hera_rules.specs.declared.fault.TypeFault.TheVariants as fault;
 
 use crate::lists::put;
 use crate::same::{kind_of_place, place_of_name};
-use crate::tokens::{word, words};
 use hera_meaning::{Attr, Kind, Places, Schema};
 use hera_rules::{TypeFault, Word};
-use hera_sets::is_same;
 use std::alloc::{AllocError, Global};
-
-/// Whether one of the words has this name.
-pub fn stands_in(words: &[Word], name: &[u8]) -> bool
-    ensures { result ≡ holds (word_names words.now) name.now }
-{
-    any_word(words, name)
-}
-
-/// The same, name by name.
-fn any_word(words: &[Word], name: &[u8]) -> bool
-    ensures { result ≡ list_any (λ w. is_same name.now w.name) words.now }
-{
-    words.iter().any(|word| is_same(name, word.name.bytes()))
-}
-
-/// The fault of the first word whose name stands before.
-pub fn repeat_of(words: &[Word]) -> Option<TypeFault>
-    ensures { result ≡ repeat_in [] words.now }
-{
-    for i in 0..words.len() {
-        if stands_in(&words[..i], words[i].name.bytes()) {
-            return Some(TypeFault::Repeated { at: words[i].at });
-        }
-    }
-    None
-}
 
 /// The fault of the first word that is no attribute.
 pub fn stranger_of(schema: &Schema, words: &[Word]) -> Option<TypeFault>

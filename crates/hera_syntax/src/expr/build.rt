@@ -9,32 +9,32 @@ use super::*;
 
 impl Tail {
     /// An operator and its right operand.
-    pub fn new(op: Token, operand: Operand) -> Tail
+    pub fn new(op: Token, operand: OperandTree) -> Tail
         ensures { tail_outline result ≡ hold op ++ operand_outline operand }
     {
         Tail { op, operand }
     }
 }
 
-impl Operand {
+impl OperandTree {
     /// An expression of the next level.
-    pub fn inner(inner: Box<Expr>) -> Operand
+    pub fn inner(inner: Box<Expr>) -> OperandTree
         ensures { operand_outline result ≡ expr_outline inner.value }
     {
-        Operand::Inner(inner)
+        OperandTree::Inner(inner)
     }
 
     /// The operand of the last level.
-    pub fn prefix(prefix: Prefix) -> Operand
+    pub fn prefix(prefix: Prefix) -> OperandTree
         ensures { operand_outline result ≡ prefix_outline prefix }
     {
-        Operand::Prefix(prefix)
+        OperandTree::Prefix(prefix)
     }
 }
 
 impl Expr {
     /// A chain of operands. A comparison is none: it has at most one operator.
-    pub fn chain(level: Level, first: Operand, rest: Vec<Tail>) -> Expr
+    pub fn chain(level: Level, first: OperandTree, rest: Vec<Tail>) -> Expr
         requires { ¬ (level ≡ Level.Comparisons) }
         ensures { expr_outline result ≡ node (production_of level) 0 ++ operand_outline first ++ flat_map (tail_row level) rest.items ++ node (more_of level) 1 }
     {
@@ -42,7 +42,7 @@ impl Expr {
     }
 
     /// A comparison, or with no tail a sum that is not compared.
-    pub fn comparison(first: Operand, rest: Vec<Tail>) -> Expr
+    pub fn comparison(first: OperandTree, rest: Vec<Tail>) -> Expr
         requires { length rest.items ≤ 1 }
         ensures { expr_outline result ≡ node phrases.cmp 0 ++ operand_outline first ++ comparison_rest rest.items }
     {
@@ -137,7 +137,7 @@ impl Prime {
     }
 
     /// A call.
-    pub fn call(name: Token, bracket: Token, args: Box<Args>) -> Prime
+    pub fn call(name: Token, bracket: Token, args: Box<ArgTrees>) -> Prime
         ensures { prime_outline result ≡ node phrases.prime 5 ++ hold name ++ node phrases.call 0 ++ hold bracket ++ (node phrases.some_args 0 ++ args_outline args.value) ++ skip phrases.close_paren }
     {
         Prime::Call {
@@ -195,7 +195,13 @@ impl Prime {
     }
 
     /// A relation literal.
-    pub fn rows(word: Token, bracket: Token, name: Token, brace: Token, lines: Box<Lines>) -> Prime
+    pub fn rows(
+        word: Token,
+        bracket: Token,
+        name: Token,
+        brace: Token,
+        lines: Box<LineTrees>,
+    ) -> Prime
         ensures { prime_outline result ≡ node phrases.prime 9 ++ hold word ++ hold bracket ++ hold name ++ skip phrases.close_paren ++ hold brace ++ (node phrases.some_lines 0 ++ lines_outline lines.value) ++ skip phrases.close_brace }
     {
         Prime::Rows {
@@ -324,12 +330,12 @@ impl Prime {
     }
 }
 
-impl Args {
+impl ArgTrees {
     /// A list.
-    pub fn new(first: Expr, rest: Vec<Expr>) -> Args
+    pub fn new(first: Expr, rest: Vec<Expr>) -> ArgTrees
         ensures { args_outline result ≡ node phrases.args 0 ++ expr_outline first ++ flat_map args_row rest.items ++ node phrases.more_args 1 }
     {
-        Args { first, rest }
+        ArgTrees { first, rest }
     }
 }
 
@@ -351,12 +357,12 @@ impl Atoms {
     }
 }
 
-impl Lines {
+impl LineTrees {
     /// A list.
-    pub fn new(first: Line, rest: Vec<Line>) -> Lines
+    pub fn new(first: LineTree, rest: Vec<LineTree>) -> LineTrees
         ensures { lines_outline result ≡ node phrases.lines 0 ++ line_outline first ++ flat_map lines_row rest.items ++ node phrases.more_lines 1 }
     {
-        Lines { first, rest }
+        LineTrees { first, rest }
     }
 }
 
@@ -371,7 +377,7 @@ impl Binding {
 
 impl Atom {
     /// A signed atom.
-    pub fn new(sign: Token, name: Token, bracket: Token, args: Args) -> Atom
+    pub fn new(sign: Token, name: Token, bracket: Token, args: ArgTrees) -> Atom
         ensures { atom_outline result ≡ node phrases.atom 0 ++ hold sign ++ hold name ++ hold bracket ++ args_outline args ++ skip phrases.close_paren }
     {
         Atom {
@@ -383,12 +389,12 @@ impl Atom {
     }
 }
 
-impl Line {
+impl LineTree {
     /// A line of a relation literal.
-    pub fn new(bracket: Token, args: Args) -> Line
+    pub fn new(bracket: Token, args: ArgTrees) -> LineTree
         ensures { line_outline result ≡ node phrases.line 0 ++ hold bracket ++ args_outline args ++ skip phrases.close_paren }
     {
-        Line { bracket, args }
+        LineTree { bracket, args }
     }
 }
 

@@ -142,7 +142,7 @@ impl StmtTree {
     }
 
     /// A call of a proc.
-    pub fn call(name: Token, bracket: Token, args: Option<Args>) -> StmtTree
+    pub fn call(name: Token, bracket: Token, args: Option<ArgTrees>) -> StmtTree
         ensures { stmt_outline result ≡ node phrases.stmt 1 ++ hold name ++ node phrases.named 1 ++ hold bracket ++ some_args_outline args ++ skip phrases.close_paren ++ skip phrases.semicolon }
     {
         StmtTree::Call {

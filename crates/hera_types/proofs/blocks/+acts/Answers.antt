@@ -59,7 +59,7 @@ block-returns-clause-keeps t c =
     let whole = ap (λ xs. slots_of_acts (acts_in xs)) c.deref-stmt-items.ensures.value in
     let none = ap slots_of_acts (acts_none c.deref-stmt-items.result.now c.loop-stmt.stmt-index c.loop-stmt-test.false) in
     record {
-      locals = c.leave.ensures.locals ∙ cut_back inv.locals (c.len-depth.ensures ∙ c.args.scope.now.locals.ok.0);
+      locals = c.leave.ensures.locals ∙ cut_back inv.locals c.visible-depth.ensures;
       next = omega (arith, inv.slots, whole, none, c.leave.ensures.next);
     }
 
@@ -232,7 +232,7 @@ visit-returns-in_err-of-clause-checks t c =
     let slot = c.in_ok-slot in
     let took = slot.ensures.keeps in
     act_err g r ls n _ _ _ c.from_residual-in_err-of.ensures.1 (λ ne. visit_operand g r ls n read
-    (ap (λ ls. check g ls (n + 1) p) (sym took.locals) ∙ ap (λ m. check g c.take_slot.new.scope.locals.items m p) (sym took.next) ∙ c.in_err-of.ensures.checks ne))
+    (ap (λ ls. check g ls (n + 1) p) (sym took.locals) ∙ ap (λ m. check g c.take_slot.new.self.locals.items m p) (sym took.next) ∙ c.in_err-of.ensures.checks ne))
 
 pub visit-returns-in_err-local-clause-checks : goal.visit-returns-in_err-local-clause-checks
 visit-returns-in_err-local-clause-checks t c =
@@ -245,12 +245,12 @@ visit-returns-in_err-local-clause-checks t c =
     let slot = c.in_ok-slot in
     let took = slot.ensures.keeps in
     let typed : check g ls (n + 1) p ≡ Ok (typing_of c.in_ok-of.of) =
-    ap (λ ls. check g ls (n + 1) p) (sym took.locals) ∙ ap (λ m. check g c.take_slot.new.scope.locals.items m p) (sym took.next) ∙ c.in_ok-of.ensures.checks in
+    ap (λ ls. check g ls (n + 1) p) (sym took.locals) ∙ ap (λ m. check g c.take_slot.new.self.locals.items m p) (sym took.next) ∙ c.in_ok-of.ensures.checks in
     let of = c.in_ok-of in
     let same = of.ensures.keeps.locals ∙ took.locals in
     act_err g r ls n _ _ _ c.from_residual-in_err-local.ensures.1 (λ ne. visit_variable g r ls n read typed
-    (ap (λ ls. variable_row g ls (word_of c.args.name.now) c.args.at n of.of.shape) (sym (c.deref.ensures.value ∙ same))
-    ∙ ap (λ i. variable_row g c.deref.result.now (word_of c.args.name.now) c.args.at i of.of.shape) (sym slot.ensures.slot) ∙ c.in_err-local.ensures ne))
+    (ap (λ ls. variable_row g ls (word_of c.args.name.now) c.args.at n of.of.shape) (sym same)
+    ∙ ap (λ i. variable_row g c.expr.new.scope.locals.items (word_of c.args.name.now) c.args.at i of.of.shape) (sym slot.ensures.slot) ∙ c.in_err-local.ensures ne))
 
 pub visit-returns-in_err-body-clause-checks : goal.visit-returns-in_err-body-clause-checks
 visit-returns-in_err-body-clause-checks t c =
@@ -263,18 +263,18 @@ visit-returns-in_err-body-clause-checks t c =
     let slot = c.in_ok-slot in
     let took = slot.ensures.keeps in
     let typed : check g ls (n + 1) p ≡ Ok (typing_of c.in_ok-of.of) =
-    ap (λ ls. check g ls (n + 1) p) (sym took.locals) ∙ ap (λ m. check g c.take_slot.new.scope.locals.items m p) (sym took.next) ∙ c.in_ok-of.ensures.checks in
+    ap (λ ls. check g ls (n + 1) p) (sym took.locals) ∙ ap (λ m. check g c.take_slot.new.self.locals.items m p) (sym took.next) ∙ c.in_ok-of.ensures.checks in
     let of = c.in_ok-of in
     let same = of.ensures.keeps.locals ∙ took.locals in
     let variable : variable_row g ls (word_of c.args.name.now) c.args.at n of.of.shape ≡ Ok c.in_ok-local.local =
-    ap (λ ls. variable_row g ls (word_of c.args.name.now) c.args.at n of.of.shape) (sym (c.deref.ensures.value ∙ same))
-    ∙ ap (λ i. variable_row g c.deref.result.now (word_of c.args.name.now) c.args.at i of.of.shape) (sym slot.ensures.slot) ∙ c.in_ok-local.ensures in
+    ap (λ ls. variable_row g ls (word_of c.args.name.now) c.args.at n of.of.shape) (sym same)
+    ∙ ap (λ i. variable_row g c.expr.new.scope.locals.items (word_of c.args.name.now) c.args.at i of.of.shape) (sym slot.ensures.slot) ∙ c.in_ok-local.ensures in
     let local = c.in_ok-local.local in
-    let pushed : ls ++ local ∷ [] ≡ c.push_local.new.scope.locals.items = ap (λ ls. ls ++ local ∷ []) (sym same) ∙ sym c.in_ok-push_local.ensures.locals in
-    let count : c.push_local.new.scope.next ≡ n + 1 + slots_of p = omega (arith, took.next, of.ensures.keeps.next, c.in_ok-push_local.ensures.next) in
+    let pushed : ls ++ local ∷ [] ≡ c.push_local.new.self.locals.items = ap (λ ls. ls ++ local ∷ []) (sym same) ∙ sym c.in_ok-push_local.ensures.locals in
+    let count : c.push_local.new.self.next ≡ n + 1 + slots_of p = omega (arith, took.next, of.ensures.keeps.next, c.in_ok-push_local.ensures.next) in
     let acts = block_acts c.args.inner.now in
     act_err g r ls n _ _ _ c.from_residual-in_err-body.ensures.1 (λ ne. visit_body g r ls n read typed variable count
-    (ap (λ ls. check_acts g r ls c.push_local.new.scope.next [] acts) pushed ∙ c.in_err-body.ensures.checks ne))
+    (ap (λ ls. check_acts g r ls c.push_local.new.self.next [] acts) pushed ∙ c.in_err-body.ensures.checks ne))
 
 pub visit-returns-clause-checks : goal.visit-returns-clause-checks
 visit-returns-clause-checks t c =
@@ -287,24 +287,24 @@ visit-returns-clause-checks t c =
     let slot = c.in_ok-slot in
     let took = slot.ensures.keeps in
     let typed : check g ls (n + 1) p ≡ Ok (typing_of c.in_ok-of.of) =
-    ap (λ ls. check g ls (n + 1) p) (sym took.locals) ∙ ap (λ m. check g c.take_slot.new.scope.locals.items m p) (sym took.next) ∙ c.in_ok-of.ensures.checks in
+    ap (λ ls. check g ls (n + 1) p) (sym took.locals) ∙ ap (λ m. check g c.take_slot.new.self.locals.items m p) (sym took.next) ∙ c.in_ok-of.ensures.checks in
     let of = c.in_ok-of in
     let same = of.ensures.keeps.locals ∙ took.locals in
     let variable : variable_row g ls (word_of c.args.name.now) c.args.at n of.of.shape ≡ Ok c.in_ok-local.local =
-    ap (λ ls. variable_row g ls (word_of c.args.name.now) c.args.at n of.of.shape) (sym (c.deref.ensures.value ∙ same))
-    ∙ ap (λ i. variable_row g c.deref.result.now (word_of c.args.name.now) c.args.at i of.of.shape) (sym slot.ensures.slot) ∙ c.in_ok-local.ensures in
+    ap (λ ls. variable_row g ls (word_of c.args.name.now) c.args.at n of.of.shape) (sym same)
+    ∙ ap (λ i. variable_row g c.expr.new.scope.locals.items (word_of c.args.name.now) c.args.at i of.of.shape) (sym slot.ensures.slot) ∙ c.in_ok-local.ensures in
     let local = c.in_ok-local.local in
-    let pushed : ls ++ local ∷ [] ≡ c.push_local.new.scope.locals.items = ap (λ ls. ls ++ local ∷ []) (sym same) ∙ sym c.in_ok-push_local.ensures.locals in
-    let count : c.push_local.new.scope.next ≡ n + 1 + slots_of p = omega (arith, took.next, of.ensures.keeps.next, c.in_ok-push_local.ensures.next) in
+    let pushed : ls ++ local ∷ [] ≡ c.push_local.new.self.locals.items = ap (λ ls. ls ++ local ∷ []) (sym same) ∙ sym c.in_ok-push_local.ensures.locals in
+    let count : c.push_local.new.self.next ≡ n + 1 + slots_of p = omega (arith, took.next, of.ensures.keeps.next, c.in_ok-push_local.ensures.next) in
     let acts = block_acts c.args.inner.now in
     let body = c.in_ok-body in
-    let left : c.leave.new.scope.locals.items ≡ ls = c.leave.ensures.locals ∙ cut_back (extends_one local (body.ensures.keeps.locals ∙ sym pushed)) (c.len-depth.ensures ∙ c.args.scope.now.locals.ok.0) in
+    let left : c.leave.new.self.locals.items ≡ ls = c.leave.ensures.locals ∙ cut_back (extends_one local (body.ensures.keeps.locals ∙ sym pushed)) c.visible-depth.ensures in
     let core : foreach n (expr_of of.of.core) (block_from (commands_in body.body.items)) ≡ command_of (stmt_view.Foreach slot.slot c.into_core.result body.body) =
     ap (λ i. foreach i (expr_of of.of.core) (block_from (commands_in body.body.items))) (sym slot.ensures.slot)
     ∙ ap (λ e. foreach slot.slot (expr_of e) (block_from (commands_in body.body.items))) (sym (c.into_core.ensures ∙ ap (λ (v : Typed). v.core) c.into_typed-typed.ensures))
     ∙ ap (λ b. foreach slot.slot (expr_of c.into_core.result) b) (sym (block_of_commands body.body.items)) ∙ sym (command_of-Foreach slot.slot c.into_core.result body.body) in
-    visit_done g r ls n read typed variable count (ap (λ ls. check_acts g r ls c.push_local.new.scope.next [] acts) pushed ∙ body.ensures.checks)
-    ∙ ap (λ ls. Ok (done ls (foreach n (expr_of of.of.core) (block_from (commands_in body.body.items))))) (sym left) ∙ ap (λ s. Ok (done c.leave.new.scope.locals.items s)) core
+    visit_done g r ls n read typed variable count (ap (λ ls. check_acts g r ls c.push_local.new.self.next [] acts) pushed ∙ body.ensures.checks)
+    ∙ ap (λ ls. Ok (done ls (foreach n (expr_of of.of.core) (block_from (commands_in body.body.items))))) (sym left) ∙ ap (λ s. Ok (done c.leave.new.self.locals.items s)) core
 
 pub visit-returns-clause-next : goal.visit-returns-clause-next
 visit-returns-clause-next t c =
@@ -315,8 +315,8 @@ visit-returns-clause-grows t c =
     let ls = c.args.scope.now.locals.items in
     let same = c.in_ok-of.ensures.keeps.locals ∙ c.in_ok-slot.ensures.keeps.locals in
     let local = c.in_ok-local.local in
-    let pushed : ls ++ local ∷ [] ≡ c.push_local.new.scope.locals.items = ap (λ ls. ls ++ local ∷ []) (sym same) ∙ sym c.in_ok-push_local.ensures.locals in
-    extends_none (c.leave.ensures.locals ∙ cut_back (extends_one local (c.in_ok-body.ensures.keeps.locals ∙ sym pushed)) (c.len-depth.ensures ∙ c.args.scope.now.locals.ok.0))
+    let pushed : ls ++ local ∷ [] ≡ c.push_local.new.self.locals.items = ap (λ ls. ls ++ local ∷ []) (sym same) ∙ sym c.in_ok-push_local.ensures.locals in
+    extends_none (c.leave.ensures.locals ∙ cut_back (extends_one local (c.in_ok-body.ensures.keeps.locals ∙ sym pushed)) c.visible-depth.ensures)
 
 pub statement-returns-in-Commit-clause-checks : goal.statement-returns-in-Commit-clause-checks
 statement-returns-in-Commit-clause-checks t c =
@@ -338,6 +338,6 @@ statement-returns-in-Rollback-clause-checks t c =
     let at = c.in-Rollback.word.at in
     let func = c.is_some in
     let read : act_of c.args.e.now ≡ rolling_back at = ap act_of c.in-Rollback.is ∙ act_of-Rollback c.in-Rollback.word in
-    act_row g r ls n ls c.effect_row_of.result (act_of c.args.e.now) (effect_row func.result at (command_of Rollback))
+    act_row g r ls n ls c.check_effect.result (act_of c.args.e.now) (effect_row func.result at (command_of Rollback))
     (ap (λ a. check_act g r ls n a) read ∙ ap (λ b. stays ls (effect_row b at rollback)) (sym func.ensures) ∙ ap (λ s. stays ls (effect_row func.result at s)) (sym command_of-Rollback))
-    refl c.effect_row_of.ensures
+    refl c.check_effect.ensures

@@ -7,5 +7,5 @@ use Rattle.hera_types.proofs.bodies.func_bodies.Given as goal
 
 abbrev pub invariant-loop-i : goal.invariant-loop-i
 invariant-loop-i l =
-    check_funcs (env_of l.globals) [] l.globals.funcs.items (map func_phrase l.trees)
-    ≡ check_funcs (env_of l.globals) (bodies_of l.bodies) (drop l.i l.globals.funcs.items) (map func_phrase (drop l.i l.trees))
+    check_funcs (env_of l.globals) [] l.sigs (map func_phrase l.trees)
+    ≡ check_funcs (env_of l.globals) (bodies_of l.bodies) (drop l.i l.sigs) (map func_phrase (drop l.i l.trees))

@@ -1,4 +1,4 @@
-use Rattle.std.proofs.Common.{◌≡◌, ◌∙◌, length, min, arith}
+use Rattle.std.proofs.Common.{◌≡◌, ◌∙◌, length, min}
 use Rattle.hera_rules.specs.Environments.{env_of}
 use Rattle.hera_rules.specs.ReadActs.{proc_phrase}
 use Rattle.hera_types.specs.Passes.{bodies_of}
@@ -7,9 +7,9 @@ use Rattle.hera_types.proofs.bodies.proc_bodies.Goals as goal
 
 pub returns : goal.returns
 returns c =
-    let sigs = c.args.globals.now.procs in
+    let sigs = c.args.sigs.now in
     let trees = c.args.trees.now in
-    let count : c.min-count.result ≡ min (length trees) (length sigs.items) = omega (arith, c.min-count.ensures, c.len.ensures, sigs.ok.0) in
+    let count : c.min-count.result ≡ min (length trees) (length sigs) = c.min-count.ensures in
     c.loop-i.invariant
-    ∙ proc_bodies_end (env_of c.args.globals.now) proc_phrase sigs.items trees c.loop-i.i (bodies_of c.loop-i.bodies)
-    (past_one (length trees) (length sigs.items) c.min-count.result c.loop-i.i count c.loop-i-test.false)
+    ∙ proc_bodies_end (env_of c.args.globals.now) proc_phrase sigs trees c.loop-i.i (bodies_of c.loop-i.bodies)
+    (past_one (length trees) (length sigs) c.min-count.result c.loop-i.i count c.loop-i-test.false)

@@ -7,5 +7,5 @@ use Rattle.hera_types.proofs.bodies.proc_bodies.Given as goal
 
 abbrev pub invariant-loop-i : goal.invariant-loop-i
 invariant-loop-i l =
-    check_procs (env_of l.globals) (bodies_of l.initial.bodies) l.globals.procs.items (map proc_phrase l.trees)
-    ≡ check_procs (env_of l.globals) (bodies_of l.bodies) (drop l.i l.globals.procs.items) (map proc_phrase (drop l.i l.trees))
+    check_procs (env_of l.globals) (bodies_of l.initial.bodies) l.sigs (map proc_phrase l.trees)
+    ≡ check_procs (env_of l.globals) (bodies_of l.bodies) (drop l.i l.sigs) (map proc_phrase (drop l.i l.trees))

@@ -74,4 +74,4 @@ returns c =
       procs = ap (λ ws. names_row c.in_ok-some.some ws) (names-of_procs tree.procs.items) ∙ taken;
     } in
     let count : c.len.result ≡ length c.in_ok-funcs.funcs.items = omega (arith, c.len.ensures, c.in_ok-funcs.funcs.ok.0) in
-    env_done c.args.hosts.now (script_of tree) named (ap (λ ts. funcs_row rels c.in_ok-taken.taken [] (map func_phrase ts)) (sym c.deref-4.ensures.value) ∙ c.in_ok-funcs.ensures) (ap (λ n. procs_row rels c.in_ok-taken.taken n [] (map proc_phrase tree.procs.items)) (sym count) ∙ ap (λ ts. procs_row rels c.in_ok-taken.taken c.len.result [] (map proc_phrase ts)) (sym c.deref-5.ensures.value) ∙ c.in_ok-procs.ensures)
+    env_done c.args.hosts.now (script_of tree) named (ap (λ ts. funcs_row rels c.in_ok-taken.taken [] (map func_phrase ts)) (sym c.deref-4.ensures.value) ∙ c.in_ok-funcs.ensures) (ap (λ n. procs_row rels c.in_ok-taken.taken n [] (map proc_phrase tree.procs.items)) (sym count) ∙ ap (λ ts. procs_row rels c.in_ok-taken.taken c.len.result [] (map proc_phrase ts)) (sym c.deref-5.ensures.value) ∙ c.in_ok-procs.ensures) ∙ ap (λ g. Ok (env_of g)) (sym c.in_ok-new.ensures)

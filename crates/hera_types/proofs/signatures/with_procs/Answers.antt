@@ -7,7 +7,7 @@ use Rattle.hera_types.proofs.signatures.with_procs.Goals as goal
 
 pub loop-tree-preserved : goal.loop-tree-preserved
 loop-tree-preserved c =
-    c.loop-tree.invariant ∙ names_turn (λ (t : Proc). word_of t.name) c.args.trees.now c.loop-tree.tree-index c.tree-item.result c.loop-tree.names c.loop-tree-test.true c.tree-item.is c.in_ok-name.ensures.row (c.in_ok-add.ensures ∙ ap (λ n. c.loop-tree.names ++ n ∷ []) c.bytes.ensures.bytes)
+    c.loop-tree.invariant ∙ names_turn (λ (t : Proc). word_of t.name) c.args.trees.now c.loop-tree.tree-index c.tree-item.result c.loop-tree.names c.loop-tree-test.true c.tree-item.is c.in_ok-name.ensures.row (c.in_ok-add.ensures.added ∙ ap (λ n. c.loop-tree.names ++ n ∷ []) c.bytes.ensures.bytes)
 
 pub returns-in_err-name : goal.returns-in_err-name
 returns-in_err-name c =

@@ -13,4 +13,4 @@ returns c =
     let core : command_of (Commit c.in_ok-copy.copy) ≡ trees.commit (label_of c.args.label.now) = command_of-Commit c.in_ok-copy.copy ∙ ap trees.commit c.in_ok-copy.ensures.label in
     let row : effect_row c.is_some.result c.args.at (command_of (Commit c.in_ok-copy.copy)) ≡ effect_row (is_some c.args.returned.now) c.args.at (trees.commit (label_of c.args.label.now)) =
     ap (λ b. effect_row b c.args.at (command_of (Commit c.in_ok-copy.copy))) c.is_some.ensures ∙ ap (λ k. effect_row (is_some c.args.returned.now) c.args.at k) core in
-    subst (λ r. Gives command_of c.effect_row_of.result r) row c.effect_row_of.ensures
+    subst (λ r. Gives command_of c.check_effect.result r) row c.check_effect.ensures

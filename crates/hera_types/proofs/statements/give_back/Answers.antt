@@ -16,7 +16,7 @@ returns-in-None-clause-checks c =
     let ls = c.args.scope.now.locals.items in
     let n = c.args.scope.now.next in
     let w = c.args.word.now in
-    act_row g r ls n ls c.return_row_of.result (return_act w c.args.value.now) (return_row r w.at) (ap (λ v. check_act g r ls n (return_act w v)) c.in-None.is) refl c.return_row_of.ensures
+    act_row g r ls n ls c.check_return.result (return_act w c.args.value.now) (return_row r w.at) (ap (λ v. check_act g r ls n (return_act w v)) c.in-None.is) refl c.check_return.ensures
 
 pub returns-in-None-clause-next : goal.returns-in-None-clause-next
 returns-in-None-clause-next c =

@@ -257,7 +257,7 @@ walk-returns-clause-keeps t c =
     let local = c.in_ok-local.local in
     let pushed = c.in_ok-push_local.ensures in
     let inner = c.in_ok-inner.ensures.keeps in
-    let kept : Keeps c.args.scope.now c.leave.new.scope (1 + slots_of (expr_phrase c.args.over.now) + slots_of (expr_phrase c.args.body.now)) = record {
-      locals = c.leave.ensures.locals ∙ left_behind _ local _ (inner.locals ∙ pushed.locals ∙ ap (λ ls. ls ++ local ∷ []) (of.locals ∙ slot.locals)) (c.len-depth.ensures ∙ c.args.scope.now.locals.ok.0);
+    let kept : Keeps c.args.scope.now c.leave.new.self (1 + slots_of (expr_phrase c.args.over.now) + slots_of (expr_phrase c.args.body.now)) = record {
+      locals = c.leave.ensures.locals ∙ left_behind _ local _ (inner.locals ∙ pushed.locals ∙ ap (λ ls. ls ++ local ∷ []) (of.locals ∙ slot.locals)) c.visible-depth.ensures;
       next = omega (arith, c.leave.ensures.next, inner.next, pushed.next, of.next, slot.next);
     } in on_ok _ kept

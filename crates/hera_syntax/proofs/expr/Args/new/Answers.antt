@@ -1,7 +1,0 @@
-use Rattle.std.proofs.Common.{rules}
-use Rattle.hera_syntax.specs.declared.expr.Args.{the_lemmas}
-use Rattle.hera_syntax.proofs.Rows.{args_rows}
-use Rattle.hera_syntax.proofs.expr.Args.new.Goals as goal
-
-pub returns : goal.returns
-returns c = search (rules, the_lemmas, args_rows)

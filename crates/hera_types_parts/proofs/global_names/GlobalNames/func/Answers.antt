@@ -1,0 +1,15 @@
+use Rattle.std.proofs.Common.{◌∙◌, ap, sym}
+use Rattle.std.specs.List.{position}
+use Rattle.hera_sets.specs.Rows.{is_same}
+use Rattle.hera_rules.specs.Environments.{func_named}
+use Rattle.hera_types_parts.specs.NameSets.{at_place, func_name}
+use Rattle.hera_types_parts.proofs.Sets.{named_at}
+use Rattle.hera_types_parts.proofs.global_names.GlobalNames.func.Goals as goal
+
+pub returns : goal.returns
+returns c =
+    let held = c.self.inside.globals.funcs.items in
+    c.item_at.ensures ∙ ap (λ xs. at_place xs c.place.result) c.deref.ensures.value
+    ∙ ap (at_place held) (c.place.ensures ∙ ap (position (is_same c.args.name.now)) c.self.invariant.0)
+    ∙ named_at func_name c.args.name.now held
+    ∙ ap (λ g. func_named c.args.name.now g.funcs.items) c.self.view_is
