@@ -13,7 +13,7 @@ use Rattle.hera_meaning.specs.Deltas.{Atom, Delta, atoms, key_of, keys_of, unnam
 use Rattle.hera_meaning.specs.Values.{same_sign}
 use Rattle.hera_meaning.proofs.Atoms.{ascending_joint}
 use Rattle.delta_atoms.specs.Atoms.{atom_of, sign_at, with_last}
-use Rattle.delta_atoms.specs.declared.parts.Part.{Part}
+use Rattle.delta_atoms.specs.declared.parts.DeltaPart.{DeltaPart}
 use Rattle.delta_atoms.specs.Parts.{atoms_of, rows_at, AreOrdered, ArePacked}
 use Rattle.delta_atoms.specs.Edits.{HaveSame, Puts, Takes, gives, is_atom, stands, turned, PutsAll, PutsSome, TakesAll, news}
 use Rattle.delta_atoms.proofs.Signs.{first_of, sign_at_nil, none_signed, sign_at-append, sign_at-in_order, same_signs}
@@ -33,7 +33,7 @@ same_sym a b =
     apart false e f = refl
 
 -- the members after a row is put in, or taken out
-holds-puts : (a : Atom) (old new : List Part) → Puts a old new → (s : Sign) (n : ℕ) (r : Row) → holds (rows_at s n new) r ≡ (is_atom s n r a || holds (rows_at s n old) r)
+holds-puts : (a : Atom) (old new : List DeltaPart) → Puts a old new → (s : Sign) (n : ℕ) (r : Row) → holds (rows_at s n new) r ≡ (is_atom s n r a || holds (rows_at s n old) r)
 holds-puts a old new h s n r =
     ap (λ t. holds t r) (h s n)
     ∙ by (same_sign s a.sign) (eqb n a.rel)
@@ -44,7 +44,7 @@ holds-puts a old new h s n r =
     by true false = refl
     by false v = refl
 
-holds-takes : (a : Atom) (old new : List Part) → Takes a old new → (s : Sign) (n : ℕ) (r : Row) → holds (rows_at s n new) r ≡ (not (is_atom s n r a) && holds (rows_at s n old) r)
+holds-takes : (a : Atom) (old new : List DeltaPart) → Takes a old new → (s : Sign) (n : ℕ) (r : Row) → holds (rows_at s n new) r ≡ (not (is_atom s n r a) && holds (rows_at s n old) r)
 holds-takes a old new h s n r =
     ap (λ t. holds t r) (h s n)
     ∙ by (same_sign s a.sign) (eqb n a.rel)
@@ -73,20 +73,20 @@ stands-push xs a s n r = stands-append xs (a ∷ []) s n r ∙ swap (stands xs s
     swap false false = refl
 
 -- atoms put in, one after another
-pub puts_step : (xs : List Atom) (a : Atom) (old mid new : List Part) → PutsAll xs old mid → Puts a mid new → PutsAll (xs ++ a ∷ []) old new
+pub puts_step : (xs : List Atom) (a : Atom) (old mid new : List DeltaPart) → PutsAll xs old mid → Puts a mid new → PutsAll (xs ++ a ∷ []) old new
 puts_step xs a old mid new h g s n r =
     holds-puts a mid new g s n r
     ∙ ap (λ b. is_atom s n r a || b) (h s n r)
     ∙ or_assoc (is_atom s n r a) (stands xs s n r) (holds (rows_at s n old) r)
     ∙ ap (λ b. b || holds (rows_at s n old) r) (sym (stands-push xs a s n r))
 
-pub puts_some : (xs ys rest : List Atom) (old mid new : List Part) → PutsAll xs old mid → HaveSame mid new → xs ++ rest ≡ ys → PutsSome ys old new
+pub puts_some : (xs ys rest : List Atom) (old mid new : List DeltaPart) → PutsAll xs old mid → HaveSame mid new → xs ++ rest ≡ ys → PutsSome ys old new
 puts_some xs ys rest old mid new h g e s n r none =
     ap (λ t. holds t r) (g s n)
     ∙ h s n r
     ∙ ap (λ b. b || holds (rows_at s n old) r) (or_parts (stands xs s n r) (stands rest s n r) (sym (stands-append xs rest s n r) ∙ ap (λ t. stands t s n r) e ∙ none)).0
 
-pub puts_whole : (ys : List Atom) (old new : List Part) → PutsAll ys old new → PutsSome ys old new
+pub puts_whole : (ys : List Atom) (old new : List DeltaPart) → PutsAll ys old new → PutsSome ys old new
 puts_whole ys old new h s n r none = h s n r ∙ ap (λ b. b || holds (rows_at s n old) r) none
 
 -- atoms taken out, one after another
@@ -97,7 +97,7 @@ turn_other true Plus Minus = refl
 turn_other true Minus Plus = refl
 turn_other true Minus Minus = refl
 
-pub takes_step : (t : Bool) (xs : List Atom) (a : Atom) (old mid new : List Part) → TakesAll t xs old mid → Takes (atom_of (turned t a.sign) a.rel a.row) mid new → TakesAll t (xs ++ a ∷ []) old new
+pub takes_step : (t : Bool) (xs : List Atom) (a : Atom) (old mid new : List DeltaPart) → TakesAll t xs old mid → Takes (atom_of (turned t a.sign) a.rel a.row) mid new → TakesAll t (xs ++ a ∷ []) old new
 takes_step t xs a old mid new h g s n r =
     holds-takes (atom_of (turned t a.sign) a.rel a.row) mid new g s n r
     ∙ (λ i. not (turn_other t s a.sign i && is_same (n ∷ r) (key_of a)) && h s n r i)
@@ -126,10 +126,10 @@ stands-signs (a ∷ xs) s n r up = ap (λ b. is_atom s n r a || b) (stands-signs
     by false e = there (same_sign s a.sign) (sign_at xs (n ∷ r))
 
 -- the same members
-pub same_packed : (old new : List Part) → ArePacked old → AreOrdered new → ((s : Sign) (n : ℕ) (r : Row) → holds (rows_at s n new) r ≡ holds (rows_at s n old) r) → ArePacked new
+pub same_packed : (old new : List DeltaPart) → ArePacked old → AreOrdered new → ((s : Sign) (n : ℕ) (r : Row) → holds (rows_at s n new) r ≡ holds (rows_at s n old) r) → ArePacked new
 same_packed old new k up h = record { ordered = up; apart = λ n r. (λ i. h Plus n r i && h Minus n r i) ∙ k.apart n r }
 
-pub same_atoms_of : (old new : List Part) → ArePacked old → AreOrdered new → ((s : Sign) (n : ℕ) (r : Row) → holds (rows_at s n new) r ≡ holds (rows_at s n old) r) → atoms_of new ≡ atoms_of old
+pub same_atoms_of : (old new : List DeltaPart) → ArePacked old → AreOrdered new → ((s : Sign) (n : ℕ) (r : Row) → holds (rows_at s n new) r ≡ holds (rows_at s n old) r) → atoms_of new ≡ atoms_of old
 same_atoms_of old new k up h =
     same_signs (atoms_of new) (atoms_of old) (ascending_atoms_of new up (same_packed old new k up h).apart) (ascending_atoms_of old k.ordered k.apart) at
   where
@@ -137,7 +137,7 @@ same_atoms_of old new k up h =
     at [] = sign_at_nil (atoms_of new) ∙ sym (sign_at_nil (atoms_of old))
     at (n ∷ r) = sign_at-atoms_of new n r up ∙ (λ i. sign_in (h Plus n r i) (h Minus n r i)) ∙ sym (sign_at-atoms_of old n r k.ordered)
 
-pub same_members : (old new : List Part) → HaveSame old new → (s : Sign) (n : ℕ) (r : Row) → holds (rows_at s n new) r ≡ holds (rows_at s n old) r
+pub same_members : (old new : List DeltaPart) → HaveSame old new → (s : Sign) (n : ℕ) (r : Row) → holds (rows_at s n new) r ≡ holds (rows_at s n old) r
 same_members old new h s n r = ap (λ t. holds t r) (h s n)
 
 -- ---- one atom behind all others
@@ -175,7 +175,7 @@ push_apart false Minus None f = refl
 push_apart false Minus (Some Plus) f = refl
 push_apart false Minus (Some Minus) f = refl
 
-module _ (a : Atom) (old new : List Part) (k : ArePacked old) (up : AreOrdered new) (h : Puts a old new) (g : IsAscending (keys_of (atoms_of old ++ a ∷ []))) where
+module _ (a : Atom) (old new : List DeltaPart) (k : ArePacked old) (up : AreOrdered new) (h : Puts a old new) (g : IsAscending (keys_of (atoms_of old ++ a ∷ []))) where
   members : (s : Sign) (n : ℕ) (r : Row) → holds (rows_at s n new) r ≡ (is_atom s n r a || gives (sign_at (atoms_of old) (n ∷ r)) s)
   members s n r = holds-puts a old new h s n r ∙ ap (λ b. is_atom s n r a || b) (rows_give s n old r k)
 
@@ -263,7 +263,7 @@ sign_at-joint xs ys k up =
     ∙ sign_at-append ys (unnamed xs ys) k
     ∙ ap (first_of (sign_at ys k)) (sign_at-filter (λ q s. not (holds (keys_of ys) q)) xs k up ∙ ap (λ b. keep (λ s. not b) (sign_at xs k)) (holds-keys_of ys k))
 
-module _ (ys : List Atom) (old mid new : List Part) (k : ArePacked old) (up : AreOrdered new) (uy : IsAscending (keys_of ys)) where
+module _ (ys : List Atom) (old mid new : List DeltaPart) (k : ArePacked old) (up : AreOrdered new) (uy : IsAscending (keys_of ys)) where
   abbrev fresh : List Atom
   fresh = news (atoms_of old) ys
 
@@ -393,7 +393,7 @@ miss_table None x s h = refl
 miss_table (Some t) None s h = absurd (false≢true h)
 miss_table (Some t) (Some u) s h = absurd (false≢true h)
 
-module _ (xs : List Atom) (old mid : List Part) (k : ArePacked old) (ux : IsAscending (keys_of xs)) where
+module _ (xs : List Atom) (old mid : List DeltaPart) (k : ArePacked old) (ux : IsAscending (keys_of xs)) where
   abbrev absent : List Atom
   absent = unnamed xs (atoms_of old)
 
@@ -424,7 +424,7 @@ module _ (xs : List Atom) (old mid : List Part) (k : ArePacked old) (ux : IsAsce
           ∙ sym (sign_at-joint xs (atoms_of old) (n ∷ r) ux)
 
   -- some put in, and then taken out again
-  pub under_undone : (new : List Part) → PutsSome absent old mid → TakesAll false absent mid new → (s : Sign) (n : ℕ) (r : Row) → holds (rows_at s n new) r ≡ holds (rows_at s n old) r
+  pub under_undone : (new : List DeltaPart) → PutsSome absent old mid → TakesAll false absent mid new → (s : Sign) (n : ℕ) (r : Row) → holds (rows_at s n new) r ≡ holds (rows_at s n old) r
   under_undone new h g s n r = g s n r ∙ by (stands absent s n r) refl
     where
       by : (b : Bool) → stands absent s n r ≡ b → (not b && holds (rows_at s n mid) r) ≡ holds (rows_at s n old) r

@@ -8,16 +8,16 @@ use Rattle.hera_meaning.specs.declared.scalars.Sign.TheVariants.{Plus, Minus}
 use Rattle.hera_meaning.specs.Deltas.{Atom, Delta, fail, atoms, IsDelta, keys_of}
 use Rattle.hera_meaning.specs.Values.{same_sign, same_atom}
 use Rattle.delta_atoms.specs.Atoms.{atoms_in, part_of}
-use Rattle.delta_atoms.specs.declared.parts.Part.{Part}
+use Rattle.delta_atoms.specs.declared.parts.DeltaPart.{DeltaPart}
 use Rattle.delta_atoms.specs.Parts.{side, atoms_of, ArePacked}
 use Rattle.delta_atoms.specs.Edits.{IsAt, IsGap}
 use Rattle.delta_atoms.proofs.Places.{at_rows, at_part, gap_none}
 use Rattle.delta_atoms.proofs.Sides.{part_is}
 
-pub part_at : (ps : List Part) (n i : ℕ) (s : Sign) (p : Part) → ArePacked ps → IsAt ps n i → p ≡ get_or ps i p → side s p ≡ part_of (atoms_of ps) n s
+pub part_at : (ps : List DeltaPart) (n i : ℕ) (s : Sign) (p : DeltaPart) → ArePacked ps → IsAt ps n i → p ≡ get_or ps i p → side s p ≡ part_of (atoms_of ps) n s
 part_at ps n i s p k h e = ap (side s) (at_part ps n i h p e) ∙ sym (at_rows s ps n i h k.ordered) ∙ sym (part_is ps n s k)
 
-pub part_gap : (ps : List Part) (n i : ℕ) (s : Sign) → ArePacked ps → IsGap ps n i → let none : List (List ℕ) = [] in none ≡ part_of (atoms_of ps) n s
+pub part_gap : (ps : List DeltaPart) (n i : ℕ) (s : Sign) → ArePacked ps → IsGap ps n i → let none : List (List ℕ) = [] in none ≡ part_of (atoms_of ps) n s
 part_gap ps n i s k h = sym (part_is ps n s k ∙ gap_none s ps n i h)
 
 -- a delta's atoms ascend

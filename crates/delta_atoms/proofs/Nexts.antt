@@ -13,7 +13,7 @@ use Rattle.hera_meaning.specs.declared.scalars.Sign.{Sign}
 use Rattle.hera_meaning.specs.declared.scalars.Sign.TheVariants.{Plus, Minus}
 use Rattle.hera_meaning.specs.Deltas.{Atom, key_of, keys_of}
 use Rattle.delta_atoms.specs.Atoms.{atom_of, bulk_of, sign_at, is_after}
-use Rattle.delta_atoms.specs.declared.parts.Part.{Part}
+use Rattle.delta_atoms.specs.declared.parts.DeltaPart.{DeltaPart}
 use Rattle.delta_atoms.specs.Parts.{side, lesser, atoms_at, atoms_of, rows_at, IsPackedPart, AreOrdered, ArePacked}
 use Rattle.delta_atoms.proofs.Signs.{same_atom_by, keys_of-in_order, keys_of-append}
 use Rattle.delta_atoms.proofs.PartSigns.{sign_at-atoms_at, distinct_part, ascending_bulk}
@@ -90,26 +90,26 @@ find_held b (x ∷ rows) r h = by (is_past b x) h (λ g. find_held b rows r g)
     by false g f = rw (f g) (or_true (is_same r x))
 
 -- the keys of one relation's atoms
-keys_of-atoms_at : (p : Part) → IsPackedPart p → keys_of (atoms_at p) ≡ union_of (keys_of (bulk_of Plus p.rel.0 p.plus)) (keys_of (bulk_of Minus p.rel.0 p.minus))
+keys_of-atoms_at : (p : DeltaPart) → IsPackedPart p → keys_of (atoms_at p) ≡ union_of (keys_of (bulk_of Plus p.rel.0 p.plus)) (keys_of (bulk_of Minus p.rel.0 p.minus))
 keys_of-atoms_at p h = keys_of-in_order _ (distinct_part p h.part h.apart) ∙ ap Rattle.hera_sets.specs.Rows.normal (keys_of-append (bulk_of Plus p.rel.0 p.plus) (bulk_of Minus p.rel.0 p.minus))
 
-first_key : (p : Part) (kb : Option Row) → IsPackedPart p → least_of (find (is_past kb) (keys_of (bulk_of Plus p.rel.0 p.plus))) (find (is_past kb) (keys_of (bulk_of Minus p.rel.0 p.minus))) ≡ find (is_past kb) (keys_of (atoms_at p))
+first_key : (p : DeltaPart) (kb : Option Row) → IsPackedPart p → least_of (find (is_past kb) (keys_of (bulk_of Plus p.rel.0 p.plus))) (find (is_past kb) (keys_of (bulk_of Minus p.rel.0 p.minus))) ≡ find (is_past kb) (keys_of (atoms_at p))
 first_key p kb h =
     find-union kb (keys_of (bulk_of Plus p.rel.0 p.plus)) (keys_of (bulk_of Minus p.rel.0 p.minus)) (ascending_bulk Plus p.rel.0 p.plus h.part.plus) (ascending_bulk Minus p.rel.0 p.minus h.part.minus)
     ∙ ap (find (is_past kb)) (sym (keys_of-atoms_at p h))
 
 -- a held row's sign
-sign_plus : (p : Part) (r : Row) → holds p.plus r ≡ true → sign_at (atoms_at p) (p.rel.0 ∷ r) ≡ Some Plus
+sign_plus : (p : DeltaPart) (r : Row) → holds p.plus r ≡ true → sign_at (atoms_at p) (p.rel.0 ∷ r) ≡ Some Plus
 sign_plus p r h = sign_at-atoms_at p p.rel.0 r ∙ rw (eq-eqb p.rel.0 p.rel.0 refl, h) refl
 
-sign_minus : (p : Part) (r : Row) → IsPackedPart p → holds p.minus r ≡ true → sign_at (atoms_at p) (p.rel.0 ∷ r) ≡ Some Minus
+sign_minus : (p : DeltaPart) (r : Row) → IsPackedPart p → holds p.minus r ≡ true → sign_at (atoms_at p) (p.rel.0 ∷ r) ≡ Some Minus
 sign_minus p r k h = sign_at-atoms_at p p.rel.0 r ∙ rw (eq-eqb p.rel.0 p.rel.0 refl, free (holds p.plus r) (holds p.minus r) (k.apart r) h, h) refl
   where
     free : (c d : Bool) → (c && d) ≡ false → d ≡ true → c ≡ false
     free true d f g = absurd (both_ways _ f g)
     free false d f g = refl
 
-lesser-sign : (p : Part) (b : Option Row) (u v : Option Row) → u ≡ find (is_past b) p.plus → v ≡ find (is_past b) p.minus → IsPackedPart p → (a : Atom) → lesser p.rel.0 u v ≡ Some a → sign_at (atoms_at p) (key_of a) ≡ Some a.sign
+lesser-sign : (p : DeltaPart) (b : Option Row) (u v : Option Row) → u ≡ find (is_past b) p.plus → v ≡ find (is_past b) p.minus → IsPackedPart p → (a : Atom) → lesser p.rel.0 u v ≡ Some a → sign_at (atoms_at p) (key_of a) ≡ Some a.sign
 lesser-sign p b None None e f k a g = absurd (none-some a g)
 lesser-sign p b (Some x) None e f k a g = subst (λ (c : Atom). sign_at (atoms_at p) (key_of c) ≡ Some c.sign) (same_Some _ a g) (sign_plus p x (find_held b p.plus x (sym e)))
 lesser-sign p b None (Some y) e f k a g = subst (λ (c : Atom). sign_at (atoms_at p) (key_of c) ≡ Some c.sign) (same_Some _ a g) (sign_minus p y k (find_held b p.minus y (sym f)))
@@ -120,7 +120,7 @@ lesser-sign p b (Some x) (Some y) e f k a g = by (is_below y x) g
     by false h = subst (λ (c : Atom). sign_at (atoms_at p) (key_of c) ≡ Some c.sign) (same_Some _ a h) (sign_plus p x (find_held b p.plus x (sym e)))
 
 -- the lesser of the first rows is the first atom
-pub lesser_found : (p : Part) (kb b : Option Row) → IsPackedPart p → ((x : Row) → is_past kb (p.rel.0 ∷ x) ≡ is_past b x) → lesser p.rel.0 (find (is_past b) p.plus) (find (is_past b) p.minus) ≡ find (is_after kb) (atoms_at p)
+pub lesser_found : (p : DeltaPart) (kb b : Option Row) → IsPackedPart p → ((x : Row) → is_past kb (p.rel.0 ∷ x) ≡ is_past b x) → lesser p.rel.0 (find (is_past b) p.plus) (find (is_past b) p.minus) ≡ find (is_after kb) (atoms_at p)
 lesser_found p kb b h f =
     found_is kb (atoms_at p) (lesser p.rel.0 (find (is_past b) p.plus) (find (is_past b) p.minus))
     (lesser-key p.rel.0 (find (is_past b) p.plus) (find (is_past b) p.minus)
@@ -128,7 +128,7 @@ lesser_found p kb b h f =
     ∙ first_key p kb h)
     (lesser-sign p b _ _ refl refl h)
 
-pub none_found : (p : Part) (kb : Option Row) → IsPackedPart p → ((x : Row) → is_past kb (p.rel.0 ∷ x) ≡ false) → None ≡ find (is_after kb) (atoms_at p)
+pub none_found : (p : DeltaPart) (kb : Option Row) → IsPackedPart p → ((x : Row) → is_past kb (p.rel.0 ∷ x) ≡ false) → None ≡ find (is_after kb) (atoms_at p)
 none_found p kb h f =
     found_is kb (atoms_at p) None
     (sym (λ i. least_of (find-bulk_none Plus p.rel.0 kb p.plus f i) (find-bulk_none Minus p.rel.0 kb p.minus f i)) ∙ first_key p kb h)
@@ -161,17 +161,17 @@ find-append_some q (x ∷ xs) ys a h = by (q x) h (λ g. find-append_some q xs y
     by true g f = g
     by false g f = f g
 
-rest_of : (ps : List Part) (i : ℕ) (p : Part) → i < length ps → p ≡ get_or ps i p → drop i ps ≡ p ∷ drop (i + 1) ps
+rest_of : (ps : List DeltaPart) (i : ℕ) (p : DeltaPart) → i < length ps → p ≡ get_or ps i p → drop i ps ≡ p ∷ drop (i + 1) ps
 rest_of ps i p h e = drop_more ps i p h ∙ (λ k. sym e k ∷ drop (i + 1) ps)
 
-pub next_part : (q : Atom → Bool) (ps : List Part) (i : ℕ) (p : Part) → i < length ps → p ≡ get_or ps i p → None ≡ find q (atoms_at p) → find q (atoms_of (drop (i + 1) ps)) ≡ find q (atoms_of (drop i ps))
+pub next_part : (q : Atom → Bool) (ps : List DeltaPart) (i : ℕ) (p : DeltaPart) → i < length ps → p ≡ get_or ps i p → None ≡ find q (atoms_at p) → find q (atoms_of (drop (i + 1) ps)) ≡ find q (atoms_of (drop i ps))
 next_part q ps i p h e g = sym (ap (λ t. find q (atoms_of t)) (rest_of ps i p h e) ∙ find-append_none q (atoms_at p) (atoms_of (drop (i + 1) ps)) (sym g))
 
-pub this_part : (q : Atom → Bool) (ps : List Part) (i : ℕ) (p : Part) (a : Atom) → i < length ps → p ≡ get_or ps i p → Some a ≡ find q (atoms_at p) → Some a ≡ find q (atoms_of (drop i ps))
+pub this_part : (q : Atom → Bool) (ps : List DeltaPart) (i : ℕ) (p : DeltaPart) (a : Atom) → i < length ps → p ≡ get_or ps i p → Some a ≡ find q (atoms_at p) → Some a ≡ find q (atoms_of (drop i ps))
 this_part q ps i p a h e g = sym (ap (λ t. find q (atoms_of t)) (rest_of ps i p h e) ∙ find-append_some q (atoms_at p) (atoms_of (drop (i + 1) ps)) a (sym g))
 
 -- the part at a place is packed, and stands behind as many others
-pub packed_at : (ps : List Part) (i : ℕ) (p : Part) → ArePacked ps → i < length ps → p ≡ get_or ps i p → IsPackedPart p
+pub packed_at : (ps : List DeltaPart) (i : ℕ) (p : DeltaPart) → ArePacked ps → i < length ps → p ≡ get_or ps i p → IsPackedPart p
 packed_at ps i p h k e =
     let up = subst AreOrdered (place_split ps i p k e) h.ordered in
     record { part = ordered_part (take i ps) p (drop (suc i) ps) up; apart = λ r. (λ j. (holds (here up Plus j) r && holds (here up Minus j) r)) ∙ h.apart p.rel.0 r }
@@ -183,14 +183,14 @@ packed_at ps i p h k e =
         ∙ rw (eq-eqb p.rel.0 p.rel.0 refl) refl)
 
 -- there are no more parts than numbers of relations
-counted_from : (m : ℕ) (x : Part) (front : List Part) (p : Part) (rest : List Part) → m ≤ x.rel.0 → AreOrdered (x ∷ front ++ p ∷ rest) → m + suc (length front) ≤ p.rel.0
+counted_from : (m : ℕ) (x : DeltaPart) (front : List DeltaPart) (p : DeltaPart) (rest : List DeltaPart) → m ≤ x.rel.0 → AreOrdered (x ∷ front ++ p ∷ rest) → m + suc (length front) ≤ p.rel.0
 counted_from m x [] p rest h up = omega (arith, h, up.0.1.0)
 counted_from m x (y ∷ front) p rest h up = omega (arith, counted_from (suc m) y front p rest (omega (arith, h, up.0.1.0)) up.1)
 
-front_count : (front : List Part) (p : Part) (rest : List Part) → AreOrdered (front ++ p ∷ rest) → length front ≤ p.rel.0
+front_count : (front : List DeltaPart) (p : DeltaPart) (rest : List DeltaPart) → AreOrdered (front ++ p ∷ rest) → length front ≤ p.rel.0
 front_count [] p rest up = omega arith
 front_count (x ∷ front) p rest up = omega (arith, counted_from 0 x front p rest (omega arith) up)
 
-pub place_count : (ps : List Part) (i : ℕ) (p : Part) → AreOrdered ps → i < length ps → p ≡ get_or ps i p → i ≤ p.rel.0
+pub place_count : (ps : List DeltaPart) (i : ℕ) (p : DeltaPart) → AreOrdered ps → i < length ps → p ≡ get_or ps i p → i ≤ p.rel.0
 place_count ps i p up h e =
     omega (arith, front_count (take i ps) p (drop (suc i) ps) (subst AreOrdered (place_split ps i p h e) up), length-take-le i ps (omega (arith, h)))

@@ -11,7 +11,7 @@ use Rattle.hera_sets.proofs.Members.{holds-append}
 use Rattle.hera_meaning.specs.Schemas.{AreDistinct}
 use Rattle.hera_meaning.specs.Deltas.{Atom, key_of, keys_of}
 use Rattle.delta_atoms.specs.Atoms.{bulk_of, sign_at}
-use Rattle.delta_atoms.specs.declared.parts.Part.{Part}
+use Rattle.delta_atoms.specs.declared.parts.DeltaPart.{DeltaPart}
 use Rattle.delta_atoms.specs.Parts.{atoms_at, atoms_of, rows_at, IsBeforeAll, IsPart, AreOrdered, AreApart}
 use Rattle.delta_atoms.proofs.Signs.{first_of, first_of-none, sign_at_nil, keys_of-append, ascending_in_order, sign_at-in_order, sign_at-append}
 
@@ -34,7 +34,7 @@ sign_at-bulk s n (x ∷ rows) m r =
     by true false = refl
 
 -- the sign at a key of one relation's atoms
-pub sign_at-atoms_at : (p : Part) (m : ℕ) (r : Row) → sign_at (atoms_at p) (m ∷ r) ≡ cond (eqb m p.rel.0) (sign_in (holds p.plus r) (holds p.minus r)) None
+pub sign_at-atoms_at : (p : DeltaPart) (m : ℕ) (r : Row) → sign_at (atoms_at p) (m ∷ r) ≡ cond (eqb m p.rel.0) (sign_in (holds p.plus r) (holds p.minus r)) None
 sign_at-atoms_at p m r =
     sign_at-in_order (bulk_of Plus p.rel.0 p.plus ++ bulk_of Minus p.rel.0 p.minus) (m ∷ r)
     ∙ sign_at-append (bulk_of Plus p.rel.0 p.plus) (bulk_of Minus p.rel.0 p.minus) (m ∷ r)
@@ -47,12 +47,12 @@ sign_at-atoms_at p m r =
     by true false d = refl
 
 -- a relation before all of these has no rows among them
-pub rows_at-before : (s : Sign) (n : ℕ) (ps : List Part) → IsBeforeAll n ps → rows_at s n ps ≡ []
+pub rows_at-before : (s : Sign) (n : ℕ) (ps : List DeltaPart) → IsBeforeAll n ps → rows_at s n ps ≡ []
 rows_at-before s n [] h = refl
 rows_at-before s n (p ∷ ps) h = rw (ne_eqb p.rel.0 n (λ e. omega (arith, e, h.0))) (rows_at-before s n ps h.1)
 
 -- the sign at a key, by the two sets of its relation
-pub sign_at-atoms_of : (ps : List Part) (m : ℕ) (r : Row) → AreOrdered ps → sign_at (atoms_of ps) (m ∷ r) ≡ sign_in (holds (rows_at Plus m ps) r) (holds (rows_at Minus m ps) r)
+pub sign_at-atoms_of : (ps : List DeltaPart) (m : ℕ) (r : Row) → AreOrdered ps → sign_at (atoms_of ps) (m ∷ r) ≡ sign_in (holds (rows_at Plus m ps) r) (holds (rows_at Minus m ps) r)
 sign_at-atoms_of [] m r up = refl
 sign_at-atoms_of (p ∷ ps) m r up =
     sign_at-append (atoms_at p) (atoms_of ps) (m ∷ r)
@@ -102,7 +102,7 @@ abbrev IsOf : ℕ → Row → Type 0
 IsOf n [] = ⊥
 IsOf n (m ∷ r) = m ≡ n
 
-of_relation : (p : Part) (k : Row) → holds (keys_of (atoms_at p)) k ≡ true → IsOf p.rel.0 k
+of_relation : (p : DeltaPart) (k : Row) → holds (keys_of (atoms_at p)) k ≡ true → IsOf p.rel.0 k
 of_relation p [] h = absurd (false≢true (sym (holds-keys_of (atoms_at p) [] ∙ ap is_some (sign_at_nil (atoms_at p))) ∙ h))
 of_relation p (m ∷ r) h = eqb-true m p.rel.0 (by (eqb m p.rel.0) (sym (holds-keys_of (atoms_at p) (m ∷ r) ∙ ap is_some (sign_at-atoms_at p m r)) ∙ h))
   where
@@ -110,14 +110,14 @@ of_relation p (m ∷ r) h = eqb-true m p.rel.0 (by (eqb m p.rel.0) (sym (holds-k
     by true g = refl
     by false g = absurd (false≢true g)
 
-below_part : (n : ℕ) (r : Row) (p : Part) → n < p.rel.0 → IsBelowAll (n ∷ r) (keys_of (atoms_at p))
+below_part : (n : ℕ) (r : Row) (p : DeltaPart) → n < p.rel.0 → IsBelowAll (n ∷ r) (keys_of (atoms_at p))
 below_part n r p lt = below_all_from (n ∷ r) (keys_of (atoms_at p)) (λ k h. by k (of_relation p k h))
   where
     by : (k : Row) → IsOf p.rel.0 k → is_below (n ∷ r) k ≡ true
     by [] f = absurd f
     by (m ∷ q) e = below_cons_less n m r q (omega (arith, e, lt))
 
-below_parts : (n : ℕ) (r : Row) (ps : List Part) → IsBeforeAll n ps → IsBelowAll (n ∷ r) (keys_of (atoms_of ps))
+below_parts : (n : ℕ) (r : Row) (ps : List DeltaPart) → IsBeforeAll n ps → IsBelowAll (n ∷ r) (keys_of (atoms_of ps))
 below_parts n r [] h = tt
 below_parts n r (p ∷ ps) h =
     subst (IsBelowAll (n ∷ r)) (sym (keys_of-append (atoms_at p) (atoms_of ps)))
@@ -144,7 +144,7 @@ distinct_append (x ∷ xs) ys d e f = (
 )
 
 -- no key of one relation stands twice
-pub distinct_part : (p : Part) → IsPart p → ((r : Row) → (holds p.plus r && holds p.minus r) ≡ false) → AreDistinct (keys_of (bulk_of Plus p.rel.0 p.plus ++ bulk_of Minus p.rel.0 p.minus))
+pub distinct_part : (p : DeltaPart) → IsPart p → ((r : Row) → (holds p.plus r && holds p.minus r) ≡ false) → AreDistinct (keys_of (bulk_of Plus p.rel.0 p.plus ++ bulk_of Minus p.rel.0 p.minus))
 distinct_part p h apart =
     subst AreDistinct (sym (keys_of-append (bulk_of Plus p.rel.0 p.plus) (bulk_of Minus p.rel.0 p.minus)))
     (distinct_append (keys_of (bulk_of Plus p.rel.0 p.plus)) (keys_of (bulk_of Minus p.rel.0 p.minus)) (distinct_ascending _ (ascending_bulk Plus p.rel.0 p.plus h.plus)) (distinct_ascending _ (ascending_bulk Minus p.rel.0 p.minus h.minus)) by)
@@ -166,10 +166,10 @@ distinct_part p h apart =
     by (m ∷ r) g = held Minus p.minus m r ∙ table (eqb m p.rel.0) (holds p.plus r) (holds p.minus r) (apart r) (sym (held Plus p.plus m r) ∙ g)
 
 -- the first part, and the rest
-pub apart_head : (p : Part) (ps : List Part) → AreApart (p ∷ ps) → (r : Row) → (holds p.plus r && holds p.minus r) ≡ false
+pub apart_head : (p : DeltaPart) (ps : List DeltaPart) → AreApart (p ∷ ps) → (r : Row) → (holds p.plus r && holds p.minus r) ≡ false
 apart_head p ps h r = rw (eq-eqb p.rel.0 p.rel.0 refl) at (h p.rel.0 r)
 
-pub apart_tail : (p : Part) (ps : List Part) → IsBeforeAll p.rel.0 ps → AreApart (p ∷ ps) → AreApart ps
+pub apart_tail : (p : DeltaPart) (ps : List DeltaPart) → IsBeforeAll p.rel.0 ps → AreApart (p ∷ ps) → AreApart ps
 apart_tail p ps b h n r =
     elim (cases_eq p.rel.0 n) [
       | inl e ↦ rw (none Plus e) refl
@@ -180,7 +180,7 @@ apart_tail p ps b h n r =
     none s e = ap (λ m. rows_at s m ps) (sym e) ∙ rows_at-before s p.rel.0 ps b
 
 -- the atoms of parts are in order
-pub ascending_atoms_of : (ps : List Part) → AreOrdered ps → AreApart ps → IsAscending (keys_of (atoms_of ps))
+pub ascending_atoms_of : (ps : List DeltaPart) → AreOrdered ps → AreApart ps → IsAscending (keys_of (atoms_of ps))
 ascending_atoms_of [] up apart = tt
 ascending_atoms_of (p ∷ ps) up apart =
     subst IsAscending (sym (keys_of-append (atoms_at p) (atoms_of ps)))

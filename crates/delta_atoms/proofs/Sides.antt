@@ -10,7 +10,7 @@ use Rattle.hera_meaning.specs.declared.scalars.Sign.TheVariants.{Plus, Minus}
 use Rattle.hera_meaning.specs.Deltas.{Atom, key_of, keys_of, is_plus, put_atom, in_order, rows_named}
 use Rattle.hera_meaning.proofs.Atoms.{rows_named-key}
 use Rattle.delta_atoms.specs.Atoms.{atom_of, bulk_of, sign_at, have_relation, signed, part_of}
-use Rattle.delta_atoms.specs.declared.parts.Part.{Part}
+use Rattle.delta_atoms.specs.declared.parts.DeltaPart.{DeltaPart}
 use Rattle.delta_atoms.specs.Parts.{side, atoms_at, atoms_of, rows_at, AreOrdered, ArePacked}
 use Rattle.delta_atoms.specs.Edits.{gives}
 use Rattle.delta_atoms.proofs.Signs.{none_signed}
@@ -86,7 +86,7 @@ pub ascending_part_of : (xs : List Atom) (n : ℕ) (s : Sign) → IsAscending (k
 ascending_part_of xs n Plus up = ascending_named n (signed Plus xs) (ascending_filter _ xs up)
 ascending_part_of xs n Minus up = ascending_named n (signed Minus xs) (ascending_filter _ xs up)
 
-pub ascending_rows_at : (s : Sign) (n : ℕ) (ps : List Part) → AreOrdered ps → IsAscending (rows_at s n ps)
+pub ascending_rows_at : (s : Sign) (n : ℕ) (ps : List DeltaPart) → AreOrdered ps → IsAscending (rows_at s n ps)
 ascending_rows_at s n [] up = tt
 ascending_rows_at s n (p ∷ ps) up = by (eqb p.rel.0 n) s (ascending_rows_at s n ps up.1)
   where
@@ -96,7 +96,7 @@ ascending_rows_at s n (p ∷ ps) up = by (eqb p.rel.0 n) s (ascending_rows_at s 
     by false s h = h
 
 -- the sets of a relation, by the atoms
-pub rows_give : (s : Sign) (n : ℕ) (ps : List Part) (r : Row) → ArePacked ps → holds (rows_at s n ps) r ≡ gives (sign_at (atoms_of ps) (n ∷ r)) s
+pub rows_give : (s : Sign) (n : ℕ) (ps : List DeltaPart) (r : Row) → ArePacked ps → holds (rows_at s n ps) r ≡ gives (sign_at (atoms_of ps) (n ∷ r)) s
 rows_give s n ps r h = sym (ap (λ o. gives o s) (sign_at-atoms_of ps n r h.ordered) ∙ by s (holds (rows_at Plus n ps) r) refl (holds (rows_at Minus n ps) r) refl (h.apart n r))
   where
     by : (s : Sign) (c : Bool) → holds (rows_at Plus n ps) r ≡ c → (d : Bool) → holds (rows_at Minus n ps) r ≡ d → (c && d) ≡ false → gives (sign_in c d) s ≡ holds (rows_at s n ps) r
@@ -108,7 +108,7 @@ rows_give s n ps r h = sym (ap (λ o. gives o s) (sign_at-atoms_of ps n r h.orde
     by Minus false e true f g = sym f
     by Minus false e false f g = sym f
 
-pub part_is : (ps : List Part) (n : ℕ) (s : Sign) → ArePacked ps → part_of (atoms_of ps) n s ≡ rows_at s n ps
+pub part_is : (ps : List DeltaPart) (n : ℕ) (s : Sign) → ArePacked ps → part_of (atoms_of ps) n s ≡ rows_at s n ps
 part_is ps n s h =
     let up = ascending_atoms_of ps h.ordered h.apart in
     same_rows (part_of (atoms_of ps) n s) (rows_at s n ps) (ascending_part_of (atoms_of ps) n s up) (ascending_rows_at s n ps h.ordered) (λ r. holds-part_of (atoms_of ps) n s r up ∙ sym (rows_give s n ps r h))
@@ -156,14 +156,14 @@ length-in_order : (xs : List Atom) → length (in_order xs) ≡ length xs
 length-in_order [] = refl
 length-in_order (a ∷ xs) = length-put_atom a (in_order xs) ∙ ap suc (length-in_order xs)
 
-abbrev pub size : Part → ℕ
+abbrev pub size : DeltaPart → ℕ
 size p = length p.plus + length p.minus
 
-abbrev pub total : List Part → ℕ
+abbrev pub total : List DeltaPart → ℕ
 total [] = 0
 total (p ∷ ps) = size p + total ps
 
-pub length-atoms_of : (ps : List Part) → length (atoms_of ps) ≡ total ps
+pub length-atoms_of : (ps : List DeltaPart) → length (atoms_of ps) ≡ total ps
 length-atoms_of [] = refl
 length-atoms_of (p ∷ ps) =
     length-append (atoms_at p) (atoms_of ps)

@@ -6,44 +6,44 @@ use Rattle.hera_meaning.specs.declared.scalars.Sign.{Sign}
 use Rattle.hera_meaning.specs.declared.scalars.Sign.TheVariants.{Plus, Minus}
 use Rattle.hera_meaning.specs.Deltas.{Atom, key_of}
 use Rattle.hera_meaning.specs.Values.{same_sign}
-use Rattle.delta_atoms.specs.declared.parts.Part.{Part}
+use Rattle.delta_atoms.specs.declared.parts.DeltaPart.{DeltaPart}
 use Rattle.delta_atoms.specs.Atoms.{sign_at}
 use Rattle.delta_atoms.specs.Parts.{rows_at, IsBeforeAll}
 
 -- the part with a row more on one side, and with a row less
-abbrev pub put_in : Sign → Row → Part → Part
+abbrev pub put_in : Sign → Row → DeltaPart → DeltaPart
 put_in Plus r p = record { rel = p.rel; plus = put r p.plus; minus = p.minus }
 put_in Minus r p = record { rel = p.rel; plus = p.plus; minus = put r p.minus }
 
-abbrev pub taken_out : Sign → Row → Part → Part
+abbrev pub taken_out : Sign → Row → DeltaPart → DeltaPart
 taken_out Plus r p = record { rel = p.rel; plus = without r p.plus; minus = p.minus }
 taken_out Minus r p = record { rel = p.rel; plus = p.plus; minus = without r p.minus }
 
 -- one side alone
-abbrev pub one_side : Sign → ℕ → List Row → Part
+abbrev pub one_side : Sign → ℕ → List Row → DeltaPart
 one_side Plus n rows = record { rel = record { 0 = n }; plus = rows; minus = [] }
 one_side Minus n rows = record { rel = record { 0 = n }; plus = []; minus = rows }
 
 -- each relation stands before n
-abbrev pub IsUpto : ℕ → List Part → Type 0
+abbrev pub IsUpto : ℕ → List DeltaPart → Type 0
 IsUpto n [] = Unit {0}
 IsUpto n (p ∷ ps) = (p.rel.0 < n) × IsUpto n ps
 
 -- relation n is at place i
-pub record IsAt (ps : List Part) (n i : ℕ) : Type 0 where
-  pub part : Part
+pub record IsAt (ps : List DeltaPart) (n i : ℕ) : Type 0 where
+  pub part : DeltaPart
   pub within : i < length ps
   pub split : ps ≡ take i ps ++ part ∷ drop (suc i) ps
   pub rel : part.rel.0 ≡ n
 
 -- relation n is not there, and would be at place i
-pub record IsGap (ps : List Part) (n i : ℕ) : Type 0 where
+pub record IsGap (ps : List DeltaPart) (n i : ℕ) : Type 0 where
   pub within : i ≤ length ps
   pub front : IsUpto n (take i ps)
   pub rest : IsBeforeAll n (drop i ps)
 
 -- the same rows of each relation
-abbrev pub HaveSame : List Part → List Part → Type 0
+abbrev pub HaveSame : List DeltaPart → List DeltaPart → Type 0
 HaveSame old new = (s : Sign) (n : ℕ) → rows_at s n new ≡ rows_at s n old
 
 -- this is the side that the atom speaks of
@@ -51,11 +51,11 @@ abbrev pub is_of : Atom → Sign → ℕ → Bool
 is_of a s n = same_sign s a.sign && nat_eq n a.rel
 
 -- the atom's row is put in, and all else stays
-abbrev pub Puts : Atom → List Part → List Part → Type 0
+abbrev pub Puts : Atom → List DeltaPart → List DeltaPart → Type 0
 Puts a old new = (s : Sign) (n : ℕ) → rows_at s n new ≡ cond (is_of a s n) (put a.row (rows_at s n old)) (rows_at s n old)
 
 -- the atom's row is taken out, and all else stays
-abbrev pub Takes : Atom → List Part → List Part → Type 0
+abbrev pub Takes : Atom → List DeltaPart → List DeltaPart → Type 0
 Takes a old new = (s : Sign) (n : ℕ) → rows_at s n new ≡ cond (is_of a s n) (without a.row (rows_at s n old)) (rows_at s n old)
 
 -- this is the sign
@@ -77,15 +77,15 @@ turned true Plus = Minus
 turned true Minus = Plus
 
 -- the rows of the atoms are put in
-abbrev pub PutsAll : List Atom → List Part → List Part → Type 0
+abbrev pub PutsAll : List Atom → List DeltaPart → List DeltaPart → Type 0
 PutsAll xs old new = (s : Sign) (n : ℕ) (r : Row) → holds (rows_at s n new) r ≡ (stands xs s n r || holds (rows_at s n old) r)
 
 -- other rows than those of the atoms stay
-abbrev pub PutsSome : List Atom → List Part → List Part → Type 0
+abbrev pub PutsSome : List Atom → List DeltaPart → List DeltaPart → Type 0
 PutsSome xs old new = (s : Sign) (n : ℕ) (r : Row) → stands xs s n r ≡ false → holds (rows_at s n new) r ≡ holds (rows_at s n old) r
 
 -- the rows that the atoms have, or have with the other sign, are taken out
-abbrev pub TakesAll : Bool → List Atom → List Part → List Part → Type 0
+abbrev pub TakesAll : Bool → List Atom → List DeltaPart → List DeltaPart → Type 0
 TakesAll turn xs old new = (s : Sign) (n : ℕ) (r : Row) → holds (rows_at s n new) r ≡ (not (stands xs (turned turn s) n r) && holds (rows_at s n old) r)
 
 -- the atoms of the second list that the first does not have with their sign

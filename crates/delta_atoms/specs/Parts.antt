@@ -5,36 +5,36 @@ use Rattle.hera_sets.specs.Rows.{Row, is_below, holds, IsAscending}
 use Rattle.hera_meaning.specs.declared.scalars.Sign.{Sign}
 use Rattle.hera_meaning.specs.declared.scalars.Sign.TheVariants.{Plus, Minus}
 use Rattle.hera_meaning.specs.Deltas.{Atom, in_order}
-use Rattle.delta_atoms.specs.declared.parts.Part.{Part}
+use Rattle.delta_atoms.specs.declared.parts.DeltaPart.{DeltaPart}
 use Rattle.delta_atoms.specs.Atoms.{atom_of, bulk_of}
 
-abbrev pub side : Sign → Part → List Row
+abbrev pub side : Sign → DeltaPart → List Row
 side Plus p = p.plus
 side Minus p = p.minus
 
 -- the atoms of one relation, in order
-abbrev pub atoms_at : Part → List Atom
+abbrev pub atoms_at : DeltaPart → List Atom
 atoms_at p = in_order (bulk_of Plus p.rel.0 p.plus ++ bulk_of Minus p.rel.0 p.minus)
 
-abbrev pub atoms_of : List Part → List Atom
+abbrev pub atoms_of : List DeltaPart → List Atom
 atoms_of ps = flat_map atoms_at ps
 
 -- the rows of relation n with the sign
-abbrev pub rows_at : Sign → ℕ → List Part → List Row
+abbrev pub rows_at : Sign → ℕ → List DeltaPart → List Row
 rows_at s n [] = []
 rows_at s n (p ∷ ps) = cond (nat_eq p.rel.0 n) (side s p) (rows_at s n ps)
 
 -- the relation stands before all of the others
-abbrev pub IsBeforeAll : ℕ → List Part → Type 0
+abbrev pub IsBeforeAll : ℕ → List DeltaPart → Type 0
 IsBeforeAll n [] = Unit {0}
 IsBeforeAll n (p ∷ ps) = (n < p.rel.0) × IsBeforeAll n ps
 
 -- the relation's two sets ascend
-pub record IsPart (p : Part) : Type 0 where
+pub record IsPart (p : DeltaPart) : Type 0 where
   pub plus : IsAscending p.plus
   pub minus : IsAscending p.minus
 
-pub record IsPackedPart (p : Part) : Type 0 where
+pub record IsPackedPart (p : DeltaPart) : Type 0 where
   pub part : IsPart p
   pub apart : (r : Row) → (holds p.plus r && holds p.minus r) ≡ false
 
@@ -46,14 +46,14 @@ lesser n None (Some m) = Some (atom_of Minus n m)
 lesser n (Some p) (Some m) = cond (is_below m p) (Some (atom_of Minus n m)) (Some (atom_of Plus n p))
 
 -- relations in order, each with sets that ascend
-abbrev pub AreOrdered : List Part → Type 0
+abbrev pub AreOrdered : List DeltaPart → Type 0
 AreOrdered [] = Unit {0}
 AreOrdered (p ∷ ps) = (IsPart p × IsBeforeAll p.rel.0 ps) × AreOrdered ps
 
 -- no row of a relation is both put in and taken out
-abbrev pub AreApart : List Part → Type 0
+abbrev pub AreApart : List DeltaPart → Type 0
 AreApart ps = (n : ℕ) (r : Row) → (holds (rows_at Plus n ps) r && holds (rows_at Minus n ps) r) ≡ false
 
-pub record ArePacked (ps : List Part) : Type 0 where
+pub record ArePacked (ps : List DeltaPart) : Type 0 where
   pub ordered : AreOrdered ps
   pub apart : AreApart ps

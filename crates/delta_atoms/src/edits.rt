@@ -7,7 +7,7 @@ ghost use Rattle.delta_atoms.specs.Parts.{atoms_of, AreOrdered, ArePacked};
 ghost use Rattle.delta_atoms.specs.Refs.{atom_in};
 ghost use Rattle.delta_atoms.specs.Edits.{gives, turned, PutsAll, PutsSome, TakesAll, news};
 
-use super::parts::{Part, put_row, search, take_row};
+use super::parts::{DeltaPart, put_row, search, take_row};
 use super::{AtomMark, AtomRef, Delta};
 use hera_meaning::{RelId, Sign};
 use hera_rows::Sorted;
@@ -15,7 +15,7 @@ use std::alloc::{AllocError, Global};
 
 /// Puts in an atom that is greater than all others. Without memory the atoms are as before.
 pub(crate) fn push_last(
-    parts: &mut Vec<Part>,
+    parts: &mut Vec<DeltaPart>,
     alloc: Global,
     sign: Sign,
     rel: RelId,
@@ -36,7 +36,7 @@ pub(crate) fn push_last(
 /// All rows are put in first, and then the same rows taken out where they stand with the other
 /// sign, which takes no memory. Where a row can't be put in, those put in are taken out again.
 pub(crate) fn put_over(
-    parts: &mut Vec<Part>,
+    parts: &mut Vec<DeltaPart>,
     alloc: Global,
     second: &Delta,
 ) -> Result<(), AllocError>
@@ -63,7 +63,7 @@ pub(crate) fn put_over(
 /// The rows whose relation and row the parts do not have are put in. Where one can't be put in, those
 /// put in are taken out again.
 pub(crate) fn put_under(
-    parts: &mut Vec<Part>,
+    parts: &mut Vec<DeltaPart>,
     alloc: Global,
     first: &Delta,
 ) -> Result<(), AllocError>
@@ -83,7 +83,7 @@ pub(crate) fn put_under(
 }
 
 /// The atoms of the first delta whose relation and row the parts do not have.
-fn missing(parts: &[Part], alloc: Global, first: &Delta) -> Result<Delta, AllocError>
+fn missing(parts: &[DeltaPart], alloc: Global, first: &Delta) -> Result<Delta, AllocError>
     requires { ArePacked parts.now }
     ensures fresh { IfOk result (λ fresh. fresh ≡ atoms (unnamed (atoms_in first.now) (atoms_of parts.now))) }
     ensures valid { IsDelta first.now }
@@ -99,7 +99,7 @@ fn missing(parts: &[Part], alloc: Global, first: &Delta) -> Result<Delta, AllocE
 }
 
 /// Puts the atom behind all others, unless the parts have its relation and row.
-fn push_missing(fresh: &mut Delta, parts: &[Part], atom: AtomRef<'_>) -> Result<(), AllocError>
+fn push_missing(fresh: &mut Delta, parts: &[DeltaPart], atom: AtomRef<'_>) -> Result<(), AllocError>
     requires packed { ArePacked parts.now }
     requires known { is_fail fresh.old ≡ false }
     requires last { IsDelta (with_last fresh.old (atom_in atom)) }
@@ -114,7 +114,7 @@ fn push_missing(fresh: &mut Delta, parts: &[Part], atom: AtomRef<'_>) -> Result<
 }
 
 /// Whether the parts have the atom's relation and row, with whatever sign.
-fn is_named(parts: &[Part], atom: AtomRef<'_>) -> bool
+fn is_named(parts: &[DeltaPart], atom: AtomRef<'_>) -> bool
     requires { ArePacked parts.now }
     ensures { result ≡ holds (keys_of (atoms_of parts.now)) (key_of (atom_in atom.entry)) }
 {
@@ -133,7 +133,7 @@ fn is_named(parts: &[Part], atom: AtomRef<'_>) -> bool
 }
 
 /// The atoms of the second delta that the parts do not have with their sign.
-fn news(parts: &[Part], alloc: Global, second: &Delta) -> Result<Delta, AllocError>
+fn news(parts: &[DeltaPart], alloc: Global, second: &Delta) -> Result<Delta, AllocError>
     requires { ArePacked parts.now }
     ensures fresh { IfOk result (λ fresh. fresh ≡ atoms (news (atoms_of parts.now) (atoms_in second.now))) }
     ensures valid { IsDelta second.now }
@@ -149,7 +149,7 @@ fn news(parts: &[Part], alloc: Global, second: &Delta) -> Result<Delta, AllocErr
 }
 
 /// Puts the atom behind all others, unless the parts have it with its sign.
-fn push_new(fresh: &mut Delta, parts: &[Part], atom: AtomRef<'_>) -> Result<(), AllocError>
+fn push_new(fresh: &mut Delta, parts: &[DeltaPart], atom: AtomRef<'_>) -> Result<(), AllocError>
     requires packed { ArePacked parts.now }
     requires known { is_fail fresh.old ≡ false }
     requires last { IsDelta (with_last fresh.old (atom_in atom)) }
@@ -164,7 +164,7 @@ fn push_new(fresh: &mut Delta, parts: &[Part], atom: AtomRef<'_>) -> Result<(), 
 }
 
 /// Whether the parts have the atom with its sign.
-fn has(parts: &[Part], atom: AtomRef<'_>) -> bool
+fn has(parts: &[DeltaPart], atom: AtomRef<'_>) -> bool
     requires { ArePacked parts.now }
     ensures { result ≡ gives (sign_at (atoms_of parts.now) (key_of (atom_in atom.entry))) atom.entry.sign }
 {
@@ -175,7 +175,7 @@ fn has(parts: &[Part], atom: AtomRef<'_>) -> bool
 }
 
 /// Puts all atoms in. Without memory, some of them.
-fn put_all(parts: &mut Vec<Part>, alloc: Global, fresh: &Delta) -> Result<(), AllocError>
+fn put_all(parts: &mut Vec<DeltaPart>, alloc: Global, fresh: &Delta) -> Result<(), AllocError>
     requires { AreOrdered parts.old.items }
     ensures ordered { AreOrdered parts.new.items }
     ensures ok { OnOk result (PutsAll (atoms_in fresh.now) parts.old.items parts.new.items) }
@@ -191,7 +191,7 @@ fn put_all(parts: &mut Vec<Part>, alloc: Global, fresh: &Delta) -> Result<(), Al
 }
 
 /// Takes the rows of all atoms out where they stand with their sign, or with the other one.
-fn take_all(parts: &mut Vec<Part>, turn: bool, fresh: &Delta)
+fn take_all(parts: &mut Vec<DeltaPart>, turn: bool, fresh: &Delta)
     requires { AreOrdered parts.old.items }
     ensures ordered { AreOrdered parts.new.items }
     ensures taken { TakesAll turn (atoms_in fresh.now) parts.old.items parts.new.items }

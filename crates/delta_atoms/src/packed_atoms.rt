@@ -6,7 +6,7 @@ ghost use Rattle.hera_meaning.specs.Deltas.{atoms, IsDelta, joint_atoms};
 ghost use Rattle.delta_atoms.specs.Atoms.{atom_of, bulk_of, atoms_in, part_of, is_after};
 ghost use Rattle.delta_atoms.specs.Refs.{atom_in, bound_of};
 
-use super::parts::{self, Part};
+use super::parts::{self, DeltaPart};
 use super::{AtomMark, AtomRef, Delta, edits};
 use hera_meaning::{RelId, Sign};
 use hera_rows::RowSet;
@@ -17,7 +17,7 @@ use std::marker::Model;
 /// take out.
 #[derive(Drop)]
 pub(crate) struct PackedAtoms {
-    parts: Vec<Part>,
+    parts: Vec<DeltaPart>,
     /// Lent for a relation that has no part.
     nothing: RowSet,
     alloc: Global,
@@ -59,7 +59,7 @@ impl PackedAtoms {
         // for the proof alone: the rows ascend
         let _len = rows.len();
         let mut parts = Vec::new(alloc);
-        parts.push(Part::one_side(alloc, sign, rel, rows)?)?;
+        parts.push(DeltaPart::one_side(alloc, sign, rel, rows)?)?;
         Ok(PackedAtoms {
             parts,
             nothing: RowSet::new(alloc),

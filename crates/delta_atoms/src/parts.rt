@@ -16,29 +16,29 @@ use std::alloc::{AllocError, Global};
 
 /// The rows of a relation to put in, and those to take out.
 #[derive(Drop)]
-pub(crate) struct Part {
+pub(crate) struct DeltaPart {
     pub(crate) rel: RelId,
     pub(crate) plus: RowSet,
     pub(crate) minus: RowSet,
 }
 
-impl Part {
+impl DeltaPart {
     /// A part with these rows on one side.
     pub(crate) fn one_side(
         alloc: Global,
         sign: Sign,
         rel: RelId,
         rows: &RowSet,
-    ) -> Result<Part, AllocError>
+    ) -> Result<DeltaPart, AllocError>
         ensures { IfOk result (λ part. part ≡ one_side sign rel.0 rows.now) }
     {
         match sign {
-            Sign::Plus => Ok(Part {
+            Sign::Plus => Ok(DeltaPart {
                 rel,
                 plus: rows.copy()?,
                 minus: RowSet::new(alloc),
             }),
-            Sign::Minus => Ok(Part {
+            Sign::Minus => Ok(DeltaPart {
                 rel,
                 plus: RowSet::new(alloc),
                 minus: rows.copy()?,
@@ -56,10 +56,10 @@ impl Part {
         }
     }
 
-    pub(crate) fn copy(&self) -> Result<Part, AllocError>
+    pub(crate) fn copy(&self) -> Result<DeltaPart, AllocError>
         ensures { IfOk result (λ copy. copy ≡ self.now) }
     {
-        Ok(Part {
+        Ok(DeltaPart {
             rel: self.rel,
             plus: self.plus.copy()?,
             minus: self.minus.copy()?,
@@ -151,7 +151,7 @@ impl Part {
 
 /// The first atom past the bound, whose sign says nothing. It is looked for beside the mark first, which is then set.
 pub(crate) fn first_after<'s>(
-    parts: &'s [Part],
+    parts: &'s [DeltaPart],
     bound: Option<AtomRef<'_>>,
     mark: &mut AtomMark,
 ) -> Option<AtomRef<'s>>
@@ -167,7 +167,7 @@ pub(crate) fn first_after<'s>(
 }
 
 /// How many atoms the parts have.
-pub(crate) fn count(parts: &[Part]) -> u128
+pub(crate) fn count(parts: &[DeltaPart]) -> u128
     requires { AreOrdered parts.now }
     ensures { result ≡ length (atoms_of parts.now) }
 {
@@ -180,7 +180,7 @@ pub(crate) fn count(parts: &[Part]) -> u128
 }
 
 /// The place of a relation that is there, and else the place at which it would be.
-pub(crate) fn search(parts: &[Part], rel: RelId) -> Result<usize, usize>
+pub(crate) fn search(parts: &[DeltaPart], rel: RelId) -> Result<usize, usize>
     requires { AreOrdered parts.now }
     ensures { MatchResult result (IsAt parts.now rel.0) (IsGap parts.now rel.0) }
 {
@@ -201,7 +201,7 @@ pub(crate) fn search(parts: &[Part], rel: RelId) -> Result<usize, usize>
 }
 
 /// The place of a relation, for which a part without rows is made if it has none.
-fn open(parts: &mut Vec<Part>, alloc: Global, rel: RelId) -> Result<usize, AllocError>
+fn open(parts: &mut Vec<DeltaPart>, alloc: Global, rel: RelId) -> Result<usize, AllocError>
     requires { AreOrdered parts.old.items }
     ensures ordered { AreOrdered parts.new.items }
     ensures same { HaveSame parts.old.items parts.new.items }
@@ -210,7 +210,7 @@ fn open(parts: &mut Vec<Part>, alloc: Global, rel: RelId) -> Result<usize, Alloc
     match search(parts, rel) {
         Ok(i) => Ok(i),
         Err(i) => {
-            let part = Part {
+            let part = DeltaPart {
                 rel,
                 plus: RowSet::new(alloc),
                 minus: RowSet::new(alloc),
@@ -223,7 +223,7 @@ fn open(parts: &mut Vec<Part>, alloc: Global, rel: RelId) -> Result<usize, Alloc
 
 /// Puts an atom's row in on its side. Without memory the rows are as before.
 pub(crate) fn put_row(
-    parts: &mut Vec<Part>,
+    parts: &mut Vec<DeltaPart>,
     alloc: Global,
     sign: Sign,
     rel: RelId,
@@ -240,7 +240,7 @@ pub(crate) fn put_row(
 }
 
 /// Takes a row out of one side of a relation, if it is there.
-pub(crate) fn take_row(parts: &mut Vec<Part>, sign: Sign, rel: RelId, row: &[u8])
+pub(crate) fn take_row(parts: &mut Vec<DeltaPart>, sign: Sign, rel: RelId, row: &[u8])
     requires { AreOrdered parts.old.items }
     ensures ordered { AreOrdered parts.new.items }
     ensures taken { Takes (atom_of sign rel.0 row.now) parts.old.items parts.new.items }

@@ -3,7 +3,7 @@ ghost use Rattle.std.specs.Prelude.{◌≡◌, ◌<◌, ◌^◌, true, false, po
 ghost use Rattle.hera_meaning.specs.Aggregates.{is_few};
 
 use crate::ends::AggEnd;
-use hera_rows::{Mark, Sorted};
+use hera_rows::{RowMark, Sorted};
 
 /// The most rows that an int counts: 2^63 - 1.
 const ROWS_LIMIT: u64 = 9_223_372_036_854_775_807;
@@ -16,7 +16,7 @@ pub fn count<A: Sorted>(a: &A) -> Result<i64, AggEnd>
 {
     let mut n: u64 = 0;
     let mut last: Option<&[u8]> = None;
-    let mut mark = Mark::start();
+    let mut mark = RowMark::start();
     while let Some(row) = a.above_from(last, &mut mark) {
         if n == ROWS_LIMIT {
             return Err(AggEnd::Overflow);

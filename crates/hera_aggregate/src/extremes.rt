@@ -12,7 +12,7 @@ use crate::behind::behind;
 use crate::ends::AggEnd;
 use hera_meaning::{Scalar, ScalarRef, Schema, Text};
 use hera_row::field;
-use hera_rows::{Mark, Sorted};
+use hera_rows::{RowMark, Sorted};
 use hera_sets::is_below;
 use std::alloc::Global;
 
@@ -63,7 +63,7 @@ pub fn least_field<'a, A: Sorted>(
 {
     let mut best: Option<ScalarRef<'a>> = None;
     let mut last: Option<&[u8]> = None;
-    let mut mark = Mark::start();
+    let mut mark = RowMark::start();
     while let Some(row) = a.above_from(last, &mut mark) {
         best = Some(lesser(best, field(schema, behind(row, skip), i)));
         last = Some(row);
@@ -84,7 +84,7 @@ pub fn greatest_field<'a, A: Sorted>(
 {
     let mut best: Option<ScalarRef<'a>> = None;
     let mut last: Option<&[u8]> = None;
-    let mut mark = Mark::start();
+    let mut mark = RowMark::start();
     while let Some(row) = a.above_from(last, &mut mark) {
         best = Some(greater(best, field(schema, behind(row, skip), i)));
         last = Some(row);

@@ -15,7 +15,7 @@ use crate::extremes::{greatest_field, least_field};
 use crate::fields::push_field;
 use crate::sums::{narrowed, total};
 use hera_meaning::{Agg, ScalarRef, Schema};
-use hera_rows::{Mark, RowBuf, RowSet, Sorted};
+use hera_rows::{RowBuf, RowMark, RowSet, Sorted};
 use rel_algebra::{Begun, at_places, project};
 use std::alloc::{AllocError, Global};
 
@@ -40,7 +40,7 @@ pub fn group<A: Sorted>(
     let keyed = keyed(alloc, schema, by, a)?;
     let mut groups = RowSet::new(alloc);
     let mut last: Option<&[u8]> = None;
-    let mut mark = Mark::start();
+    let mut mark = RowMark::start();
     while let Some(key) = keys.above_from(last, &mut mark) {
         let rows = Begun {
             a: &keyed,
@@ -65,7 +65,7 @@ fn keyed<A: Sorted>(
 {
     let mut set = RowSet::new(alloc);
     let mut last: Option<&[u8]> = None;
-    let mut mark = Mark::start();
+    let mut mark = RowMark::start();
     while let Some(row) = a.above_from(last, &mut mark) {
         let key = at_places(alloc, schema, by, row)?;
         let mut bytes = key.into_vec();

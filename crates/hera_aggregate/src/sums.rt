@@ -10,7 +10,7 @@ use crate::counting::count;
 use crate::ends::AggEnd;
 use hera_meaning::{ScalarRef, Schema};
 use hera_row::field;
-use hera_rows::{Mark, Sorted};
+use hera_rows::{RowMark, Sorted};
 
 /// The exact sum of the ints at place `i`, and Overflow exactly where it is not in the range of an
 /// int, or there are more than 2^63 - 1 rows. It takes no memory.
@@ -34,7 +34,7 @@ pub fn total<A: Sorted>(schema: &Schema, i: usize, skip: usize, a: &A) -> i128
 {
     let mut total: i128 = 0;
     let mut last: Option<&[u8]> = None;
-    let mut mark = Mark::start();
+    let mut mark = RowMark::start();
     while let Some(row) = a.above_from(last, &mut mark) {
         total += i128::from(int_at(schema, behind(row, skip), i));
         last = Some(row);

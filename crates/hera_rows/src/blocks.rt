@@ -7,7 +7,7 @@ ghost use Rattle.hera_sets.specs.Rows.{is_past, IsAscending, put, holds, without
 
 use super::packing::Packing;
 use super::stacks::Near;
-use super::{Mark, Sorted, Spot, same_rows, stacks};
+use super::{RowMark, Sorted, Spot, same_rows, stacks};
 use std::alloc::{AllocError, Global};
 use std::marker::Model;
 
@@ -135,7 +135,7 @@ impl Sorted for Blocks {
         stacks::above(&self.blocks, bound)
     }
 
-    fn above_from<'s>(&'s self, bound: Option<&[u8]>, mark: &mut Mark) -> Option<&'s [u8]> {
+    fn above_from<'s>(&'s self, bound: Option<&[u8]>, mark: &mut RowMark) -> Option<&'s [u8]> {
         let near = self.above_near(bound, mark.first.kept);
         mark.first.kept = near.spot;
         near.row

@@ -15,7 +15,7 @@ mod sorted;
 mod stacks;
 mod walks;
 
-pub use marks::{Mark, Side, Spot};
+pub use marks::{RowMark, Side, Spot};
 pub use row_buf::RowBuf;
 pub use row_set::RowSet;
 pub use sorted::Sorted;

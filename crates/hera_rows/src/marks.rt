@@ -19,7 +19,7 @@ pub struct Side {
 
 /// About where a walk stands: in a set, and in a second one where two are seen as one.
 #[derive(Clone, Copy)]
-pub struct Mark {
+pub struct RowMark {
     pub first: Side,
     pub second: Side,
 }
@@ -35,14 +35,14 @@ impl Spot {
     }
 }
 
-impl Mark {
+impl RowMark {
     /// The mark of a walk that begins.
-    pub fn start() -> Mark {
+    pub fn start() -> RowMark {
         let side = Side {
             kept: Spot::start(),
             put_in: Spot::start(),
         };
-        Mark {
+        RowMark {
             first: side,
             second: side,
         }
@@ -50,8 +50,8 @@ impl Mark {
 
     /// The mark of a walk through the second set alone.
     #[inline]
-    pub fn of_second(self) -> Mark {
-        Mark {
+    pub fn of_second(self) -> RowMark {
+        RowMark {
             first: self.second,
             second: self.second,
         }

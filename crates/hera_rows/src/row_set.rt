@@ -7,7 +7,7 @@ ghost use Rattle.hera_sets.specs.Rows.{is_past, IsAscending, put, holds, without
 
 use super::blocks::Blocks;
 use super::stacks::Near;
-use super::{Mark, Sorted, Spot};
+use super::{RowMark, Sorted, Spot};
 use std::alloc::{AllocError, Global};
 use std::marker::Model;
 
@@ -176,13 +176,13 @@ impl Sorted for RowSet {
         }
     }
 
-    fn above_from<'s>(&'s self, bound: Option<&[u8]>, mark: &mut Mark) -> Option<&'s [u8]> {
+    fn above_from<'s>(&'s self, bound: Option<&[u8]>, mark: &mut RowMark) -> Option<&'s [u8]> {
         let near = self.above_near(bound, mark.first.kept);
         mark.first.kept = near.spot;
         near.row
     }
 
-    fn not_below<'s>(&'s self, bound: &'s [u8], mark: &mut Mark) -> Option<&'s [u8]> {
+    fn not_below<'s>(&'s self, bound: &'s [u8], mark: &mut RowMark) -> Option<&'s [u8]> {
         let near = self.not_below_near(bound, mark.first.kept);
         mark.first.kept = near.spot;
         near.row

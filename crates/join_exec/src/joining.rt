@@ -7,7 +7,7 @@ ghost use Rattle.join_exec.specs.Leading.{keyed_of};
 
 use crate::pairing::{agree, joined, leading, leads, shared};
 use hera_meaning::Schema;
-use hera_rows::{Mark, RowSet, Sorted};
+use hera_rows::{RowMark, RowSet, Sorted};
 use rel_algebra::Begun;
 use std::alloc::{AllocError, Global};
 
@@ -39,7 +39,7 @@ pub fn join<A: Sorted, B: Sorted>(
 /// Whether there are few rows. It says how to join, and not what.
 fn has_few<A: Sorted>(a: &A) -> bool {
     let mut last: Option<&[u8]> = None;
-    let mut mark = Mark::start();
+    let mut mark = RowMark::start();
     for _ in 0..FEW {
         match a.above_from(last, &mut mark) {
             Some(row) => last = Some(row),
@@ -61,8 +61,8 @@ fn join_sought<A: Sorted, B: Sorted>(
 {
     let mut set = RowSet::new(alloc);
     let mut last: Option<&[u8]> = None;
-    let mut mark = Mark::start();
-    let mut beside = Mark::start();
+    let mut mark = RowMark::start();
+    let mut beside = RowMark::start();
     while let Some(row) = a.above_from(last, &mut mark) {
         let front = leading(alloc, left, right, row)?;
         let others = Begun {
@@ -82,7 +82,7 @@ fn put_joined<B: Sorted>(
     right: &Schema,
     row: &[u8],
     b: &B,
-    mark: &mut Mark,
+    mark: &mut RowMark,
     set: &mut RowSet,
 ) -> Result<(), AllocError>
     ensures { (xs : List (List ℕ)) → set.old ≡ normal xs → OnOk result (set.new ≡ normal (xs ++ map (joined left.now right.now) (filter (agree left.now right.now) (map (λ other. (row.now, other)) (B.rows b.now))))) }
@@ -127,8 +127,8 @@ fn join_keyed<A: Sorted, B: Sorted>(
     let keyed = keyed(alloc, left, right, b)?;
     let mut set = RowSet::new(alloc);
     let mut last: Option<&[u8]> = None;
-    let mut mark = Mark::start();
-    let mut beside = Mark::start();
+    let mut mark = RowMark::start();
+    let mut beside = RowMark::start();
     while let Some(row) = a.above_from(last, &mut mark) {
         let front = shared(alloc, left, right, left, row)?;
         let key = front.bytes();
@@ -164,7 +164,7 @@ fn keyed<B: Sorted>(
 {
     let mut set = RowSet::new(alloc);
     let mut last: Option<&[u8]> = None;
-    let mut mark = Mark::start();
+    let mut mark = RowMark::start();
     while let Some(row) = b.above_from(last, &mut mark) {
         let key = shared(alloc, left, right, right, row)?;
         let mut bytes = key.into_vec();
@@ -185,7 +185,7 @@ fn put_keyed<B: Sorted, C: Sorted>(
     b: &B,
     skip: usize,
     others: &C,
-    mark: &mut Mark,
+    mark: &mut RowMark,
     set: &mut RowSet,
 ) -> Result<(), AllocError>
     ensures { (xs : List (List ℕ)) → set.old ≡ normal xs → OnOk result (set.new ≡ normal (xs ++ map (joined left.now right.now) (filter (agree left.now right.now) (map (λ other. (row.now, other)) (filter (holds (B.rows b.now)) (rows_behind skip (C.rows others.now))))))) }

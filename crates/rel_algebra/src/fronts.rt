@@ -4,7 +4,7 @@ ghost use Rattle.std.specs.Option.{option_copied};
 ghost use Rattle.rel_algebra.specs.Fronts.{begins, begun_of, begun_in};
 
 use crate::order::is_past;
-use hera_rows::{Mark, Sorted};
+use hera_rows::{RowMark, Sorted};
 use hera_sets::is_same;
 
 /// The rows that begin with these bytes, seen without a copy. They are sought, not walked to.
@@ -31,7 +31,7 @@ impl<A: Sorted> Sorted for Begun<'_, A> {
         }
     }
 
-    fn above_from<'s>(&'s self, bound: Option<&[u8]>, mark: &mut Mark) -> Option<&'s [u8]> {
+    fn above_from<'s>(&'s self, bound: Option<&[u8]>, mark: &mut RowMark) -> Option<&'s [u8]> {
         if is_past(bound, self.front) {
             return begun_in(self.front, self.a.not_below(self.front, mark));
         }

@@ -4,7 +4,7 @@ ghost use Rattle.hera_meaning.specs.Relations.{project_of};
 
 use crate::pieces::at_places;
 use hera_meaning::Schema;
-use hera_rows::{Mark, RowSet, Sorted};
+use hera_rows::{RowMark, RowSet, Sorted};
 use std::alloc::{AllocError, Global};
 
 /// The rows of the fields at these places of each row, in the order of the places. A place may stand
@@ -19,7 +19,7 @@ pub fn project<A: Sorted>(
 {
     let mut set = RowSet::new(alloc);
     let mut last: Option<&[u8]> = None;
-    let mut mark = Mark::start();
+    let mut mark = RowMark::start();
     while let Some(row) = a.above_from(last, &mut mark) {
         let image = at_places(alloc, schema, places, row)?;
         set.insert(image.bytes())?;

@@ -3,7 +3,7 @@ ghost use Rattle.std.specs.Prelude.{◌≡◌, ◌↔◌, IsTrue, IfOk};
 ghost use Rattle.std.specs.Option.{option_copied};
 ghost use Rattle.hera_sets.specs.Sets.{union_of, minus_of, inter_of, least_of};
 
-use hera_rows::{Mark, RowSet, Sorted, collect};
+use hera_rows::{RowMark, RowSet, Sorted, collect};
 use hera_sets::is_below;
 use std::alloc::{AllocError, Global};
 
@@ -32,7 +32,7 @@ impl<A: Sorted, B: Sorted> Sorted for Both<'_, A, B> {
         least(self.a.above(bound), self.b.above(bound))
     }
 
-    fn above_from<'s>(&'s self, bound: Option<&[u8]>, mark: &mut Mark) -> Option<&'s [u8]> {
+    fn above_from<'s>(&'s self, bound: Option<&[u8]>, mark: &mut RowMark) -> Option<&'s [u8]> {
         let mut second = mark.of_second();
         let row = least(
             self.a.above_from(bound, mark),
@@ -69,7 +69,7 @@ impl<A: Sorted, B: Sorted> Sorted for Without<'_, A, B> {
         None
     }
 
-    fn above_from<'s>(&'s self, bound: Option<&[u8]>, mark: &mut Mark) -> Option<&'s [u8]> {
+    fn above_from<'s>(&'s self, bound: Option<&[u8]>, mark: &mut RowMark) -> Option<&'s [u8]> {
         let mut last = bound;
         while let Some(row) = self.a.above_from(last, mark) {
             if self.b.has(row) {
@@ -107,7 +107,7 @@ impl<A: Sorted, B: Sorted> Sorted for Common<'_, A, B> {
         None
     }
 
-    fn above_from<'s>(&'s self, bound: Option<&[u8]>, mark: &mut Mark) -> Option<&'s [u8]> {
+    fn above_from<'s>(&'s self, bound: Option<&[u8]>, mark: &mut RowMark) -> Option<&'s [u8]> {
         let mut last = bound;
         while let Some(row) = self.a.above_from(last, mark) {
             if self.b.has(row) {

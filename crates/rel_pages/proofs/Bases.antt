@@ -19,14 +19,14 @@ use Rattle.rel_format.specs.Versions.{format_of, version_in}
 use Rattle.rel_format.specs.declared.header.PageFault.{PageFault}
 use Rattle.rel_format.specs.declared.header.PageFault.TheVariants.{Damaged, Memory}
 use Rattle.rel_format.proofs.Good.{IsFew}
-use Rattle.rel_pages.specs.declared.parts.Part.{Part}
+use Rattle.rel_pages.specs.declared.parts.RelationPages.{RelationPages}
 use Rattle.rel_pages.specs.Stored.{empty_state}
 use Rattle.rel_pages.specs.Parts.{AreParts, state_of, IsBase}
 use Rattle.rel_pages.specs.Halves.{HalfParts, HalfIs, IsPages, EndsAt}
 use Rattle.rel_pages.proofs.Prints.{GroupPaged, group_paged}
 use Rattle.rel_pages.proofs.Halves.{PartHere, part_here, parts_length, state_is}
 
-abbrev no_bytes : ℕ → Part
+abbrev no_bytes : ℕ → RelationPages
 no_bytes at = record { at = at; len = 0 }
 
 no_group : (schema : List Attr) (page : ℕ) → 1 ≤ page → GroupPaged schema page [] []
@@ -64,24 +64,24 @@ none_fit : (page : ℕ) (rels : List RelDecl) → Fit page (empty_state rels)
 none_fit page [] = tt
 none_fit page (d ∷ rels) = (All-nil (FitsIn page), none_fit page rels)
 
-pub record EmptyIs (rels : List RelDecl) (parts : List Part) (bytes : List ℕ) (at : ℕ) : Type 0 where
+pub record EmptyIs (rels : List RelDecl) (parts : List RelationPages) (bytes : List ℕ) (at : ℕ) : Type 0 where
   pub base : IsBase format_two rels parts bytes at
   pub state : state_of format_two.page rels parts bytes ≡ empty_state rels
   pub printed : bytes ≡ half_of format_two rels (empty_state rels)
   pub place : at ≡ length (pages_of format_two rels (empty_state rels))
 
-pub empty_is : (rels : List RelDecl) (parts : List Part) (header front bytes : List ℕ) (at n : ℕ) → IsCatalogue rels → header ≡ header_of format_two rels → front ≡ header ++ 0 ∷ 0 ∷ 0 ∷ 0 ∷ [] → at ≡ length front → bytes ≡ front ++ 0 ∷ [] → parts ≡ replicate n (no_bytes at) → n ≡ length rels → EmptyIs rels parts bytes at
+pub empty_is : (rels : List RelDecl) (parts : List RelationPages) (header front bytes : List ℕ) (at n : ℕ) → IsCatalogue rels → header ≡ header_of format_two rels → front ≡ header ++ 0 ∷ 0 ∷ 0 ∷ 0 ∷ [] → at ≡ length front → bytes ≡ front ++ 0 ∷ [] → parts ≡ replicate n (no_bytes at) → n ≡ length rels → EmptyIs rels parts bytes at
 empty_is rels parts header front bytes at n catalogue h f a b p count =
     let page : ℕ = format_two.page in
     let pages : front ≡ pages_of format_two rels (empty_state rels) = f ∙ ap (λ (t : List ℕ). t ++ 0 ∷ 0 ∷ 0 ∷ 0 ∷ []) h ∙ sym (pages_of_none format_two rels) in
     let within : at ≤ length bytes = let size = ap (λ (t : List ℕ). length t) b in omega (arith, size, length-append front (0 ∷ []), a) in
     let none = no_parts page rels at bytes (omega arith) within in
     let same : replicate (length rels) (no_bytes at) ≡ parts = ap (λ (k : ℕ). replicate k (no_bytes at)) (sym count) ∙ sym p in
-    let state : state_of page rels parts bytes ≡ empty_state rels = ap (λ (ps : List Part). state_of page rels ps bytes) (sym same) ∙ none.state in
+    let state : state_of page rels parts bytes ≡ empty_state rels = ap (λ (ps : List RelationPages). state_of page rels ps bytes) (sym same) ∙ none.state in
     record {
       base = record {
         catalogue = catalogue;
-        parts_are = subst (λ (ps : List Part). AreParts page rels ps bytes) same none.are;
+        parts_are = subst (λ (ps : List RelationPages). AreParts page rels ps bytes) same none.are;
         within = within;
         fit = subst (Fit page) (sym state) (none_fit page rels);
         printed = ap (take at) b ∙ take_at front (0 ∷ []) at (sym a) ∙ pages ∙ ap (pages_of format_two rels) (sym state);
@@ -93,7 +93,7 @@ empty_is rels parts header front bytes at n catalogue h f a b p count =
 
 -- ---- what was read
 
-pub read_is : (version : Version) (rels : List RelDecl) (parts : List Part) (bytes : List ℕ) (at : ℕ) → version ≡ version_in bytes → length bytes ≤ half_limit → IsBase (format_of version) rels parts bytes at → EndsAt (format_of version) bytes rels at →
+pub read_is : (version : Version) (rels : List RelDecl) (parts : List RelationPages) (bytes : List ℕ) (at : ℕ) → version ≡ version_in bytes → length bytes ≤ half_limit → IsBase (format_of version) rels parts bytes at → EndsAt (format_of version) bytes rels at →
     IsPages bytes (record { version = version; catalogue = rels; state = state_of (format_of version).page rels parts bytes; bytes = bytes; journal = at })
 read_is version rels parts bytes at own short base ends = record {
   version = own;
@@ -113,15 +113,15 @@ fault_is version bytes Memory own short h = tt
 
 -- ---- a relation of a base
 
-pub rel_part : (f : Format) (rels : List RelDecl) (parts ps : List Part) (bytes : List ℕ) (at : ℕ) (rel : ℕ) (d : RelDecl) (p : Part) → IsBase f rels parts bytes at → slice_get rels rel ≡ Some d → ps ≡ parts → true ≡ nat_lt rel (length ps) → p ≡ get_or ps rel p → PartHere f.page rels parts bytes rel d p
+pub rel_part : (f : Format) (rels : List RelDecl) (parts ps : List RelationPages) (bytes : List ℕ) (at : ℕ) (rel : ℕ) (d : RelDecl) (p : RelationPages) → IsBase f rels parts bytes at → slice_get rels rel ≡ Some d → ps ≡ parts → true ≡ nat_lt rel (length ps) → p ≡ get_or ps rel p → PartHere f.page rels parts bytes rel d p
 rel_part f rels parts ps bytes at rel d p base e same lt here =
     part_here f.page rels parts bytes rel d p base.parts_are e
-    (subst (λ (xs : List Part). slice_get xs rel ≡ Some p) same (slice_get_read ps (length ps) rel p refl (ltb-true rel (length ps) (sym lt)) here))
+    (subst (λ (xs : List RelationPages). slice_get xs rel ≡ Some p) same (slice_get_read ps (length ps) rel p refl (ltb-true rel (length ps) (sym lt)) here))
 
-pub no_rel : (f : Format) (rels rs : List RelDecl) (parts ps : List Part) (bytes : List ℕ) (at : ℕ) (rel : ℕ) → IsBase f rels parts bytes at → rel < length rs → rels ≡ rs → ps ≡ parts → false ≡ nat_lt rel (length ps) → ⊥
+pub no_rel : (f : Format) (rels rs : List RelDecl) (parts ps : List RelationPages) (bytes : List ℕ) (at : ℕ) (rel : ℕ) → IsBase f rels parts bytes at → rel < length rs → rels ≡ rs → ps ≡ parts → false ≡ nat_lt rel (length ps) → ⊥
 no_rel f rels rs parts ps bytes at rel base lt own same none =
     let count = parts_length f.page rels parts bytes base.parts_are in
-    let size = ap (λ (xs : List Part). length xs) same in
+    let size = ap (λ (xs : List RelationPages). length xs) same in
     let same_rels = ap (λ (xs : List RelDecl). length xs) own in
     let within : rel < length ps = omega (arith, lt, count, size, same_rels) in
     both_ways _ (sym none) (lt-ltb rel (length ps) within)

@@ -25,7 +25,7 @@ use Rattle.rel_pages.specs.Halves.{HalfParts}
 use Rattle.rel_format.proofs.Greedy.{paged_again}
 use Rattle.rel_format.proofs.Good.{GoodGroups}
 use Rattle.rel_format.proofs.Printed.{read_well}
-use Rattle.rel_pages.specs.declared.parts.Part.{Part}
+use Rattle.rel_pages.specs.declared.parts.RelationPages.{RelationPages}
 use Rattle.rel_pages.specs.Reading.{pages_len, PagesTo}
 use Rattle.rel_pages.specs.Rels.{IsPaged, rows_in}
 use Rattle.rel_pages.specs.Parts.{part_bytes, state_of, AreParts, parts_from, total, IsBase}
@@ -33,7 +33,7 @@ use Rattle.rel_pages.proofs.Prints.{group_paged}
 
 -- ---- the parts of pages that are there
 
-pub record PartsAre (page n : ℕ) (rels : List RelDecl) (gs : List (List (List Row))) (parts : List Part) (bytes : List ℕ) : Type 0 where
+pub record PartsAre (page n : ℕ) (rels : List RelDecl) (gs : List (List (List Row))) (parts : List RelationPages) (bytes : List ℕ) : Type 0 where
   pub are : AreParts page rels parts bytes
   pub state : state_of page rels parts bytes ≡ map all_rows gs
 
@@ -140,12 +140,12 @@ all_read_is f bytes at end rels lens b all some catalogue here within header own
     let behind : drop (at + 4) bytes ≡ groups ++ rest = ap (drop (at + 4)) split ∙ drop_at front (groups ++ rest) (at + 4) front_size in
     let parts = parts_there f.page 0 (at + 4) rels b.pages bytes rest some good (omega (arith, end_is, within)) behind in
     let same : parts_from (at + 4) (map (pages_len f.page) b.pages) ≡ parts_from (at + 4) lens = ap (parts_from (at + 4)) (sym told) in
-    let state : state_of f.page rels (parts_from (at + 4) lens) bytes ≡ map all_rows b.pages = ap (λ (ps : List Part). state_of f.page rels ps bytes) (sym same) ∙ parts.state in
+    let state : state_of f.page rels (parts_from (at + 4) lens) bytes ≡ map all_rows b.pages = ap (λ (ps : List RelationPages). state_of f.page rels ps bytes) (sym same) ∙ parts.state in
     record {
       fits = end_is;
       base = record {
         catalogue = catalogue;
-        parts_are = subst (λ (ps : List Part). AreParts f.page rels ps bytes) same parts.are;
+        parts_are = subst (λ (ps : List RelationPages). AreParts f.page rels ps bytes) same parts.are;
         within = within;
         fit = subst (Fit f.page) (sym state) (groups_fit f.page rels b.pages good);
         printed = print ∙ ap (λ (t : List ℕ). front ++ t) (sym (groups_print f.page 0 rels b.pages good))
@@ -156,28 +156,28 @@ all_read_is f bytes at end rels lens b all some catalogue here within header own
 
 -- ---- what a base's parts are
 
-pub state_is : (page : ℕ) (rels : List RelDecl) (parts : List Part) (bytes : List ℕ) → AreParts page rels parts bytes → IsState rels (state_of page rels parts bytes)
+pub state_is : (page : ℕ) (rels : List RelDecl) (parts : List RelationPages) (bytes : List ℕ) → AreParts page rels parts bytes → IsState rels (state_of page rels parts bytes)
 state_is page [] [] bytes h = tt
 state_is page [] (p ∷ parts) bytes h = absurd h
 state_is page (d ∷ rels) [] bytes h = absurd h
 state_is page (d ∷ rels) (p ∷ parts) bytes h = ((h.1.ascending, h.1.rows), state_is page rels parts bytes h.2)
 
-pub record PartHere (page : ℕ) (rels : List RelDecl) (parts : List Part) (bytes : List ℕ) (rel : ℕ) (d : RelDecl) (p : Part) : Type 0 where
+pub record PartHere (page : ℕ) (rels : List RelDecl) (parts : List RelationPages) (bytes : List ℕ) (rel : ℕ) (d : RelDecl) (p : RelationPages) : Type 0 where
   pub within : p.at + p.len ≤ length bytes
   pub paged : IsPaged d.schema page (part_bytes bytes p)
   pub rows_are : slice_get (state_of page rels parts bytes) rel ≡ Some (rows_in d.schema page (part_bytes bytes p))
 
-pub part_here : (page : ℕ) (rels : List RelDecl) (parts : List Part) (bytes : List ℕ) (rel : ℕ) (d : RelDecl) (p : Part) → AreParts page rels parts bytes → slice_get rels rel ≡ Some d → slice_get parts rel ≡ Some p → PartHere page rels parts bytes rel d p
+pub part_here : (page : ℕ) (rels : List RelDecl) (parts : List RelationPages) (bytes : List ℕ) (rel : ℕ) (d : RelDecl) (p : RelationPages) → AreParts page rels parts bytes → slice_get rels rel ≡ Some d → slice_get parts rel ≡ Some p → PartHere page rels parts bytes rel d p
 part_here page [] parts bytes rel d p h e g = absurd (none-some d e)
 part_here page (x ∷ rels) [] bytes rel d p h e g = absurd h
 part_here page (x ∷ rels) (y ∷ parts) bytes zero d p h e g =
     subst (λ (z : RelDecl). PartHere page (x ∷ rels) (y ∷ parts) bytes 0 z p) (same_Some x d e)
-    (subst (λ (z : Part). PartHere page (x ∷ rels) (y ∷ parts) bytes 0 x z) (same_Some y p g) (record { within = h.0; paged = h.1; rows_are = refl }))
+    (subst (λ (z : RelationPages). PartHere page (x ∷ rels) (y ∷ parts) bytes 0 x z) (same_Some y p g) (record { within = h.0; paged = h.1; rows_are = refl }))
 part_here page (x ∷ rels) (y ∷ parts) bytes (suc rel) d p h e g =
     let more = part_here page rels parts bytes rel d p h.2 e g in
     record { within = more.within; paged = more.paged; rows_are = more.rows_are }
 
-pub parts_length : (page : ℕ) (rels : List RelDecl) (parts : List Part) (bytes : List ℕ) → AreParts page rels parts bytes → length parts ≡ length rels
+pub parts_length : (page : ℕ) (rels : List RelDecl) (parts : List RelationPages) (bytes : List ℕ) → AreParts page rels parts bytes → length parts ≡ length rels
 parts_length page [] [] bytes h = refl
 parts_length page [] (p ∷ parts) bytes h = absurd h
 parts_length page (d ∷ rels) [] bytes h = absurd h

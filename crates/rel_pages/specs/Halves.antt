@@ -11,7 +11,7 @@ use Rattle.rel_format.specs.Journal.{half_limit}
 use Rattle.rel_format.specs.Versions.{format_of, version_in}
 use Rattle.rel_format.specs.Table.{Book, at_page}
 use Rattle.rel_format.specs.Places.{Reaches, IsDamage}
-use Rattle.rel_pages.specs.declared.parts.Part.{Part}
+use Rattle.rel_pages.specs.declared.parts.RelationPages.{RelationPages}
 use Rattle.rel_pages.specs.Parts.{IsBase}
 use Rattle.rel_pages.specs.Stored.{Stored}
 
@@ -19,7 +19,7 @@ use Rattle.rel_pages.specs.Stored.{Stored}
 abbrev pub EndsAt : Format → List ℕ → List RelDecl → ℕ → Type 0
 EndsAt f bytes rels at = (b : Book) × (b.rels ≡ rels) × Reaches f bytes at (at_page b 0)
 
-abbrev pub HalfParts : Format → List ℕ → Result ((List RelDecl × Vec Part Global) × ℕ) PageFault → Type 0
+abbrev pub HalfParts : Format → List ℕ → Result ((List RelDecl × Vec RelationPages Global) × ℕ) PageFault → Type 0
 HalfParts f bytes (Ok x) = IsBase f x.0.0 x.0.1.items bytes x.1 × EndsAt f bytes x.0.0 x.1
 HalfParts f bytes (Err (Damaged at)) = IsDamage f bytes at
 HalfParts f bytes (Err Memory) = Unit {0}

@@ -8,7 +8,7 @@ ghost use Rattle.rel_pages.specs.Halves.{HalfIs};
 
 use crate::half::parts_of;
 use crate::page_rel::PageRel;
-use crate::parts::Part;
+use crate::parts::RelationPages;
 use hera_meaning::RelId;
 use hera_row::Catalogue;
 use rel_format::{HALF_LIMIT, PageFault, Version, header_bytes, rest_at};
@@ -22,7 +22,7 @@ pub struct Base {
     version: Version,
     catalogue: Catalogue,
     bytes: Vec<u8>,
-    parts: Vec<Part>,
+    parts: Vec<RelationPages>,
     journal: usize,
 }
 
@@ -133,12 +133,12 @@ impl Base {
 }
 
 /// So many parts without bytes at a place.
-fn empty_parts(alloc: Global, at: usize, count: usize) -> Result<Vec<Part>, AllocError>
+fn empty_parts(alloc: Global, at: usize, count: usize) -> Result<Vec<RelationPages>, AllocError>
     ensures { IfOk result (λ parts. parts.items ≡ replicate count (record { at = at; len = 0 })) }
 {
     let mut parts = Vec::new(alloc);
     for _ in 0..count {
-        parts.push(Part { at, len: 0 })?;
+        parts.push(RelationPages { at, len: 0 })?;
     }
     Ok(parts)
 }

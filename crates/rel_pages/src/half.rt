@@ -4,7 +4,7 @@ ghost use Rattle.rel_format.specs.Pages.{Format};
 ghost use Rattle.rel_pages.specs.Halves.{HalfParts};
 
 use crate::pages::pages_at;
-use crate::parts::{Part, parts_from};
+use crate::parts::{RelationPages, parts_from};
 use hera_row::Catalogue;
 use rel_format::{PageFault, read_header};
 use std::alloc::Global;
@@ -16,7 +16,7 @@ pub(crate) fn parts_of(
     magic: &[u8],
     page: usize,
     bytes: &[u8],
-) -> Result<((Catalogue, Vec<Part>), usize), PageFault>
+) -> Result<((Catalogue, Vec<RelationPages>), usize), PageFault>
     requires { 4 ≤ page }
     ensures { (f : Format) → f.magic ≡ magic.now → f.page ≡ page → HalfParts f bytes.now result }
 {

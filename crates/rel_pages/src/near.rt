@@ -4,6 +4,7 @@ ghost use Rattle.std.specs.List.{find};
 ghost use Rattle.std.specs.Option.{option_copied};
 ghost use Rattle.hera_sets.specs.Rows.{is_past, IsAscending};
 ghost use Rattle.hera_row.specs.Reading.{row_len_of};
+ghost use Rattle.hera_rows.specs.Froms.{is_from};
 ghost use Rattle.rel_pages.specs.Looks.{Tells};
 ghost use Rattle.rel_pages.specs.Rels.{IsPaged, rows_in, rows_from, pages_rows, leading, passes, ArePagesOf, IsRun};
 
@@ -35,6 +36,21 @@ impl<'a> PageRel<'a> {
         ensures ordered { IsAscending self.now }
     {
         first_near(self.schema, self.pages, self.page, past(bound), place)
+    }
+
+    /// The first row that does not stand before the bound, and about where it stands, looked for as `above_near`
+    /// looks. It takes no memory.
+    pub fn not_below_near<'s>(&'s self, bound: &[u8], place: Place) -> Near<'s>
+        ensures least { option_copied result.row ≡ find (is_from bound.now) self.now }
+        ensures ordered { IsAscending self.now }
+    {
+        first_near(
+            self.schema,
+            self.pages,
+            self.page,
+            Bound::From(bound),
+            place,
+        )
     }
 }
 

@@ -9,7 +9,7 @@ ghost use Rattle.rel_pages.specs.Rels.{IsPaged, rows_in, rows_from, page_rows, p
 use crate::leading::leading_len;
 use crate::place::{Near, Place};
 use hera_meaning::{Kind, Schema};
-use hera_rows::{Mark, Sorted, Spot};
+use hera_rows::{RowMark, Sorted};
 use hera_sets::{is_below, is_same};
 use rel_format::PAGE_HEAD;
 use std::marker::Model;
@@ -53,16 +53,15 @@ impl<'a> Sorted for PageRel<'a> {
         first_in(self.schema, self.pages, self.page, bound).row
     }
 
-    fn above_from<'s>(&'s self, bound: Option<&[u8]>, mark: &mut Mark) -> Option<&'s [u8]> {
-        let place = Place {
-            page: mark.first.kept.block,
-            row: mark.first.kept.row,
-        };
-        let near = self.above_near(bound, place);
-        mark.first.kept = Spot {
-            block: near.place.page,
-            row: near.place.row,
-        };
+    fn above_from<'s>(&'s self, bound: Option<&[u8]>, mark: &mut RowMark) -> Option<&'s [u8]> {
+        let near = self.above_near(bound, Place::of(mark.first.kept));
+        mark.first.kept = near.place.spot();
+        near.row
+    }
+
+    fn not_below<'s>(&'s self, bound: &'s [u8], mark: &mut RowMark) -> Option<&'s [u8]> {
+        let near = self.not_below_near(bound, Place::of(mark.first.kept));
+        mark.first.kept = near.place.spot();
         near.row
     }
 

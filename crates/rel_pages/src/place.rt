@@ -1,6 +1,8 @@
 //! Places among the rows of pages.
 ghost use Rattle.std.specs.Prelude.{◌≡◌};
 
+use hera_rows::Spot;
+
 /// A place among the rows of a relation's pages: the number of a page, and that of a row in it. It only saves
 /// time: whatever the numbers are, the answer is the same.
 #[derive(Clone, Copy)]
@@ -26,6 +28,24 @@ impl Place {
         Place {
             page: usize::MAX,
             row: 0,
+        }
+    }
+
+    /// The place that a mark tells, whose blocks are pages.
+    #[inline]
+    pub fn of(spot: Spot) -> Place {
+        Place {
+            page: spot.block,
+            row: spot.row,
+        }
+    }
+
+    /// The place as a mark tells it.
+    #[inline]
+    pub fn spot(self) -> Spot {
+        Spot {
+            block: self.page,
+            row: self.row,
         }
     }
 }

@@ -128,5 +128,5 @@ count_ends s r rows ds n all b h e =
     omega (arith, none, e)
 
 -- what is none for its cause
-pub none_for : (o : Option ℕ) (P : Type 0) (Q : ℕ → Type 0) → o ≡ None → P → MatchOption o P Q
+pub none_for : {A : Type 0} → (o : Option A) (P : Type 0) (Q : A → Type 0) → o ≡ None → P → MatchOption o P Q
 none_for o P Q e p = subst (λ x. MatchOption x P Q) (sym e) p

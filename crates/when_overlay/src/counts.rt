@@ -1,8 +1,8 @@
 //! How many rows there are after commits and layers: the rows that these name are looked at, and no
 //! others.
-ghost use Rattle.std.specs.Prelude.{◌≡◌, ◌<◌, ◌≤◌, ◌^◌, ◌++◌, length, MatchOption};
+ghost use Rattle.std.specs.Prelude.{◌≡◌, ◌<◌, ◌≤◌, ◌+◌, ◌^◌, ◌++◌, length, MatchOption};
 ghost use Rattle.hera_sets.specs.Rows.{IsAscending, holds};
-ghost use Rattle.when_overlay.specs.Changed.{rows_after};
+ghost use Rattle.when_overlay.specs.Changed.{changed, rows_after};
 ghost use Rattle.when_overlay.specs.Counting.{changes, is_change};
 ghost use Rattle.when_overlay.specs.Layered.{IsTip, path};
 
@@ -11,6 +11,8 @@ use crate::seeks::{has, named_above};
 use delta_atoms::Delta;
 use hera_meaning::{RelId, Sign};
 use hera_rows::Sorted;
+use std::alloc::Global;
+use std::slice::from_ref;
 
 /// The most rows that are counted: 2^63 - 1.
 const ROWS_LIMIT: u64 = 9_223_372_036_854_775_807;
@@ -81,4 +83,27 @@ pub(crate) fn count_after<S: Sorted>(
         return None;
     }
     Some(count)
+}
+
+/// How a delta changes the number of a relation's rows.
+#[derive(Clone, Copy)]
+pub struct Change {
+    /// How many rows it puts in that were not there.
+    pub put_in: u64,
+    /// How many rows it takes out that were there.
+    pub taken_out: u64,
+}
+
+/// How a delta changes the number of these rows of a relation; none where there are 2^64 or more. Only the rows that the
+/// delta names are looked for. It takes no memory.
+pub fn change_of<S: Sorted>(alloc: Global, rows: &S, rel: RelId, delta: &Delta) -> Option<Change>
+    ensures { MatchOption result (2 ^ 64 ≤ length (S.rows rows.now) + length (changed rel.0 (S.rows rows.now) delta.now)) (λ change. length (changed rel.0 (S.rows rows.now) delta.now) + change.taken_out ≡ length (S.rows rows.now) + change.put_in) }
+{
+    // for the proof alone: the rows ascend
+    let _ordered = rows.has(&[]);
+    let layers = Layers::new(alloc);
+    let deltas = from_ref(delta);
+    let put_in = count_changes(rows, deltas, &layers, None, rel, Sign::Plus)?;
+    let taken_out = count_changes(rows, deltas, &layers, None, rel, Sign::Minus)?;
+    Some(Change { put_in, taken_out })
 }

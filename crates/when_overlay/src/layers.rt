@@ -105,6 +105,15 @@ impl Layers {
         replace(&mut self.items[i].delta, delta)
     }
 
+    /// The delta of the layer of this number.
+    pub fn delta(&self, i: usize) -> &Delta
+        requires { i < length self.now.layers }
+        ensures delta { delta_at self.now.layers i ≡ Some result.now }
+        ensures valid { AreLayers self.now.layers }
+    {
+        &self.layer(i).delta
+    }
+
     /// The layer of this number.
     pub(crate) fn layer(&self, i: usize) -> &Layer
         requires { i < length self.now.layers }

@@ -7,6 +7,7 @@
 #![tactic(auto)]
 
 mod counts;
+mod froms;
 mod layers;
 mod marks;
 mod seeks;
@@ -14,8 +15,9 @@ mod signs;
 mod stored;
 mod views;
 
+pub use counts::{Change, change_of};
 pub use layers::Layers;
-pub use marks::{Found, Mark};
+pub use marks::{SeenRow, ViewMark};
 pub use stored::Stored;
 pub use views::{Hyp, View};
 
@@ -124,13 +126,13 @@ mod tests {
     /// Walks the rows of R by their marks, and by wrong ones too, and tells how many there are.
     fn walked(rt: &impl Abort, alloc: Global, rel: &Hyp<'_>) -> Result<usize, Fail> {
         let rows = collect(alloc, rel)?;
-        let mut next = rel.above_near(None, Mark::start());
+        let mut next = rel.above_near(None, ViewMark::start());
         for i in 0..rows.len() {
             let row = rows.row(i);
             assert_eq!(rt; next.row, Some(row));
             let behind = rel.above(Some(row));
             for n in [0, 1, 2, 4, usize::MAX] {
-                let mark = Mark {
+                let mark = ViewMark {
                     put_in: Spot {
                         block: n / 2,
                         row: n,

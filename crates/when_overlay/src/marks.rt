@@ -14,26 +14,26 @@ use rel_pages::Place;
 /// About where a walk stands: in the pages, and among the rows that the newest layer puts in. It only saves
 /// time: whatever the numbers are, the answer is the same.
 #[derive(Clone, Copy)]
-pub struct Mark {
+pub struct ViewMark {
     pub pages: Place,
     pub put_in: Spot,
 }
 
-impl Mark {
+impl ViewMark {
     /// The mark of a walk that begins.
-    pub fn start() -> Mark
+    pub fn start() -> ViewMark
         ensures page { result.pages.page ≡ 0 }
         ensures row { result.pages.row ≡ 0 }
     {
-        Mark {
+        ViewMark {
             pages: Place::start(),
             put_in: Spot::start(),
         }
     }
 
     /// A mark for who has none to tell.
-    pub(crate) fn nowhere() -> Mark {
-        Mark {
+    pub(crate) fn nowhere() -> ViewMark {
+        ViewMark {
             pages: Place::nowhere(),
             put_in: Spot {
                 block: usize::MAX,
@@ -44,12 +44,9 @@ impl Mark {
 
     /// The mark that stands there, where the pages are what is kept.
     #[inline]
-    pub(crate) fn of(side: Side) -> Mark {
-        Mark {
-            pages: Place {
-                page: side.kept.block,
-                row: side.kept.row,
-            },
+    pub(crate) fn of(side: Side) -> ViewMark {
+        ViewMark {
+            pages: Place::of(side.kept),
             put_in: side.put_in,
         }
     }
@@ -58,10 +55,7 @@ impl Mark {
     #[inline]
     pub(crate) fn side(self) -> Side {
         Side {
-            kept: Spot {
-                block: self.pages.page,
-                row: self.pages.row,
-            },
+            kept: self.pages.spot(),
             put_in: self.put_in,
         }
     }
@@ -69,9 +63,9 @@ impl Mark {
 
 /// A row that was found, or none, and about where it stands: a mark at which a later search may look first.
 #[derive(Clone, Copy)]
-pub struct Found<'s> {
+pub struct SeenRow<'s> {
     pub row: Option<&'s [u8]>,
-    pub mark: Mark,
+    pub mark: ViewMark,
 }
 
 /// The first row past the bound that a delta puts in. It is looked for beside the spot first.

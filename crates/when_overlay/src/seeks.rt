@@ -10,7 +10,7 @@ ghost use Rattle.when_overlay.specs.Layered.{IsTip, path};
 ghost use Rattle.when_overlay.specs.Seeking.{named_in, named, met, next_of, sign_over, stands};
 
 use crate::Layers;
-use crate::marks::{Found, Mark, put_in_near};
+use crate::marks::{SeenRow, ViewMark, put_in_near};
 use crate::signs::sign_of;
 use delta_atoms::Delta;
 use hera_meaning::{RelId, Sign};
@@ -192,7 +192,7 @@ fn is_kept_of(
 /// A row that was met, or none, and whether it is there.
 #[derive(Clone, Copy)]
 struct Met<'s> {
-    found: Found<'s>,
+    found: SeenRow<'s>,
     kept: bool,
 }
 
@@ -203,20 +203,20 @@ fn met_without<'s>(
     layers: &'s Layers,
     rel: RelId,
     bound: Option<&[u8]>,
-    mark: Mark,
+    mark: ViewMark,
 ) -> Met<'s>
     ensures next { option_copied result.found.row ≡ find (is_past (option_copied bound.entry)) (met rel.0 pages.now (commits.now ++ path layers.now.layers None)) }
     ensures kept { IfSome result.found.row (λ row. result.kept ≡ stands (sign_over rel.0 (commits.now ++ path layers.now.layers None) row.now) true) }
     ensures ordered { IsAscending pages.now }
 {
     let near = met_near(pages, commits, layers, None, rel, bound, mark.pages);
-    let mark = Mark {
+    let mark = ViewMark {
         pages: near.place,
         ..mark
     };
     let row = near.row;
     Met {
-        found: Found { row, mark },
+        found: SeenRow { row, mark },
         kept: is_kept_of(commits, layers, None, rel, row, None),
     }
 }
@@ -230,7 +230,7 @@ fn met_under<'s>(
     i: usize,
     rel: RelId,
     bound: Option<&[u8]>,
-    mark: Mark,
+    mark: ViewMark,
 ) -> Met<'s>
     requires { i < length layers.now.layers }
     ensures next { option_copied result.found.row ≡ find (is_past (option_copied bound.entry)) (met rel.0 pages.now (commits.now ++ path layers.now.layers (Some i))) }
@@ -249,12 +249,12 @@ fn met_under<'s>(
         mark.pages,
     );
     let row = lesser(near.row, own.row);
-    let mark = Mark {
+    let mark = ViewMark {
         pages: near.place,
         put_in: own.spot,
     };
     Met {
-        found: Found { row, mark },
+        found: SeenRow { row, mark },
         kept: is_kept_of(commits, layers, Some(i), rel, row, own.row),
     }
 }
@@ -267,7 +267,7 @@ fn met_next<'s>(
     tip: Option<usize>,
     rel: RelId,
     bound: Option<&[u8]>,
-    mark: Mark,
+    mark: ViewMark,
 ) -> Met<'s>
     requires { IsTip layers.now.layers tip }
     ensures next { option_copied result.found.row ≡ find (is_past (option_copied bound.entry)) (met rel.0 pages.now (commits.now ++ path layers.now.layers tip)) }
@@ -282,15 +282,15 @@ fn met_next<'s>(
 
 /// The first row past the bound of those that are there, found among those that are met: what was met and taken
 /// out again is passed over.
-fn above_met<'s>(
+pub(crate) fn above_met<'s>(
     pages: &'s PageRel<'_>,
     commits: &'s [Delta],
     layers: &'s Layers,
     tip: Option<usize>,
     rel: RelId,
     bound: Option<&[u8]>,
-    mark: Mark,
-) -> Found<'s>
+    mark: ViewMark,
+) -> SeenRow<'s>
     requires { IsTip layers.now.layers tip }
     ensures next { option_copied result.row ≡ find (is_past (option_copied bound.entry)) (rows_after rel.0 pages.now (commits.now ++ path layers.now.layers tip)) }
     ensures ordered { IsAscending (rows_after rel.0 pages.now (commits.now ++ path layers.now.layers tip)) }
@@ -342,16 +342,16 @@ pub(crate) fn put_in_alone<'s>(
 }
 
 /// The first row past the bound of a set, and about where it stands.
-fn above_alone<'s>(rows: &'s RowSet, bound: Option<&[u8]>, mark: Mark) -> Found<'s>
+fn above_alone<'s>(rows: &'s RowSet, bound: Option<&[u8]>, mark: ViewMark) -> SeenRow<'s>
     ensures next { option_copied result.row ≡ find (is_past (option_copied bound.entry)) rows.now }
     ensures ordered { IsAscending rows.now }
 {
     let own = rows.above_near(bound, mark.put_in);
-    let mark = Mark {
+    let mark = ViewMark {
         put_in: own.spot,
         ..mark
     };
-    Found { row: own.row, mark }
+    SeenRow { row: own.row, mark }
 }
 
 /// The first row past the bound that is there, and about where it stands: there it is looked for first.
@@ -362,8 +362,8 @@ pub(crate) fn above_near<'s>(
     tip: Option<usize>,
     rel: RelId,
     bound: Option<&[u8]>,
-    mark: Mark,
-) -> Found<'s>
+    mark: ViewMark,
+) -> SeenRow<'s>
     requires { IsTip layers.now.layers tip }
     ensures next { option_copied result.row ≡ find (is_past (option_copied bound.entry)) (rows_after rel.0 pages.now (commits.now ++ path layers.now.layers tip)) }
     ensures ordered { IsAscending (rows_after rel.0 pages.now (commits.now ++ path layers.now.layers tip)) }

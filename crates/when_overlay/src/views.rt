@@ -6,7 +6,7 @@ ghost use Rattle.hera_sets.specs.Rows.{is_past, IsAscending, holds};
 ghost use Rattle.when_overlay.specs.Changed.{after_all, rows_after};
 ghost use Rattle.when_overlay.specs.Layered.{IsTip, path};
 
-use crate::{Found, Layers, Mark, counts, seeks};
+use crate::{Layers, SeenRow, ViewMark, counts, froms, seeks};
 use delta_atoms::Delta;
 use hera_meaning::RelId;
 use hera_rows::{RowSet, Sorted};
@@ -69,15 +69,29 @@ impl<'a> Sorted for Hyp<'a> {
     ghost rows = { λ h. h };
 
     fn above<'s>(&'s self, bound: Option<&[u8]>) -> Option<&'s [u8]> {
-        self.above_near(bound, Mark::nowhere()).row
+        self.above_near(bound, ViewMark::nowhere()).row
     }
 
     fn above_from<'s>(
         &'s self,
         bound: Option<&[u8]>,
-        mark: &mut hera_rows::Mark,
+        mark: &mut hera_rows::RowMark,
     ) -> Option<&'s [u8]> {
-        let found = self.above_near(bound, Mark::of(mark.first));
+        let found = self.above_near(bound, ViewMark::of(mark.first));
+        mark.first = found.mark.side();
+        found.row
+    }
+
+    fn not_below<'s>(&'s self, bound: &'s [u8], mark: &mut hera_rows::RowMark) -> Option<&'s [u8]> {
+        let found = froms::not_below_near(
+            &self.pages,
+            self.commits,
+            self.layers,
+            self.tip,
+            self.rel,
+            bound,
+            ViewMark::of(mark.first),
+        );
         mark.first = found.mark.side();
         found.row
     }
@@ -98,7 +112,7 @@ impl<'a> Hyp<'a> {
     /// The first row past the bound, as `above` finds it, and about where it stands in the pages and in the
     /// newest layer. It is looked for at the mark and beside it first: a walk that hands on each row and its
     /// mark searches neither. It takes no memory.
-    pub fn above_near<'s>(&'s self, bound: Option<&[u8]>, mark: Mark) -> Found<'s>
+    pub fn above_near<'s>(&'s self, bound: Option<&[u8]>, mark: ViewMark) -> SeenRow<'s>
         ensures next { option_copied result.row ≡ find (is_past (option_copied bound.entry)) self.now }
         ensures ordered { IsAscending self.now }
     {
@@ -129,7 +143,7 @@ impl<'a> Hyp<'a> {
     {
         let mut set = RowSet::new(alloc);
         let mut last: Option<&[u8]> = None;
-        let mut mark = Mark::start();
+        let mut mark = ViewMark::start();
         loop {
             let next = self.above_near(last, mark);
             let Some(row) = next.row else {

@@ -2,7 +2,7 @@ use Rattle.std.proofs.Common.{◌≡◌, sym, subst, [], List, ℕ}
 use Rattle.hera_sets.specs.Rows.{IsAscending}
 use Rattle.hera_meaning.specs.declared.scalars.Sign.{Sign}
 use Rattle.hera_meaning.specs.declared.scalars.Sign.TheVariants.{Plus, Minus}
-use Rattle.delta_atoms.specs.declared.parts.Part.{Part}
+use Rattle.delta_atoms.specs.declared.parts.DeltaPart.{DeltaPart}
 use Rattle.delta_atoms.specs.Parts.{side}
 use Rattle.delta_atoms.specs.Edits.{IsGap}
 use Rattle.delta_atoms.proofs.Places.{gap_ordered, gap_same, gap_at}
@@ -13,7 +13,7 @@ returns-in_ok-insert-in-Err-clause-ordered c =
     rw c.in_ok-insert-in-Err.ensures.items
     (gap_ordered c.args.parts.now.items (record { rel = c.args.rel; plus = c.new.result; minus = c.new-in-Err.result }) c.in-Err.i (record { plus = subst IsAscending (sym c.new.ensures) tt; minus = subst IsAscending (sym c.new-in-Err.ensures) tt }) (rw c.deref.ensures.value at c.in-Err.ensures) c.requires)
 
-sides : (n : ℕ) (plus minus : List (List ℕ)) → plus ≡ [] → minus ≡ [] → (s : Sign) → let p : Part = record { rel = record { 0 = n }; plus = plus; minus = minus } in side s p ≡ []
+sides : (n : ℕ) (plus minus : List (List ℕ)) → plus ≡ [] → minus ≡ [] → (s : Sign) → let p : DeltaPart = record { rel = record { 0 = n }; plus = plus; minus = minus } in side s p ≡ []
 sides n plus minus e f Plus = e
 sides n plus minus e f Minus = f
 

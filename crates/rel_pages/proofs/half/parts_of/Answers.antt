@@ -2,7 +2,7 @@ use Rattle.std.proofs.Common.{rules, ◌≡◌, ◌+◌, ◌∙◌, List, refl, 
 use Rattle.std.proofs.lemmas.Result.{err_from_is_err_and}
 use Rattle.rel_format.specs.Pages.{Format}
 use Rattle.rel_format.specs.Places.{Reaches}
-use Rattle.rel_pages.specs.declared.parts.Part.{Part}
+use Rattle.rel_pages.specs.declared.parts.RelationPages.{RelationPages}
 use Rattle.rel_pages.specs.Parts.{IsBase, parts_from, total}
 use Rattle.rel_pages.proofs.Halves.{found_is, header_fault, pages_fault}
 use Rattle.rel_pages.proofs.half.parts_of.Goals as goal
@@ -31,4 +31,4 @@ returns-in-Ok c = λ f m p.
     let found = c.in_ok-lens.ensures.read f p header.reached in
     let is = found_is f c.args.bytes.now c.args.page c.in_ok-rels.at c.in_ok-lens.end c.in_ok-rels.rels c.in_ok-lens.lens.items (λ i. search rules) p (omega arith) header c.in_ok-rels.ensures.within c.in_ok-lens.ensures.within found in
     let same : parts_from (c.in_ok-rels.at + 4) c.in_ok-lens.lens.items ≡ c.in-Ok.parts.items = ap (parts_from (c.in_ok-rels.at + 4)) (sym c.deref.ensures.value) ∙ sym c.in-Ok.ensures in
-    (subst (λ (ps : List Part). IsBase f c.in_ok-rels.rels ps c.args.bytes.now c.in_ok-lens.end) same is.base, (found.1.book, found.1.own, subst (Reaches f c.args.bytes.now c.in_ok-lens.end) found.1.stand found.2))
+    (subst (λ (ps : List RelationPages). IsBase f c.in_ok-rels.rels ps c.args.bytes.now c.in_ok-lens.end) same is.base, (found.1.book, found.1.own, subst (Reaches f c.args.bytes.now c.in_ok-lens.end) found.1.stand found.2))

@@ -1,4 +1,4 @@
-use Rattle.std.proofs.Common.{◌+◌, ◌-◌, sym, ap, ◌∙◌, arith, length, length-drop, drop}
+use Rattle.std.proofs.Common.{◌+◌, ◌-◌, ap, ◌∙◌, arith, length, length-drop, drop}
 use Rattle.hera_row.proofs.RowLemmas.{length_from-step, length_from}
 use Rattle.rel_pages.proofs.Leadings.{field_there}
 use Rattle.rel_pages.proofs.leading.leading_len.Goals as goal

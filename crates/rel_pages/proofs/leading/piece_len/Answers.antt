@@ -1,4 +1,4 @@
-use Rattle.std.proofs.Common.{◌+◌, ◌≤◌, ◌∙◌, sym, length, arith}
+use Rattle.std.proofs.Common.{sym, arith}
 use Rattle.hera_row.proofs.Zeros.{zero_found}
 use Rattle.rel_pages.proofs.Leadings.{int_there, bool_there, text_there, no_end}
 use Rattle.rel_pages.proofs.leading.piece_len.Goals as goal

@@ -1,6 +1,6 @@
 use Rattle.std.proofs.Common.{◌≡◌, ◌++◌, ◌∷◌, [], List, take, length, sym, ap, subst, ◌∙◌, arith}
 use Rattle.hera_meaning.specs.Deltas.{Delta}
-use Rattle.commit_levels.specs.Merging.{IsMerged, AreFalling}
+use Rattle.commit_levels.specs.Merging.{AreFalling}
 use Rattle.commit_levels.proofs.Mergings.{take_set, take_whole, does_pushed, known_pushed, proper_pushed}
 use Rattle.commit_levels.proofs.levels.Levels.push.Goals as goal
 

@@ -1,4 +1,4 @@
-use Rattle.std.proofs.Common.{◌≡◌, List, length, ◌∙◌, ap, sym}
+use Rattle.std.proofs.Common.{length, ◌∙◌, ap, sym}
 use Rattle.when_overlay.specs.Committed.{Committed}
 use Rattle.when_overlay.proofs.Viewing.{length_after}
 use Rattle.when_overlay.proofs.stored.Stored.len.Goals as goal

@@ -1,6 +1,6 @@
 use Rattle.std.proofs.Common.{arith, ◌∙◌, refl, Some, None}
 use Rattle.delta_atoms.proofs.Nexts.{lesser_found, none_found, past_lower, past_same, past_higher}
-use Rattle.delta_atoms.proofs.parts.Part.above.Goals as goal
+use Rattle.delta_atoms.proofs.parts.DeltaPart.above.Goals as goal
 
 pub returns-in-None : goal.returns-in-None
 returns-in-None c = rw c.in-None.is (c.next.ensures ∙ lesser_found c.args.self.now None None c.requires (λ x. refl))
