@@ -107,7 +107,7 @@ pub read_state : (s : State) (commits : List Delta) (ls : List Layer) (k : ℕ) 
 read_state s commits ls k h v g = after_append s commits (path ls (Some k)) ∙ path_under (after_all s commits) ls k h v g
 
 -- where there is no layer of a number, the pending delta alone is read
-under_root : (ls : List Layer) → IsTree ls → under ls 0 ≡ []
+pub under_root : (ls : List Layer) → IsTree ls → under ls 0 ≡ []
 under_root [] h = refl
 under_root (l ∷ []) h = ap (λ p. upon l.delta p (λ i. [])) h
 under_root (l ∷ m ∷ ls) h = under_lower l (m ∷ ls) 0 (omega arith) ∙ under_root (m ∷ ls) h.1

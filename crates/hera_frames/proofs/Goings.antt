@@ -5,8 +5,8 @@ use Rattle.std.proofs.lemmas.Bool.{false≢true}
 use Rattle.hera_sets.specs.Rows.{Row, is_past}
 use Rattle.hera_meaning.specs.Deltas.{State, rows_at}
 use Rattle.when_overlay.specs.declared.layers.Layer.{Layer}
-use Rattle.hera_frames.specs.declared.walks.Source.{Source}
-use Rattle.hera_frames.specs.declared.walks.Source.TheVariants.{Rows, Named}
+use Rattle.hera_frames.specs.declared.walks.WalkSource.{WalkSource}
+use Rattle.hera_frames.specs.declared.walks.WalkSource.TheVariants.{Rows, Named}
 use Rattle.hera_frames.specs.Branched.{seen_at}
 use Rattle.hera_frames.specs.Walking.{Pace, Rest, given, named, rest_of, current_of, to_come, walk_at, first_of, past_row, past_first, gone_on, at_row, IsGiven, settled, rest_reach}
 
@@ -58,7 +58,7 @@ found_by : (s : State) (ls : List Layer) (r k : ℕ) (current last : Option Row)
 found_by s ls r k None last gathered h = absurd h
 found_by s ls r k (Some x) last gathered h = sym (ap (λ rows. at_row rows (walk_at s ls (record { rest = named r k; current = last; gathered = gathered }))) h)
 
-pub current_named : (source : Source) (last : Option Row) (r k : ℕ) → rest_of source ≡ named r k → current_of source last ≡ last
+pub current_named : (source : WalkSource) (last : Option Row) (r k : ℕ) → rest_of source ≡ named r k → current_of source last ≡ last
 current_named (Rows rows next) last r k e = absurd (given-named e)
   where
     is_given : Rest → Bool
@@ -69,7 +69,7 @@ current_named (Rows rows next) last r k e = absurd (given-named e)
     given-named e = false≢true (sym (ap is_given e))
 current_named (Named rel tip) last r k e = refl
 
-pub found_on : (s : State) (ls : List Layer) (source : Source) (new last : Option Row) (gathered : List Row) (r k : ℕ) → rest_of source ≡ named r k →
+pub found_on : (s : State) (ls : List Layer) (source : WalkSource) (new last : Option Row) (gathered : List Row) (r k : ℕ) → rest_of source ≡ named r k →
     IsSomeAnd new (λ x. filter (is_past last) (rows_at (seen_at s ls k) r) ≡ x ∷ filter (is_past (Some x)) (rows_at (seen_at s ls k) r)) →
     walk_at s ls (record { rest = rest_of source; current = current_of source new; gathered = gathered }) ≡ gone_on (walk_at s ls (record { rest = rest_of source; current = current_of source last; gathered = gathered }))
 found_on s ls source new last gathered r k e h =
@@ -79,7 +79,7 @@ found_on s ls source new last gathered r k e h =
     ∙ ap (λ q. gone_on (walk_at s ls (record { rest = q; current = last; gathered = gathered }))) (sym e)
     ∙ ap (λ o. gone_on (walk_at s ls (record { rest = rest_of source; current = o; gathered = gathered }))) (sym (current_named source last r k e))
 
-pub seek_end : (s : State) (ls : List Layer) (source : Source) (last : Option Row) (gathered : List Row) (r k : ℕ) → rest_of source ≡ named r k →
+pub seek_end : (s : State) (ls : List Layer) (source : WalkSource) (last : Option Row) (gathered : List Row) (r k : ℕ) → rest_of source ≡ named r k →
     filter (is_past last) (rows_at (seen_at s ls k) r) ≡ [] →
     walk_at s ls (record { rest = given []; current = None; gathered = gathered }) ≡ gone_on (walk_at s ls (record { rest = rest_of source; current = current_of source last; gathered = gathered }))
 seek_end s ls source last gathered r k e h =
@@ -95,7 +95,7 @@ given_same s ls current (named r k) g = absurd g
 pub settled_given : (s : State) (ls : List Layer) (w : Pace) → IsGiven w.rest → w ≡ settled s ls w
 settled_given s ls w g = ap (λ (r : Rest). record { rest = r; current = w.current; gathered = w.gathered }) (given_same s ls w.current w.rest g)
 
-pub settled_named : (s : State) (ls : List Layer) (source : Source) (last : Option Row) (gathered rows : List Row) (r k : ℕ) → rest_of source ≡ named r k → rows ≡ filter (is_past last) (rows_at (seen_at s ls k) r) →
+pub settled_named : (s : State) (ls : List Layer) (source : WalkSource) (last : Option Row) (gathered rows : List Row) (r k : ℕ) → rest_of source ≡ named r k → rows ≡ filter (is_past last) (rows_at (seen_at s ls k) r) →
     record { rest = given rows; current = last; gathered = gathered } ≡ settled s ls (record { rest = rest_of source; current = current_of source last; gathered = gathered })
 settled_named s ls source last gathered rows r k e h =
     ap (λ xs. record { rest = given xs; current = last; gathered = gathered }) (h ∙ sym (ap (to_come s ls last) e))

@@ -16,3 +16,5 @@ pub mod Resting
 pub mod Moved
 pub mod Collecting
 pub mod Holding
+pub mod Joining
+pub mod Counting

@@ -78,6 +78,11 @@ abbrev pub is_relation : Item → Bool
 is_relation (held v) = false
 is_relation (relation r k) = true
 
+-- the two newest operands are deltas
+abbrev pub are_deltas : List Item → Bool
+are_deltas (held (delta b) ∷ held (delta a) ∷ items) = true
+are_deltas items = false
+
 -- the value that an operand holds, and the one that the newest operand holds; the int 0 where there is none
 abbrev pub held_in : Item → Value
 held_in (held v) = v

@@ -5,3 +5,4 @@ pub mod Walking
 pub mod Waiting
 pub mod Kinds
 pub mod Calling
+pub mod Counted

@@ -5,8 +5,8 @@ use Rattle.hera_sets.specs.Rows.{Row, is_past, put}
 use Rattle.hera_meaning.specs.Deltas.{State, rows_at}
 use Rattle.hera_code.specs.Machine.{Walk, with_current}
 use Rattle.when_overlay.specs.declared.layers.Layer.{Layer}
-use Rattle.hera_frames.specs.declared.walks.Source.{Source}
-use Rattle.hera_frames.specs.declared.walks.Source.TheVariants.{Rows, Named}
+use Rattle.hera_frames.specs.declared.walks.WalkSource.{WalkSource}
+use Rattle.hera_frames.specs.declared.walks.WalkSource.TheVariants.{Rows, Named}
 use Rattle.hera_frames.specs.Branched.{seen_at}
 
 -- what is left: these rows; or what lies past the current row in a relation, as it is under a layer
@@ -20,7 +20,7 @@ pub record Pace : Type 0 where
   pub current : Option Row
   pub gathered : List Row
 
-abbrev pub rest_of : Source → Rest
+abbrev pub rest_of : WalkSource → Rest
 rest_of (Rows rows next) = given (drop next rows)
 rest_of (Named rel tip) = named rel.0 tip
 
@@ -29,7 +29,7 @@ abbrev pub row_before : ℕ → List Row → Option Row → Option Row
 row_before zero rows last = last
 row_before (suc i) rows last = slice_get rows i
 
-abbrev pub current_of : Source → Option Row → Option Row
+abbrev pub current_of : WalkSource → Option Row → Option Row
 current_of (Rows rows next) last = row_before next rows last
 current_of (Named rel tip) last = last
 

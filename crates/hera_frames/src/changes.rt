@@ -1,13 +1,14 @@
 //! The deltas under which a machine reads.
-ghost use Rattle.std.specs.Prelude.{true, ◌≡◌, ◌<◌, ◌+◌, ◌^◌, ℕ, [], ◌∷◌, None, Some, false, suc, max, drop, length, slice_get, OnOk, OnErr, IfOk, IfSome};
+ghost use Rattle.std.specs.Prelude.{true, ◌≡◌, ◌≢◌, ◌<◌, ◌+◌, ◌^◌, ℕ, [], ◌∷◌, None, Some, false, suc, max, drop, length, slice_get, OnOk, OnErr, IfOk, IfSome};
 ghost use Rattle.std.specs.List.{list_all};
 ghost use Rattle.std.specs.Option.{option_copied};
-ghost use Rattle.hera_meaning.specs.Deltas.{State, atoms, is_fail, rows_at};
+ghost use Rattle.hera_meaning.specs.Deltas.{State, atoms, is_fail, apply_of, rows_at};
 ghost use Rattle.hera_meaning.specs.Rows.{is_row};
 ghost use Rattle.hera_meaning.specs.Fits.{is_delta_of};
 ghost use Rattle.when_overlay.specs.Changed.{after_all};
 ghost use Rattle.when_overlay.specs.Layered.{AreLayers};
 ghost use Rattle.hera_frames.specs.Branched.{pending_of, under, seen_at, lowest};
+ghost use Rattle.hera_frames.specs.Counted.{IsCount};
 
 use crate::kinds::have_same_kinds;
 use crate::values::let_go;
@@ -16,7 +17,7 @@ use delta_atoms::Delta;
 use hera_meaning::{RelDecl, RelId, Schema};
 use std::alloc::{AllocError, Global};
 use std::marker::Model;
-use when_overlay::{Hyp, Layers, Stored, View};
+use when_overlay::{Change, Hyp, Layers, Stored, View, change_of};
 
 /// The deltas under which a machine reads: the pending delta, and upon it those of `when`. None is `fail`.
 ///
@@ -111,18 +112,19 @@ impl<'c> Changes<'c> {
         ensures below { under self.new.layers self.new.tip ≡ drop 1 (under self.old.layers self.old.tip) }
         ensures within { self.new.tip < length self.new.layers }
     {
-        self.tip = self.below();
+        let tip = self.tip();
+        self.tip = self.below(tip);
     }
 
-    /// The number of the layer below the one under which the machine reads, which for the pending delta is
-    /// its own.
-    fn below(&self) -> usize
-        ensures below { under self.now.layers result ≡ drop 1 (under self.now.layers self.now.tip) }
+    /// The number of the layer below one, which for the pending delta is its own.
+    fn below(&self, i: usize) -> usize
+        requires { i < length self.now.layers }
+        ensures below { under self.now.layers result ≡ drop 1 (under self.now.layers i) }
         ensures within { result < length self.now.layers }
     {
         // for the proof alone: each parent is an earlier layer
         let _count = self.layers.len();
-        match self.parents.oldest_first().get(self.tip) {
+        match self.parents.oldest_first().get(i) {
             Some(number) => *number,
             None => 0,
         }
@@ -189,6 +191,68 @@ impl<'c> Changes<'c> {
             tip: Some(self.there(tip)),
         };
         view.rel(rel)
+    }
+
+    /// The rows of a relation after the commits and the pending delta. It takes no memory.
+    pub(crate) fn pending_rel<'a>(&'a self, stored: &'a Stored<'a>, rel: RelId) -> Hyp<'a>
+        requires { rel.0 < length stored.now.catalogue }
+        ensures { slice_get (apply_of stored.now.state (pending_of self.now.layers)) rel.0 ≡ Some result }
+    {
+        // for the proof alone: the layers are a tree
+        let _count = self.layers.len();
+        self.rel(stored, rel, 0)
+    }
+
+    /// How the layer of this number, which is not the pending delta, changes the number of rows that a relation has under
+    /// the layer below; none where there are 2^64 or more. Only the rows that it names are looked for. It takes no memory.
+    fn change(
+        &self,
+        alloc: Global,
+        stored: &Stored<'_>,
+        rel: RelId,
+        i: usize,
+        below: usize,
+    ) -> Option<Change>
+        requires there { rel.0 < length stored.now.catalogue }
+        requires within { i < length self.now.layers }
+        requires upon { i ≢ 0 }
+        requires below { under self.now.layers below ≡ drop 1 (under self.now.layers i) }
+        requires below_within { below < length self.now.layers }
+        ensures lower { length (under self.now.layers below) < length (under self.now.layers i) }
+        ensures change { let s = stored.now.state in IfSome result (λ change. length (rows_at (seen_at s self.now.layers i) rel.0) + change.taken_out ≡ length (rows_at (seen_at s self.now.layers below) rel.0) + change.put_in) }
+    {
+        let rows = self.rel(stored, rel, below);
+        change_of(alloc, &rows, rel, self.layers.delta(i))
+    }
+
+    /// How many rows a relation has under the layer of this number, from how many it has after the pending delta; none
+    /// for more than 2^63 - 1. Only the rows that the layers upon that name are looked for. It takes no memory.
+    pub(crate) fn count_upon(
+        &self,
+        alloc: Global,
+        stored: &Stored<'_>,
+        rel: RelId,
+        tip: usize,
+        pending: u64,
+    ) -> Option<u64>
+        requires there { rel.0 < length stored.now.catalogue }
+        requires pending { IsCount (apply_of stored.now.state (pending_of self.now.layers)) rel.0 pending }
+        ensures { IfSome result (IsCount (seen_at stored.now.state self.now.layers tip) rel.0) }
+    {
+        // for the proof alone: the layers are a tree
+        let _count = self.layers.len();
+        let mut at = self.there(tip);
+        let mut put_in: u64 = 0;
+        let mut taken_out: u64 = 0;
+        while at != 0 {
+            let below = self.below(at);
+            let change = self.change(alloc, stored, rel, at, below)?;
+            put_in = put_in.checked_add(change.put_in)?;
+            taken_out = taken_out.checked_add(change.taken_out)?;
+            at = below;
+        }
+        let count = pending.checked_add(put_in)?.checked_sub(taken_out)?;
+        if count < 1 << 63 { Some(count) } else { None }
     }
 
     /// The same rows as `rel` gives, with the schema of which they are known to be. It takes no memory.

@@ -10,6 +10,7 @@
 mod callers;
 mod calling;
 mod changes;
+mod counts;
 mod fitting;
 mod flats;
 mod frames;
@@ -27,6 +28,7 @@ mod walks;
 
 pub use callers::Callers;
 pub use changes::Changes;
+pub use counts::Counts;
 pub use fitting::fits_seen;
 pub use frames::{Frame, Point};
 pub use locals::Locals;

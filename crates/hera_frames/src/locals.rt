@@ -71,13 +71,13 @@ impl Model for Locals {
 }
 
 impl Locals {
-    /// A copy of a slot's value, if the slot is there.
+    /// A slot's value once more, if the slot is there. Of a relation or a delta nothing is copied.
     #[tactic(auto, using(crate::proofs::Slots::copies))]
-    pub fn copy_of(&self, alloc: Global, i: usize) -> Result<Option<Datum>, AllocError>
+    pub fn again(&self, alloc: Global, i: usize) -> Result<Option<Datum>, AllocError>
         ensures { IfOk result (λ v. option_map plain_of v ≡ slice_get self.now i) }
     {
         match self.items.get(i) {
-            Some(v) => Ok(Some(v.copy(alloc)?)),
+            Some(v) => Ok(Some(v.again(alloc)?)),
             None => Ok(None),
         }
     }

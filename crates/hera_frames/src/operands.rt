@@ -1,6 +1,6 @@
 //! Operands.
-ghost use Rattle.std.specs.Prelude.{◌≡◌, ◌+◌, ◌<◌, ◌≤◌, [], ◌∷◌, List, None, Some, false, min, drop, map, slice_get, IfOk, OnOk, OnErr, IsOk, MatchOption, length, take, ◌-◌};
-ghost use Rattle.std.specs.Option.{option_map};
+ghost use Rattle.std.specs.Prelude.{◌≡◌, ◌+◌, ◌<◌, ◌≤◌, [], ◌∷◌, List, None, Some, true, false, min, drop, map, slice_get, IfOk, OnOk, OnErr, IsOk, MatchOption, length, take, ◌-◌};
+ghost use Rattle.std.specs.Option.{is_some, option_copied, option_map};
 ghost use Rattle.hera_meaning.specs.Deltas.{State};
 ghost use Rattle.hera_meaning.specs.Values.{table};
 ghost use Rattle.hera_code.specs.Machine.{taken, as_bool, as_tuple, as_table, as_delta};
@@ -8,7 +8,7 @@ ghost use Rattle.when_overlay.specs.declared.layers.Layer.{Layer};
 ghost use Rattle.when_overlay.specs.Changed.{after_all};
 ghost use Rattle.std.specs.Vec.{vec_len, vec_capacity};
 ghost use Rattle.hera_prims.specs.Newest.{newest};
-ghost use Rattle.hera_frames.specs.Items.{plain_of, item_of, held, relation, is_relation, value_at, operands_at, collected, AreHeld, reach_of, reach};
+ghost use Rattle.hera_frames.specs.Items.{plain_of, item_of, held, relation, is_relation, value_at, operands_at, collected, AreHeld, are_deltas, reach_of, reach};
 ghost use Rattle.hera_frames.specs.Seeing.{rows_seen};
 
 use crate::values::{Datum, into_delta, into_row, let_go};
@@ -44,22 +44,42 @@ impl Operand {
     }
 
     /// The row, where the operand is a tuple. It takes no memory.
-    pub fn into_row(self) -> Option<RowBuf>
-        ensures { (s : State) → (ls : List Layer) → result ≡ as_tuple (value_at s ls (item_of self)) }
+    pub fn tuple(&self) -> Option<&[u8]>
+        ensures { (s : State) → (ls : List Layer) → option_copied result ≡ as_tuple (value_at s ls (item_of self.now)) }
     {
         match self {
-            Operand::Held(v) => into_row(v),
+            Operand::Held(v) => v.tuple(),
             Operand::Named { .. } => None,
         }
     }
 
+    /// The row, where the operand is a tuple.
+    pub fn into_row(self) -> Result<Option<RowBuf>, AllocError>
+        ensures { (s : State) → (ls : List Layer) → IfOk result (λ r. r ≡ as_tuple (value_at s ls (item_of self))) }
+    {
+        match self {
+            Operand::Held(v) => into_row(v),
+            Operand::Named { .. } => Ok(None),
+        }
+    }
+
     /// The delta, where the operand is one. It takes no memory.
-    pub fn into_delta(self) -> Option<Delta>
-        ensures { (s : State) → (ls : List Layer) → result ≡ as_delta (value_at s ls (item_of self)) }
+    pub fn delta(&self) -> Option<&Delta>
+        ensures { (s : State) → (ls : List Layer) → option_copied result ≡ as_delta (value_at s ls (item_of self.now)) }
+    {
+        match self {
+            Operand::Held(v) => v.delta(),
+            Operand::Named { .. } => None,
+        }
+    }
+
+    /// The delta, where the operand is one. It is copied where a slot has it too.
+    pub fn into_delta(self) -> Result<Option<Delta>, AllocError>
+        ensures { (s : State) → (ls : List Layer) → IfOk result (λ r. r ≡ as_delta (value_at s ls (item_of self))) }
     {
         match self {
             Operand::Held(v) => into_delta(v),
-            Operand::Named { .. } => None,
+            Operand::Named { .. } => Ok(None),
         }
     }
 
@@ -234,7 +254,10 @@ impl Operands {
         for _ in 0..n {
             match self.pop_value(alloc, changes, stored)? {
                 None => return Ok(None),
-                Some(v) => args.push_front(v.into_value())?,
+                Some(v) => {
+                    let value = v.into_value()?;
+                    args.push_front(value)?;
+                }
             }
         }
         Ok(Some(args))
@@ -262,6 +285,22 @@ impl Operands {
             }
         }
         false
+    }
+
+    /// Whether the two newest operands are deltas.
+    pub fn are_deltas(&self) -> bool
+        ensures { result ≡ true → are_deltas self.now.items ≡ true }
+    {
+        let Some(newest) = self.newest(0) else {
+            return false;
+        };
+        let Some(before) = self.newest(1) else {
+            return false;
+        };
+        if !newest.is_delta() {
+            return false;
+        }
+        before.is_delta()
     }
 
     /// Collects the rows of those of the newest `n` operands that name a relation, and of no other. Without memory some
@@ -306,6 +345,16 @@ impl Operand {
         match self {
             Operand::Held(_) => false,
             Operand::Named { .. } => true,
+        }
+    }
+
+    /// Whether it is a delta.
+    fn is_delta(&self) -> bool
+        ensures { (s : State) → (ls : List Layer) → result ≡ is_some (as_delta (value_at s ls (item_of self.now))) }
+    {
+        match self {
+            Operand::Held(v) => v.is_delta(),
+            Operand::Named { .. } => false,
         }
     }
 

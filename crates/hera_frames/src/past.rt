@@ -6,7 +6,7 @@ ghost use Rattle.hera_sets.specs.Rows.{is_past};
 
 use hera_rows::RowSet;
 use std::alloc::{AllocError, Global};
-use when_overlay::{Hyp, Mark};
+use when_overlay::{Hyp, ViewMark};
 
 /// The rows past the bound, as a set. No bound lets every row pass.
 pub(crate) fn collect_past(
@@ -28,7 +28,7 @@ fn collect_behind(alloc: Global, rows: &Hyp<'_>, bound: Option<&[u8]>) -> Result
 {
     let mut set = RowSet::new(alloc);
     let mut last = bound;
-    let mut mark = Mark::start();
+    let mut mark = ViewMark::start();
     loop {
         let next = rows.above_near(last, mark);
         let Some(row) = next.row else {

@@ -3,7 +3,7 @@ ghost use Rattle.std.specs.Prelude.{◌≡◌, ◌≤◌, ◌<◌, ◌^◌, leng
 ghost use Rattle.hera_frames.specs.Seeing.{rows_seen};
 
 use crate::Sight;
-use hera_rows::{Mark, RowSet, Sorted};
+use hera_rows::{RowMark, RowSet, Sorted};
 
 /// The rows of a relation that is an operand, of which none is copied.
 #[derive(Drop)]
@@ -49,7 +49,7 @@ impl Sorted for Seen<'_> {
         }
     }
 
-    fn above_from<'s>(&'s self, bound: Option<&[u8]>, mark: &mut Mark) -> Option<&'s [u8]> {
+    fn above_from<'s>(&'s self, bound: Option<&[u8]>, mark: &mut RowMark) -> Option<&'s [u8]> {
         match self {
             Seen::Nothing => None,
             Seen::Held(rows) => rows.above_from(bound, mark),
@@ -57,7 +57,7 @@ impl Sorted for Seen<'_> {
         }
     }
 
-    fn not_below<'s>(&'s self, bound: &'s [u8], mark: &mut Mark) -> Option<&'s [u8]> {
+    fn not_below<'s>(&'s self, bound: &'s [u8], mark: &mut RowMark) -> Option<&'s [u8]> {
         match self {
             Seen::Nothing => None,
             Seen::Held(rows) => rows.not_below(bound, mark),

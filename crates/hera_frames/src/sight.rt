@@ -5,7 +5,7 @@ ghost use Rattle.hera_meaning.specs.Rows.{is_row};
 
 use crate::kinds::have_same_kinds;
 use hera_meaning::Schema;
-use hera_rows::{Mark, Sorted};
+use hera_rows::{RowMark, Sorted};
 use rel_pages::PageRel;
 use std::marker::Model;
 use when_overlay::Hyp;
@@ -76,8 +76,12 @@ impl<'a> Sorted for Sight<'a> {
         self.rows.above(bound)
     }
 
-    fn above_from<'s>(&'s self, bound: Option<&[u8]>, mark: &mut Mark) -> Option<&'s [u8]> {
+    fn above_from<'s>(&'s self, bound: Option<&[u8]>, mark: &mut RowMark) -> Option<&'s [u8]> {
         self.rows.above_from(bound, mark)
+    }
+
+    fn not_below<'s>(&'s self, bound: &'s [u8], mark: &mut RowMark) -> Option<&'s [u8]> {
+        self.rows.not_below(bound, mark)
     }
 
     fn has(&self, row: &[u8]) -> bool {

@@ -1,6 +1,6 @@
 //! Values in little place.
 ghost use Rattle.std.specs.Prelude.{◌≡◌, ◌≤◌, true, false, length, IfOk, IfSome, IsOk, OnOk};
-ghost use Rattle.std.specs.Option.{option_copied};
+ghost use Rattle.std.specs.Option.{is_some, option_copied};
 ghost use Rattle.std.specs.Vec.{vec_capacity};
 ghost use Rattle.hera_meaning.specs.Expressions.{const_value};
 ghost use Rattle.hera_meaning.specs.Values.{tuple};
@@ -13,6 +13,7 @@ use hera_meaning::{Const, Scalar};
 use hera_rows::{RowBuf, RowSet};
 use std::alloc::{AllocError, Global};
 use std::mem::replace;
+use std::rc::Rc;
 
 /// A value. What is larger than an int stands on the heap.
 #[derive(Drop)]
@@ -23,8 +24,8 @@ pub enum Datum {
     Bool(bool),
     /// A tuple's row, in a buffer that another row can be put into.
     Tuple(Box<Vec<u8>>),
-    /// A value of any kind.
-    Large(Box<Value>),
+    /// A value of any kind. Other places may have the very same one: none of them changes it.
+    Large(Rc<Value>),
 }
 
 impl Datum {
@@ -43,27 +44,27 @@ impl Datum {
         }
     }
 
-    /// The value. It takes no memory.
-    pub fn into_value(self) -> Value
-        ensures { value_of result ≡ plain_of self }
+    /// The value. It takes no memory, unless it is on the heap and another place has it too: then it is copied.
+    pub fn into_value(self) -> Result<Value, AllocError>
+        ensures { IfOk result (λ v. value_of v ≡ plain_of self) }
     {
         match self {
-            Datum::Int(n) => Value::Scalar(Scalar::Int(n)),
-            Datum::Bool(b) => Value::Scalar(Scalar::Bool(b)),
-            Datum::Tuple(row) => Value::Row(RowBuf::from_vec(Box::into_inner(row))),
-            Datum::Large(v) => Box::into_inner(v),
+            Datum::Int(n) => Ok(Value::Scalar(Scalar::Int(n))),
+            Datum::Bool(b) => Ok(Value::Scalar(Scalar::Bool(b))),
+            Datum::Tuple(row) => Ok(Value::Row(RowBuf::from_vec(Box::into_inner(row)))),
+            Datum::Large(v) => own(v),
         }
     }
 
-    /// A copy.
-    pub fn copy(&self, alloc: Global) -> Result<Datum, AllocError>
+    /// The same value once more. Of what is on the heap, a tuple apart, nothing is copied.
+    pub fn again(&self, alloc: Global) -> Result<Datum, AllocError>
         ensures { IfOk result (λ d. plain_of d ≡ plain_of self.now) }
     {
         match self {
             Datum::Int(n) => Ok(Datum::Int(*n)),
             Datum::Bool(b) => Ok(Datum::Bool(*b)),
             Datum::Tuple(row) => Datum::of_row(alloc, row),
-            Datum::Large(v) => large(alloc, copy_value(v)?),
+            Datum::Large(v) => Ok(Datum::Large(v.clone()?)),
         }
     }
 
@@ -88,6 +89,30 @@ impl Datum {
             Datum::Bool(_) => None,
             Datum::Tuple(_) => None,
             Datum::Large(v) => rows_of(v),
+        }
+    }
+
+    /// Whether the value is a delta.
+    pub(crate) fn is_delta(&self) -> bool
+        ensures { result ≡ is_some (as_delta (plain_of self.now)) }
+    {
+        match self {
+            Datum::Int(_) => false,
+            Datum::Bool(_) => false,
+            Datum::Tuple(_) => false,
+            Datum::Large(v) => is_delta(v),
+        }
+    }
+
+    /// The delta, where the value is one.
+    pub fn delta(&self) -> Option<&Delta>
+        ensures { option_copied result ≡ as_delta (plain_of self.now) }
+    {
+        match self {
+            Datum::Int(_) => None,
+            Datum::Bool(_) => None,
+            Datum::Tuple(_) => None,
+            Datum::Large(v) => delta_of(v),
         }
     }
 
@@ -131,6 +156,52 @@ impl Datum {
             _ => None,
         }
     }
+
+    /// The row, where the value is a tuple.
+    pub fn tuple(&self) -> Option<&[u8]>
+        ensures { option_copied result ≡ as_tuple (plain_of self.now) }
+    {
+        match self {
+            Datum::Int(_) => None,
+            Datum::Bool(_) => None,
+            Datum::Tuple(row) => Some(row),
+            Datum::Large(v) => row_of(v),
+        }
+    }
+}
+
+/// The delta, where the value is one.
+fn delta_of(v: &Value) -> Option<&Delta>
+    ensures { option_copied result ≡ as_delta (value_of v.now) }
+{
+    match v {
+        Value::Delta(delta) => Some(delta),
+        Value::Scalar(_) => None,
+        Value::Row(_) => None,
+        Value::Rel(_) => None,
+    }
+}
+
+/// Whether the value is a delta.
+fn is_delta(v: &Value) -> bool
+    ensures { result ≡ is_some (as_delta (value_of v.now)) }
+{
+    match v {
+        Value::Delta(_) => true,
+        Value::Scalar(_) => false,
+        Value::Row(_) => false,
+        Value::Rel(_) => false,
+    }
+}
+
+/// The value: the very one where no other place has it, and else a copy.
+fn own(shared: Rc<Value>) -> Result<Value, AllocError>
+    ensures { IfOk result (λ v. value_of v ≡ value_of shared.value) }
+{
+    match Rc::try_unwrap(shared) {
+        Ok(v) => Ok(v),
+        Err(shared) => copy_value(&shared),
+    }
 }
 
 /// Puts other bytes in the place of those in the buffer.
@@ -157,7 +228,19 @@ pub(crate) fn fit(buffer: &mut Vec<u8>, bytes: &[u8]) -> bool
 fn large(alloc: Global, v: Value) -> Result<Datum, AllocError>
     ensures { IfOk result (λ d. plain_of d ≡ value_of v) }
 {
-    Ok(Datum::Large(Box::new(alloc, v)?))
+    Ok(Datum::Large(Rc::new(alloc, v)?))
+}
+
+/// The row, where the value is a tuple.
+fn row_of(v: &Value) -> Option<&[u8]>
+    ensures { option_copied result ≡ as_tuple (value_of v.now) }
+{
+    match v {
+        Value::Row(row) => Some(row.bytes()),
+        Value::Scalar(_) => None,
+        Value::Rel(_) => None,
+        Value::Delta(_) => None,
+    }
 }
 
 /// The rows, where the value is a relation.
@@ -187,38 +270,38 @@ fn bool_of(v: &Value) -> Option<bool>
 }
 
 /// The row, where the value is a tuple.
-pub fn into_row(v: Datum) -> Option<RowBuf>
-    ensures { result ≡ as_tuple (plain_of v) }
+pub fn into_row(v: Datum) -> Result<Option<RowBuf>, AllocError>
+    ensures { IfOk result (λ r. r ≡ as_tuple (plain_of v)) }
 {
-    match v.into_value() {
-        Value::Row(row) => Some(row),
-        Value::Scalar(_) => None,
-        Value::Rel(_) => None,
-        Value::Delta(_) => None,
+    match v.into_value()? {
+        Value::Row(row) => Ok(Some(row)),
+        Value::Scalar(_) => Ok(None),
+        Value::Rel(_) => Ok(None),
+        Value::Delta(_) => Ok(None),
     }
 }
 
-/// The rows, where the value is a relation.
-pub fn into_rel(v: Datum) -> Option<RowSet>
-    ensures { result ≡ as_table (plain_of v) }
+/// The rows, where the value is a relation. They are copied where another place has them too.
+pub fn into_rel(v: Datum) -> Result<Option<RowSet>, AllocError>
+    ensures { IfOk result (λ r. r ≡ as_table (plain_of v)) }
 {
-    match v.into_value() {
-        Value::Rel(rows) => Some(rows),
-        Value::Scalar(_) => None,
-        Value::Row(_) => None,
-        Value::Delta(_) => None,
+    match v.into_value()? {
+        Value::Rel(rows) => Ok(Some(rows)),
+        Value::Scalar(_) => Ok(None),
+        Value::Row(_) => Ok(None),
+        Value::Delta(_) => Ok(None),
     }
 }
 
-/// The delta, where the value is one.
-pub fn into_delta(v: Datum) -> Option<Delta>
-    ensures { result ≡ as_delta (plain_of v) }
+/// The delta, where the value is one. It is copied where another place has it too.
+pub fn into_delta(v: Datum) -> Result<Option<Delta>, AllocError>
+    ensures { IfOk result (λ r. r ≡ as_delta (plain_of v)) }
 {
-    match v.into_value() {
-        Value::Delta(delta) => Some(delta),
-        Value::Scalar(_) => None,
-        Value::Row(_) => None,
-        Value::Rel(_) => None,
+    match v.into_value()? {
+        Value::Delta(delta) => Ok(Some(delta)),
+        Value::Scalar(_) => Ok(None),
+        Value::Row(_) => Ok(None),
+        Value::Rel(_) => Ok(None),
     }
 }
 

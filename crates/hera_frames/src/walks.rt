@@ -21,12 +21,12 @@ use hera_sets::is_below;
 use std::alloc::{AllocError, Global};
 use std::marker::Model;
 use std::mem::replace;
-use when_overlay::{Mark, Stored};
+use when_overlay::{Stored, ViewMark};
 
 /// What a walk goes over: rows of its own, from a place on; or a relation as it is under a layer, of which
 /// what lies past the current row is still to come.
 #[derive(Drop)]
-pub(crate) enum Source {
+pub(crate) enum WalkSource {
     Rows { rows: RowSet, next: usize },
     Named { rel: RelId, tip: usize },
 }
@@ -34,11 +34,11 @@ pub(crate) enum Source {
 /// A walk over the rows of a relation, with the rows gathered on it.
 #[derive(Drop)]
 pub struct Walk {
-    source: Source,
+    source: WalkSource,
     /// The row that the last step found, if it is none of the walk's own rows.
     last: Option<RowBuf>,
     /// About where that row stands in the relation that is named. It only saves time.
-    mark: Mark,
+    mark: ViewMark,
     gathered: RowSet,
 }
 
@@ -80,7 +80,7 @@ fn put_last(last: &mut Option<RowBuf>, alloc: Global, row: &[u8]) -> Result<(), 
 /// looked for beside the last one's mark.
 fn row_past(
     last: &mut Option<RowBuf>,
-    mark: &mut Mark,
+    mark: &mut ViewMark,
     alloc: Global,
     changes: &Changes,
     stored: &Stored<'_>,
@@ -129,7 +129,7 @@ fn fit_last(last: &mut Option<RowBuf>, value: &mut Datum, row: &[u8]) -> bool
 /// in the place of a value too, if there is one and it fits in both places. It takes no memory.
 fn row_past_fits(
     last: &mut Option<RowBuf>,
-    mark: &mut Mark,
+    mark: &mut ViewMark,
     value: &mut Datum,
     changes: &Changes,
     stored: &Stored<'_>,
@@ -195,20 +195,20 @@ fn take_in(rows: &mut RowSet, row: &[u8]) -> Result<(), AllocError>
     Ok(())
 }
 
-impl Source {
+impl WalkSource {
     /// The row that the last step found, where one was found.
     fn current<'a>(&'a self, last: &'a Option<RowBuf>) -> Option<&'a [u8]>
         ensures { option_copied result ≡ current_of self.now last.now }
     {
         match self {
-            Source::Rows { rows, next } => {
+            WalkSource::Rows { rows, next } => {
                 if *next == 0 {
                     bytes_of(last)
                 } else {
                     row_at(rows, *next - 1)
                 }
             }
-            Source::Named { .. } => bytes_of(last),
+            WalkSource::Named { .. } => bytes_of(last),
         }
     }
 
@@ -218,8 +218,8 @@ impl Source {
         ensures { option_copied result ≡ first_of (rest_of self.now) }
     {
         match self {
-            Source::Rows { rows, next } => row_at(rows, *next),
-            Source::Named { .. } => None,
+            WalkSource::Rows { rows, next } => row_at(rows, *next),
+            WalkSource::Named { .. } => None,
         }
     }
 
@@ -228,8 +228,8 @@ impl Source {
         ensures { MatchOption result (IsGiven (rest_of self.now)) (λ p. rest_of self.now ≡ named p.0.0 p.1) }
     {
         match self {
-            Source::Rows { .. } => None,
-            Source::Named { rel, tip } => Some((*rel, *tip)),
+            WalkSource::Rows { .. } => None,
+            WalkSource::Named { rel, tip } => Some((*rel, *tip)),
         }
     }
 }
@@ -248,9 +248,9 @@ impl Walk {
         ensures { result ≡ record { rest = given rows; current = None; gathered = [] } }
     {
         Walk {
-            source: Source::Rows { rows, next: 0 },
+            source: WalkSource::Rows { rows, next: 0 },
             last: None,
-            mark: Mark::start(),
+            mark: ViewMark::start(),
             gathered: RowSet::new(alloc),
         }
     }
@@ -261,9 +261,9 @@ impl Walk {
         ensures { result ≡ record { rest = named rel.0 tip; current = None; gathered = [] } }
     {
         Walk {
-            source: Source::Named { rel, tip },
+            source: WalkSource::Named { rel, tip },
             last: None,
-            mark: Mark::start(),
+            mark: ViewMark::start(),
             gathered: RowSet::new(alloc),
         }
     }
@@ -273,8 +273,8 @@ impl Walk {
         ensures { result ≡ is_named self.now.rest }
     {
         match &self.source {
-            Source::Rows { .. } => false,
-            Source::Named { .. } => true,
+            WalkSource::Rows { .. } => false,
+            WalkSource::Named { .. } => true,
         }
     }
 
@@ -283,8 +283,8 @@ impl Walk {
         ensures { result ≡ min most (rest_reach self.now.rest) }
     {
         match &self.source {
-            Source::Rows { .. } => 0,
-            Source::Named { rel: _, tip } => if *tip < most { *tip + 1 } else { most },
+            WalkSource::Rows { .. } => 0,
+            WalkSource::Named { rel: _, tip } => if *tip < most { *tip + 1 } else { most },
         }
     }
 
@@ -309,7 +309,7 @@ impl Walk {
         ensures past { self.new ≡ past_first self.old }
     {
         match &mut self.source {
-            Source::Rows { rows, next } => {
+            WalkSource::Rows { rows, next } => {
                 if *next < rows.len() {
                     *next += 1;
                     true
@@ -317,7 +317,7 @@ impl Walk {
                     false
                 }
             }
-            Source::Named { .. } => false,
+            WalkSource::Named { .. } => false,
         }
     }
 
@@ -326,7 +326,7 @@ impl Walk {
         ensures { self.new ≡ record { rest = given []; current = None; gathered = self.old.gathered } }
     {
         let rows = RowSet::new(alloc);
-        let_go(replace(&mut self.source, Source::Rows { rows, next: 0 }));
+        let_go(replace(&mut self.source, WalkSource::Rows { rows, next: 0 }));
         let_go(replace(&mut self.last, None));
     }
 
@@ -430,7 +430,7 @@ impl Walk {
             Some((rel, tip)) => {
                 let last = bytes_of(&self.last);
                 let rows = rows_past(alloc, changes, stored, rel, tip, last)?;
-                let_go(replace(&mut self.source, Source::Rows { rows, next: 0 }));
+                let_go(replace(&mut self.source, WalkSource::Rows { rows, next: 0 }));
                 Ok(self)
             }
         }

@@ -12,3 +12,5 @@ pub mod Calling
 pub mod Smashed
 pub mod Storing
 pub mod Sights
+pub mod Joined
+pub mod Counted

@@ -50,6 +50,9 @@ like_over s t w = record {
   callers = length-map w.callers (frame_at s w.layers) ∙ sym (length-map w.callers (frame_at t w.layers));
 }
 
+pub left_over : (l : ℕ) (s t : State) (w : Work) → left l (machine_at s w) ≡ left l (machine_at t w)
+left_over l s t w = like_left l (machine_at s w) (machine_at t w) (like_over s t w)
+
 lower_over : (l : ℕ) (s t : State) (old new : Work) → IsLower l (machine_at s old) (machine_at t new) → IsLower l (machine_at [] old) (machine_at [] new)
 lower_over l s t old new h = like_lower l (machine_at s old) (machine_at t new) (machine_at [] old) (machine_at [] new) (like_over s [] old) (like_over t [] new) h
 

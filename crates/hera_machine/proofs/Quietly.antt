@@ -141,3 +141,11 @@ past_less l old new (at, turns, callers) within =
 -- from the machine that this is
 pub quietly_of : (hosts : Hosts) (s : State) (m old : Standing) (n : Machine) → m ≡ old → GoesQuietly m.code m.relations hosts s (machine_over s m) n → GoesQuietly old.code old.relations hosts s (machine_over s old) n
 quietly_of hosts s m old n same h = subst (λ (x : Standing). GoesQuietly x.code x.relations hosts s (machine_over s x) n) same h
+
+-- one machine behind another
+pub quietly_then : (hosts : Hosts) (s : State) (old mid new : Standing) → mid.code ≡ old.code → mid.relations ≡ old.relations → GoesQuietly old.code old.relations hosts s (machine_over s old) (machine_over s mid)
+    → GoesQuietly mid.code mid.relations hosts s (machine_over s mid) (machine_over s new) → GoesQuietly old.code old.relations hosts s (machine_over s old) (machine_over s new)
+quietly_then hosts s old mid new code rels first then =
+    quietly_on old.code old.relations hosts s (machine_over s old) (machine_over s mid) (machine_over s new) first
+    (subst (λ (c : Code). GoesQuietly c old.relations hosts s (machine_over s mid) (machine_over s new)) code
+    (subst (λ (r : List RelDecl). GoesQuietly mid.code r hosts s (machine_over s mid) (machine_over s new)) rels then))

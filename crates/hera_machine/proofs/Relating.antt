@@ -12,8 +12,8 @@ use Rattle.hera_code.specs.Machine.{Machine, quiet, ends, stuck, on_with, on_som
 use Rattle.hera_prims.specs.Tables.{is_relational, takes_relations, tables}
 use Rattle.hera_prims.proofs.Named.{no_relation}
 use Rattle.hera_frames.specs.Items.{Item, value_at, operands_at}
-use Rattle.hera_machine.specs.declared.running.relations.Found.{Found}
-use Rattle.hera_machine.specs.declared.running.relations.Found.TheVariants.{Misfit, Trap, Answer}
+use Rattle.hera_machine.specs.declared.running.relations.RelationAnswer.{RelationAnswer}
+use Rattle.hera_machine.specs.declared.running.relations.RelationAnswer.TheVariants.{Misfit, Trap, Answer}
 use Rattle.hera_machine.specs.Finding.{IsFound, found_step, is_measure}
 use Rattle.hera_machine.specs.Working.{Work, machine_at}
 
@@ -33,7 +33,7 @@ misfit op xs ys takes some h = by (is_relational op) refl h
 
 -- ---- steps
 
-pub answered : (at : ℕ) (op : Op) (args vs : List Value) (m : Machine) (f : Found) → IsFound op args f → found_step at vs m f ≡ answers at op args vs m
+pub answered : (at : ℕ) (op : Op) (args vs : List Value) (m : Machine) (f : RelationAnswer) → IsFound op args f → found_step at vs m f ≡ answers at op args vs m
 answered at op args vs m Misfit h = sym (ap (λ b. needs_that b (answer_step at (given op args) vs m)) h)
 answered at op args vs m (Trap name) h = sym (ap (λ b. needs_that b (answer_step at (given op args) vs m)) h.0 ∙ ap (λ a. answer_step at a vs m) h.1)
 answered at op args vs m (Answer v) h = sym (ap (λ b. needs_that b (answer_step at (given op args) vs m)) h.0 ∙ ap (λ a. answer_step at a vs m) h.1)
@@ -64,7 +64,7 @@ no_table v op m h = cc
 
 module _ (s : State) (at : ℕ) (op : Op) (w : Work) where
   -- one operand, which is a relation
-  pub one_told : (item : Item) (rows : List Row) (f : Found) → Some item ≡ slice_get w.operands 0 → as_table (value_at s w.layers item) ≡ Some rows → IsFound op (table rows ∷ []) f →
+  pub one_told : (item : Item) (rows : List Row) (f : RelationAnswer) → Some item ≡ slice_get w.operands 0 → as_table (value_at s w.layers item) ≡ Some rows → IsFound op (table rows ∷ []) f →
       found_step at (drop 1 (machine_at s w).operands) (machine_at s w) f ≡ on_some 1 (machine_at s w).operands (λ args vs. answers at op args vs (machine_at s w))
   one_told item rows f here is found = by w.operands here
     where
@@ -95,7 +95,7 @@ module _ (s : State) (at : ℕ) (op : Op) (w : Work) where
       by (x ∷ items) e = cc
 
   -- two operands, which are relations
-  pub two_told : (item other : Item) (rows lefts : List Row) (f : Found) → Some item ≡ slice_get w.operands 0 → Some other ≡ slice_get w.operands 1 → as_table (value_at s w.layers item) ≡ Some rows →
+  pub two_told : (item other : Item) (rows lefts : List Row) (f : RelationAnswer) → Some item ≡ slice_get w.operands 0 → Some other ≡ slice_get w.operands 1 → as_table (value_at s w.layers item) ≡ Some rows →
       as_table (value_at s w.layers other) ≡ Some lefts → IsFound op (table lefts ∷ table rows ∷ []) f →
       found_step at (drop 2 (machine_at s w).operands) (machine_at s w) f ≡ on_some 2 (machine_at s w).operands (λ args vs. answers at op args vs (machine_at s w))
   two_told item other rows lefts f here there is was found = by w.operands here there
@@ -148,11 +148,11 @@ some_operands : (items : List Item) (item : Item) → Some item ≡ slice_get it
 some_operands items item h e = let k : Some item ≡ None = h ∙ ap (λ xs. slice_get xs 0) e in cc
 
 -- what is said of an answer
-abbrev pub IsRelated : State → Op → Work → Found → Type 0
+abbrev pub IsRelated : State → Op → Work → RelationAnswer → Type 0
 IsRelated s op w f =
     ((arity op ≡ 1) ⊎ (arity op ≡ 2)) × (w.operands ≢ []) × ((at : ℕ) → found_step at (drop (arity op) (machine_at s w).operands) (machine_at s w) f ≡ on_some (arity op) (machine_at s w).operands (λ args vs. answers at op args vs (machine_at s w)))
 
-module _ (s : State) (op : Op) (w old : Work) (f : Found) (same : w ≡ old) (n : ℕ) (count : n ≡ arity op) where
+module _ (s : State) (op : Op) (w old : Work) (f : RelationAnswer) (same : w ≡ old) (n : ℕ) (count : n ≡ arity op) where
   pub related_one : (item : Item) (rows ys : List Row) → n ≡ 1 → Some item ≡ slice_get w.operands 0 → Some rows ≡ as_table (value_at s w.layers item) → IsFound op (tables op rows ys) f → IsRelated s op old f
   related_one item rows ys one here is found =
       let e : arity op ≡ 1 = sym count ∙ one in
@@ -178,12 +178,12 @@ module _ (s : State) (op : Op) (w old : Work) (f : Found) (same : w ≡ old) (n 
 
 -- ---- a count, or a test for no tuples
 
-abbrev pub IsMeasured : State → Op → Work → Found → Type 0
+abbrev pub IsMeasured : State → Op → Work → RelationAnswer → Type 0
 IsMeasured s op w f =
     (w.operands ≢ []) × ((at : ℕ) → found_step at (drop 1 (machine_at s w).operands) (machine_at s w) f ≡ on_some 1 (machine_at s w).operands (λ args vs. answers at op args vs (machine_at s w)))
 
 module _ (s : State) (op : Op) (w old : Work) (same : w ≡ old) where
-  pub measured_one : (f : Found) (item : Item) (rows : List Row) → Some item ≡ slice_get w.operands 0 → Some rows ≡ as_table (value_at s w.layers item) → IsFound op (table rows ∷ []) f → IsMeasured s op old f
+  pub measured_one : (f : RelationAnswer) (item : Item) (rows : List Row) → Some item ≡ slice_get w.operands 0 → Some rows ≡ as_table (value_at s w.layers item) → IsFound op (table rows ∷ []) f → IsMeasured s op old f
   measured_one f item rows here is found =
       subst (λ (x : Work). IsMeasured s op x f) same (some_operands w.operands item here, λ at. one_told s at op w item rows f here (sym is) found)
 

@@ -8,17 +8,17 @@ use Rattle.hera_meaning.specs.Primitives.{gives, refuses, given}
 use Rattle.hera_meaning.specs.Run.{stopped}
 use Rattle.hera_code.specs.Machine.{Machine, Step, quiet, ends, ended, stuck, on_with}
 use Rattle.hera_frames.specs.Items.{plain_of}
-use Rattle.hera_machine.specs.declared.running.relations.Found.{Found}
-use Rattle.hera_machine.specs.declared.running.relations.Found.TheVariants.{Misfit, Trap, Answer}
+use Rattle.hera_machine.specs.declared.running.relations.RelationAnswer.{RelationAnswer}
+use Rattle.hera_machine.specs.declared.running.relations.RelationAnswer.TheVariants.{Misfit, Trap, Answer}
 
 -- of the operation and its operands
-abbrev pub IsFound : Op → List Value → Found → Type 0
+abbrev pub IsFound : Op → List Value → RelationAnswer → Type 0
 IsFound op args Misfit = fits_of op args ≡ false
 IsFound op args (Trap name) = (fits_of op args ≡ true) × (given op args ≡ refuses name)
 IsFound op args (Answer v) = (fits_of op args ≡ true) × (given op args ≡ gives (plain_of v))
 
 -- the step of an operation at this mark, behind which these operands are left
-abbrev pub found_step : ℕ → List Value → Machine → Found → Step
+abbrev pub found_step : ℕ → List Value → Machine → RelationAnswer → Step
 found_step at vs m Misfit = ends stuck
 found_step at vs m (Trap name) = ends (ended (stopped name at))
 found_step at vs m (Answer v) = quiet (on_with (plain_of v ∷ vs) m)

@@ -7,3 +7,4 @@ pub mod Sparing
 pub mod Finding
 pub mod Answering
 pub mod Pairs
+pub mod Counted

@@ -1,11 +1,16 @@
 -- Two instructions at once: an operand that is put up and an operation that takes it off again. And a third one, a jump
--- by what the operation gives.
-use Rattle.std.specs.Prelude.{◌≡◌, ◌+◌, ℕ, ◌∷◌}
+-- by what the operation gives. And an operation and a slot that takes what it gives.
+use Rattle.std.specs.Prelude.{◌≡◌, ◌+◌, ℕ, Bool, true, false, Some, ◌∷◌, slice_get}
+use Rattle.std.specs.Option.{is_some}
 use Rattle.hera_meaning.specs.declared.trees.Op.{Op}
+use Rattle.hera_meaning.specs.declared.trees.Op.TheVariants.{Smash, Merge}
+use Rattle.hera_meaning.specs.Worlds.{set_local}
 use Rattle.hera_meaning.specs.Values.{Value}
 use Rattle.hera_meaning.specs.Fits.{arity}
 use Rattle.hera_code.specs.declared.instrs.Code.{Code}
-use Rattle.hera_code.specs.Machine.{Machine, Step, quiet, on_with, on_top, on_some, answers, needs_address, by_bool}
+use Rattle.hera_code.specs.declared.instrs.Instr.TheVariants.{Prim, Store}
+use Rattle.hera_code.specs.Machine.{Machine, Step, quiet, on_with, on_top, on_some, answers, needs_address, needs_slot, by_bool}
+use Rattle.hera_frames.specs.Items.{are_deltas}
 use Rattle.hera_machine.specs.Working.{Work}
 
 -- the operation at the place, where the value stands upon the operands of a machine, an instruction behind it
@@ -20,3 +25,23 @@ then_parts code a t = t
 -- two instructions further, in the same frame
 abbrev pub IsPast : Work → Work → Type 0
 IsPast old new = (new.at ≡ old.at + 2) × (new.turns ≡ old.turns) × (new.callers ≡ old.callers)
+
+-- the operation joins two deltas
+abbrev pub joins : Op → Bool
+joins Smash = true
+joins Merge = true
+joins _ = false
+
+-- behind a quiet instruction, the value that it put up goes into the slot
+abbrev pub then_stores : ℕ → Step → Step
+then_stores i (quiet m) = on_top m.operands (λ v vs. needs_slot i m (quiet (record m { at = m.at + 1; operands = vs; locals = set_local m.locals i v })))
+then_stores i t = t
+
+-- the instruction at hand joins the two newest operands, which are deltas, and the next one stores what it gives in a
+-- slot that is there
+pub record IsJoinAt (code : Code) (w : Work) (op : Op) (at i : ℕ) : Type 0 where
+  pub here : slice_get code.instrs w.at ≡ Some (Prim op at)
+  pub next : slice_get code.instrs (w.at + 1) ≡ Some (Store i)
+  pub joins : joins op ≡ true
+  pub deltas : are_deltas w.operands ≡ true
+  pub there : is_some (slice_get w.locals i) ≡ true

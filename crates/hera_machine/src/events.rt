@@ -8,7 +8,7 @@ use hera_meaning::{Line, TrapName};
 pub enum End {
     /// The program's end.
     Done,
-    /// A trap, and the byte offset of its mark.
+    /// A trap, and the byte offset of its place.
     Trap(TrapName, u32),
     /// A turn was due, and none was left.
     Spent,

@@ -8,6 +8,7 @@ ghost use Rattle.hera_host.specs.Tables.{specs_of};
 ghost use Rattle.hera_code.specs.Forward.{Forward};
 ghost use Rattle.hera_code.specs.Machine.{code_step};
 ghost use Rattle.hera_code.specs.Reached.{start_of};
+ghost use Rattle.hera_machine.specs.Counted.{AreCountsOver, AreCountsBehind};
 ghost use Rattle.hera_machine.specs.Over.{state_over};
 ghost use Rattle.hera_machine.specs.Sparing.{is_sparing};
 ghost use Rattle.hera_machine.specs.Descends.{left};
@@ -17,6 +18,7 @@ use crate::events::{End, Event, Status, Told};
 use crate::running::Running;
 use delta_atoms::Delta;
 use hera_code::Code;
+use hera_frames::Counts;
 use hera_host::HostTable;
 use hera_meaning::RelDecl;
 use rel_pages::Base;
@@ -136,42 +138,85 @@ impl<'c> Machine<'c> {
         }
     }
 
-    /// Executes the instructions at hand that have the quick way, 12,288 at most. It stops in front of one for
-    /// which memory is refused.
-    fn hurry(&mut self, stored: &Stored<'_>)
+    /// Executes the instructions at hand that have the quick way, 12,288 at most, and a smash or a merge that is stored. It
+    /// stops in front of a quick one for which memory is refused, and gives up where a smash or a merge lacks it.
+    fn hurry(&mut self, stored: &Stored<'_>) -> Result<(), AllocError>
+        ensures quietly { self.old.status ≡ Status.Working → (hosts : Hosts) → let s = stored.now.state in OnOk result (GoesQuietly self.old.code self.old.relations hosts s (machine_over s self.old) (machine_over s self.new)) }
+        ensures less { Forward self.old.code → OnOk result (left (length self.old.code.instrs) self.new.state ≤ left (length self.old.code.instrs) self.old.state) }
+        ensures layers { self.new.work.layers ≡ self.old.work.layers }
+        ensures status { OnOk result (self.new.status ≡ self.old.status) }
+        ensures waits { self.new.waits ≡ self.old.waits }
+        ensures code { self.new.code ≡ self.old.code }
+        ensures relations { self.new.relations ≡ self.old.relations }
+    {
+        match self.status {
+            Status::Working => {}
+            _ => return Ok(()),
+        }
+        self.work.hurry(self.code, stored);
+        match self.work.join(self.code, stored) {
+            Ok(()) => Ok(()),
+            Err(e) => {
+                self.status = Status::GaveUp;
+                Err(e)
+            }
+        }
+    }
+
+    /// Executes a count of a relation that is named, if that is the instruction at hand.
+    fn count(&mut self, stored: &Stored<'_>, counts: &mut Counts)
+        requires { AreCountsOver stored.now.state self.old counts.old }
         ensures quietly { self.old.status ≡ Status.Working → (hosts : Hosts) → let s = stored.now.state in GoesQuietly self.old.code self.old.relations hosts s (machine_over s self.old) (machine_over s self.new) }
         ensures less { Forward self.old.code → left (length self.old.code.instrs) self.new.state ≤ left (length self.old.code.instrs) self.old.state }
+        ensures counted { AreCountsOver stored.now.state self.new counts.new }
         ensures status { self.new.status ≡ self.old.status }
         ensures waits { self.new.waits ≡ self.old.waits }
         ensures code { self.new.code ≡ self.old.code }
         ensures relations { self.new.relations ≡ self.old.relations }
     {
         if let Status::Working = self.status {
-            self.work.hurry(self.code, stored);
+            self.work.count(self.code, stored, counts);
         }
     }
 
-    /// Executes instructions that have the quick way, as many as come and 12,288 at most, and then one as
-    /// `step` does, with the place for one more operand made before it. A refusal of the place is want of
-    /// memory.
+    /// Executes instructions that have the quick way, as many as come and 12,288 at most, then a smash or a merge that is
+    /// stored, a count, and then one as `step` does, with the place for one more operand made before it. A refusal of the
+    /// place is want of memory.
+    ///
+    /// The counts are those of the state after the pending delta, and are so again behind it. A relation that was counted
+    /// once is counted again by a look for each row that deltas name which are applied since, or entered.
     pub fn advance(
         &mut self,
         base: &Base,
         commits: &[Delta],
+        counts: &mut Counts,
         hosts: &HostTable,
     ) -> Result<Event, AllocError>
         requires waits { self.old.waits ≡ None }
         requires commits { list_all (is_delta_of base.now.catalogue) commits.now ≡ true }
+        requires counted { AreCountsOver (state_over base.now.state commits.now) self.old counts.old }
         ensures tells { self.old.status ≡ Status.Working → let stored = state_over base.now.state commits.now in IfOk result (λ e. Tells self.old.code self.old.relations (specs_of hosts.now.names) stored e self.old self.new) }
+        ensures counted { self.old.status ≡ Status.Working → let stored = state_over base.now.state commits.now in IfOk result (λ e. AreCountsBehind stored counts.new (event_over stored e self.new)) }
         ensures less { Forward self.old.code → IfOk result (IsLess (length self.old.code.instrs) self.old.state self.new.state) }
         ensures status { IfOk result (λ e. self.new.status ≡ status_by e) }
         ensures waits { IfOk result (WaitsBy self.new.waits) }
         ensures code { self.new.code ≡ self.old.code }
         ensures relations { self.new.relations ≡ self.old.relations }
     {
-        self.hurry(&Stored::new(base, commits));
+        let stored = Stored::new(base, commits);
+        self.hurry(&stored)?;
+        self.count(&stored, counts);
         self.reserve(1)?;
+        self.foresee(&stored, counts);
         self.step(base, commits, hosts)
+    }
+
+    /// Goes on to the counts behind the instruction at hand.
+    fn foresee(&self, stored: &Stored<'_>, counts: &mut Counts)
+        requires { AreCountsOver stored.now.state self.now counts.old }
+        ensures { (hosts : Hosts) → let s = stored.now.state in AreCountsBehind s counts.new (code_step self.now.code self.now.relations hosts s (machine_over s self.now)) }
+    {
+        self.work.foresee(self.code, stored, counts);
     }
 
     /// The delta of the commit that waits, which is taken. It takes no memory.

@@ -14,7 +14,9 @@ ghost use Rattle.hera_machine.specs.Working.{machine_at};
 
 mod calls;
 mod changes;
+mod counts;
 mod hosts;
+mod joins;
 mod jumps;
 mod pairs;
 mod prims;

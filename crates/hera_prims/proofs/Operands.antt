@@ -2,8 +2,8 @@
 use Rattle.std.proofs.Common.{◌≡◌, ℕ, zero, suc, true, List, [], ◌∷◌, None, Some, refl, sym, pos}
 use Rattle.std.specs.Prelude.{slice_get}
 use Rattle.std.proofs.lemmas.Option.{none-some, same_Some}
-use Rattle.hera_meaning.specs.Deltas.{Delta, fail, atoms, smash_of, merge_of}
-use Rattle.hera_meaning.specs.Values.{Value, int_value, operand, same_value}
+use Rattle.hera_meaning.specs.Deltas.{fail}
+use Rattle.hera_meaning.specs.Values.{Value, int_value, operand, same_value, delta_in}
 
 pub operand_some : (vs : List Value) (i : ℕ) (v : Value) → Some v ≡ slice_get vs i → operand vs i ≡ v
 operand_some [] i v e = absurd (none-some v (sym e))
@@ -24,14 +24,19 @@ both_none (x ∷ vs) e = absurd (none-some x e)
 
 pub ruleset equals = (operand_some, operand_none, both_none)
 
--- ---- a smash or a merge with `fail`
+-- ---- operands taken off at the front
 
-pub smash_fail : (d : Delta) → smash_of d fail ≡ fail
-smash_fail fail = refl
-smash_fail (atoms xs) = refl
+pub front_next : (vs ws : List Value) (v : Value) → vs ≡ v ∷ ws → operand ws 0 ≡ operand vs 1
+front_next vs [] v e = rw e refl
+front_next vs (w ∷ ws) v e = rw e refl
 
-pub merge_fail : (d : Delta) → merge_of d fail ≡ fail
-merge_fail fail = refl
-merge_fail (atoms xs) = refl
+pub front_first : (vs ws : List Value) (v : Value) → vs ≡ v ∷ ws → operand vs 0 ≡ v
+front_first vs ws v e = rw e refl
 
-pub ruleset failing = (operand_some, operand_none, smash_fail, merge_fail)
+pub front_none : (vs ws : List Value) → vs ≡ [] → ws ≡ [] → operand ws 0 ≡ operand vs 1
+front_none vs ws e f = rw (e, f) refl
+
+pub front_fails : (vs : List Value) → vs ≡ [] → fail ≡ delta_in (operand vs 0)
+front_fails vs e = rw e refl
+
+pub ruleset fronts = (front_next, front_first, front_none, front_fails)

@@ -2,7 +2,7 @@
 use Rattle.std.specs.Prelude.{Bool, true, false, List, [], ◌∷◌, take}
 use Rattle.hera_sets.specs.Rows.{Row}
 use Rattle.hera_meaning.specs.declared.trees.Op.{Op}
-use Rattle.hera_meaning.specs.declared.trees.Op.TheVariants.{Eq, Ne, In, MakeRow, Project, Union, Minus, Inter, Join, Group, Count, Empty, Sum, Min, Max, Bulk}
+use Rattle.hera_meaning.specs.declared.trees.Op.TheVariants.{Eq, Ne, In, MakeRow, Project, Union, Minus, Inter, Join, Group, Count, Empty, Sum, Min, Max, Bulk, Smash, Merge}
 use Rattle.hera_meaning.specs.Values.{Value, table}
 use Rattle.hera_meaning.specs.Fits.{arity}
 
@@ -44,7 +44,9 @@ takes_memory Empty = false
 takes_memory In = false
 takes_memory _ = true
 
--- the operation makes a tuple of its operands; they are lent to each other one
-abbrev pub makes_tuple : Op → Bool
-makes_tuple (MakeRow schema) = true
-makes_tuple _ = false
+-- the operation makes its value out of its operands; they are lent to each other one
+abbrev pub uses_up : Op → Bool
+uses_up (MakeRow schema) = true
+uses_up Smash = true
+uses_up Merge = true
+uses_up _ = false

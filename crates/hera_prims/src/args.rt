@@ -12,13 +12,13 @@ use std::marker::Model;
 
 /// One operand. A place that is not in use holds the int 0.
 #[derive(Drop)]
-struct Operand {
+struct OperandRead {
     value: Value,
 }
 
-impl MadeWith<Global> for Operand {
-    fn made_with(_alloc: Global) -> Operand {
-        Operand {
+impl MadeWith<Global> for OperandRead {
+    fn made_with(_alloc: Global) -> OperandRead {
+        OperandRead {
             value: Value::Scalar(Scalar::Int(0)),
         }
     }
@@ -29,7 +29,7 @@ impl MadeWith<Global> for Operand {
 /// They are put in from the last to the first, as they come off a stack.
 #[derive(Drop)]
 pub struct Args {
-    items: SmallVec<Operand, 4>,
+    items: SmallVec<OperandRead, 4>,
 }
 
 impl Model for Args {
@@ -58,7 +58,7 @@ impl Args {
     pub fn push_front(&mut self, value: Value) -> Result<(), AllocError>
         ensures { OnOk result (self.new ≡ value_of value ∷ self.old) }
     {
-        self.items.push(Operand { value })?;
+        self.items.push(OperandRead { value })?;
         Ok(())
     }
 
@@ -69,7 +69,7 @@ impl Args {
     {
         match self.items.pop() {
             None => None,
-            Some(Operand { value }) => Some(value),
+            Some(OperandRead { value }) => Some(value),
         }
     }
 

@@ -3,7 +3,7 @@ ghost use Rattle.std.specs.Prelude.{◌≡◌, true, false};
 ghost use Rattle.hera_meaning.specs.Fits.{fits_of};
 ghost use Rattle.hera_meaning.specs.Primitives.{given, prim_of};
 ghost use Rattle.hera_prims.specs.Answered.{IsAnswer, IsSparing};
-ghost use Rattle.hera_prims.specs.Tables.{asks_relations, makes_tuple};
+ghost use Rattle.hera_prims.specs.Tables.{asks_relations, uses_up};
 
 use crate::related::prim_rel;
 use crate::sets::rows_at;
@@ -27,6 +27,8 @@ pub fn prim(alloc: Global, op: &Op, args: Args) -> Result<Value, PrimEnd>
 {
     match op {
         Op::MakeRow(schema) => rows::make_row(alloc, schema, args),
+        Op::Smash => deltas::smash(alloc, args),
+        Op::Merge => deltas::merge(alloc, args),
         _ => answer(alloc, op, &args),
     }
 }
@@ -35,7 +37,7 @@ pub fn prim(alloc: Global, op: &Op, args: Args) -> Result<Value, PrimEnd>
 #[tactic(auto, using(crate::proofs::Fitted::fitting, crate::proofs::Sparing::sparing))]
 fn answer(alloc: Global, op: &Op, args: &Args) -> Result<Value, PrimEnd>
     requires fits { fits_of op.now args.now ≡ true }
-    requires lent { makes_tuple op.now ≡ false }
+    requires lent { uses_up op.now ≡ false }
     ensures given { IsAnswer result (given op.now args.now) }
     ensures spared { IsSparing op.now result }
 {
@@ -64,8 +66,7 @@ fn answer(alloc: Global, op: &Op, args: &Args) -> Result<Value, PrimEnd>
         Op::Ins(rel) => sets::ins(*rel, args),
         Op::Del(rel) => sets::del(*rel, args),
         Op::IsFail => deltas::is_fail(args),
-        Op::Smash => deltas::smash(alloc, args),
-        Op::Merge => deltas::merge(alloc, args),
+        Op::Smash | Op::Merge => unreachable!(),
         Op::Project(_, _) => of_held(alloc, op, args),
         Op::Union | Op::Minus | Op::Inter => of_held(alloc, op, args),
         Op::Join(_, _) => of_held(alloc, op, args),

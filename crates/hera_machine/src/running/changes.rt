@@ -31,7 +31,7 @@ impl Running<'_> {
         let Some(v) = self.operands.pop() else {
             return stuck();
         };
-        let Some(delta) = v.into_delta() else {
+        let Some(delta) = v.into_delta()? else {
             return stuck();
         };
         if delta.is_fail() {
@@ -156,16 +156,16 @@ impl Running<'_> {
         let Some(v) = self.operands.pop() else {
             return stuck();
         };
-        let Some(change) = v.into_delta() else {
+        let Some(change) = v.delta() else {
             return stuck();
         };
         if change.is_fail() {
             return Ok(Told::Ended(End::Trap(TrapName::ApplyFail, at)));
         }
-        if !is_delta_of(self.changes.catalogue(), &change) {
+        if !is_delta_of(self.changes.catalogue(), change) {
             return stuck();
         }
-        self.apply_delta(&change, stored)?;
+        self.apply_delta(change, stored)?;
         self.at += 1;
         Ok(Told::Quiet)
     }

@@ -30,6 +30,7 @@ impl Running<'_> {
         ensures done { (s : State) → (place : ℕ) → result ≡ true → quiet (machine_at s self.new) ≡ with_value place (Op.Field schema.now field) (slot_in (slice_get self.old.locals i)) (machine_at s self.old) }
         ensures past { result ≡ true → IsPast self.old self.new }
         ensures kept { result ≡ false → self.new ≡ self.old }
+        ensures layers { self.new.layers ≡ self.old.layers }
         ensures relations { self.new.relations ≡ self.old.relations }
     {
         let Some(v) = self.locals.field_at(i as usize, schema, field) else {
@@ -50,6 +51,7 @@ impl Running<'_> {
         ensures done { (s : State) → (place : ℕ) → result ≡ true → quiet (machine_at s self.new) ≡ with_value place Op.In (slot_in (slice_get self.old.locals i)) (machine_at s self.old) }
         ensures past { result ≡ true → IsPast self.old self.new }
         ensures kept { result ≡ false → self.new ≡ self.old }
+        ensures layers { self.new.layers ≡ self.old.layers }
         ensures relations { self.new.relations ≡ self.old.relations }
     {
         let Some(rows) = self.locals.rows_at(i as usize) else {
@@ -70,6 +72,7 @@ impl Running<'_> {
         ensures done { (s : State) → (place : ℕ) → result ≡ true → quiet (machine_at s self.new) ≡ with_value place op.now (int_value n) (machine_at s self.old) }
         ensures past { result ≡ true → IsPast self.old self.new }
         ensures kept { result ≡ false → self.new ≡ self.old }
+        ensures layers { self.new.layers ≡ self.old.layers }
         ensures relations { self.new.relations ≡ self.old.relations }
     {
         let Some(first) = self.operands.newest_int() else {
@@ -90,6 +93,7 @@ impl Running<'_> {
         requires { self.old.at + 3 < 2 ^ 64 }
         ensures done { (s : State) → (place : ℕ) → result ≡ true → quiet (machine_at s self.new) ≡ then_parts code.now a (with_value place op.now (int_value n) (machine_at s self.old)) }
         ensures kept { result ≡ false → self.new ≡ self.old }
+        ensures layers { self.new.layers ≡ self.old.layers }
         ensures relations { self.new.relations ≡ self.old.relations }
     {
         let Some(first) = self.operands.newest_int() else {
@@ -118,6 +122,7 @@ impl Running<'_> {
         ensures quietly { (rels : List PlainDecl) → (hosts : Hosts) → (s : State) → result ≡ true → GoesQuietly code.now rels hosts s (machine_at s self.old) (machine_at s self.new) }
         ensures less { result ≡ true → left (length code.now.instrs) (machine_at [] self.new) < left (length code.now.instrs) (machine_at [] self.old) }
         ensures kept { result ≡ false → self.new ≡ self.old }
+        ensures layers { self.new.layers ≡ self.old.layers }
         ensures relations { self.new.relations ≡ self.old.relations }
     {
         // for the proof alone: addresses of code are below 2^64 - 1
@@ -138,6 +143,7 @@ impl Running<'_> {
         ensures quietly { (rels : List PlainDecl) → (hosts : Hosts) → (s : State) → result ≡ true → GoesQuietly code.now rels hosts s (machine_at s self.old) (machine_at s self.new) }
         ensures less { result ≡ true → left (length code.now.instrs) (machine_at [] self.new) < left (length code.now.instrs) (machine_at [] self.old) }
         ensures kept { result ≡ false → self.new ≡ self.old }
+        ensures layers { self.new.layers ≡ self.old.layers }
         ensures relations { self.new.relations ≡ self.old.relations }
     {
         // for the proof alone: addresses of code are below 2^64 - 1
@@ -156,6 +162,7 @@ impl Running<'_> {
         ensures quietly { (rels : List PlainDecl) → (hosts : Hosts) → (s : State) → result ≡ true → GoesQuietly code.now rels hosts s (machine_at s self.old) (machine_at s self.new) }
         ensures less { Forward code.now → result ≡ true → left (length code.now.instrs) (machine_at [] self.new) < left (length code.now.instrs) (machine_at [] self.old) }
         ensures kept { result ≡ false → self.new ≡ self.old }
+        ensures layers { self.new.layers ≡ self.old.layers }
         ensures relations { self.new.relations ≡ self.old.relations }
     {
         // for the proof alone: addresses of code are below 2^64 - 1
@@ -176,6 +183,7 @@ impl Running<'_> {
         ensures quietly { (rels : List PlainDecl) → (hosts : Hosts) → (s : State) → result ≡ true → GoesQuietly code.now rels hosts s (machine_at s self.old) (machine_at s self.new) }
         ensures less { Forward code.now → result ≡ true → left (length code.now.instrs) (machine_at [] self.new) < left (length code.now.instrs) (machine_at [] self.old) }
         ensures kept { result ≡ false → self.new ≡ self.old }
+        ensures layers { self.new.layers ≡ self.old.layers }
         ensures relations { self.new.relations ≡ self.old.relations }
     {
         match instr {

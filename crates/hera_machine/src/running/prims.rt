@@ -43,6 +43,7 @@ impl Running<'_> {
     ) -> Result<Told, AllocError>
         requires { self.old.at + 1 < 2 ^ 64 }
         ensures step { let s = stored.now.state in IfOk result (λ told. step_at s told self.new ≡ on_some (arity op.now) (machine_at s self.old).operands (λ args vs. answers at op.now args vs (machine_at s self.old))) }
+        ensures layers { self.new.layers ≡ self.old.layers }
         ensures relations { self.new.relations ≡ self.old.relations }
     {
         let count = arity(op);
@@ -59,6 +60,7 @@ impl Running<'_> {
     fn operate(&mut self, op: &Op, at: u32, args: Args) -> Result<Told, AllocError>
         requires { self.old.at + 1 < 2 ^ 64 }
         ensures step { (s : State) → IfOk result (λ told. step_at s told self.new ≡ answers at op.now args (machine_at s self.old).operands (machine_at s self.old)) }
+        ensures layers { self.new.layers ≡ self.old.layers }
         ensures relations { self.new.relations ≡ self.old.relations }
     {
         if !fits(op, &args) {

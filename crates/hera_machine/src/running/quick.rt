@@ -32,6 +32,7 @@ impl Running<'_> {
     pub(crate) fn hurry(&mut self, code: &Code, stored: &Stored<'_>)
         ensures quietly { (rels : List PlainDecl) → (hosts : Hosts) → let s = stored.now.state in GoesQuietly code.now rels hosts s (machine_at s self.old) (machine_at s self.new) }
         ensures less { Forward code.now → left (length code.now.instrs) (machine_at [] self.new) ≤ left (length code.now.instrs) (machine_at [] self.old) }
+        ensures layers { self.new.layers ≡ self.old.layers }
         ensures relations { self.new.relations ≡ self.old.relations }
     {
         for _ in 0..AT_ONCE {
@@ -48,6 +49,7 @@ impl Running<'_> {
         ensures quietly { (rels : List PlainDecl) → (hosts : Hosts) → let s = stored.now.state in result ≡ true → GoesQuietly code.now rels hosts s (machine_at s self.old) (machine_at s self.new) }
         ensures less { Forward code.now → result ≡ true → left (length code.now.instrs) (machine_at [] self.new) < left (length code.now.instrs) (machine_at [] self.old) }
         ensures kept { result ≡ false → self.new ≡ self.old }
+        ensures layers { self.new.layers ≡ self.old.layers }
         ensures relations { self.new.relations ≡ self.old.relations }
     {
         // for the proof alone: addresses of code are below 2^64 - 1
@@ -64,6 +66,7 @@ impl Running<'_> {
         requires { self.old.at + 1 < 2 ^ 64 }
         ensures act { (rels : List PlainDecl) → (hosts : Hosts) → let s = stored.now.state in result ≡ true → quiet (machine_at s self.new) ≡ machine.act code.now rels hosts (Some instr.now) s (machine_at s self.old) }
         ensures kept { result ≡ false → self.new ≡ self.old }
+        ensures layers { self.new.layers ≡ self.old.layers }
         ensures relations { self.new.relations ≡ self.old.relations }
     {
         match instr {
@@ -90,6 +93,7 @@ impl Running<'_> {
         requires { self.old.at + 1 < 2 ^ 64 }
         ensures done { (s : State) → result ≡ true → quiet (machine_at s self.new) ≡ pushes (Some (flat_value v)) (machine_at s self.old) }
         ensures kept { result ≡ false → self.new ≡ self.old }
+        ensures layers { self.new.layers ≡ self.old.layers }
         ensures relations { self.new.relations ≡ self.old.relations }
     {
         if !self.operands.push_flat(v) {
@@ -104,6 +108,7 @@ impl Running<'_> {
         requires { self.old.at + 1 < 2 ^ 64 }
         ensures done { (s : State) → result ≡ true → quiet (machine_at s self.new) ≡ pushes (slice_get (machine_at s self.old).locals i) (machine_at s self.old) }
         ensures kept { result ≡ false → self.new ≡ self.old }
+        ensures layers { self.new.layers ≡ self.old.layers }
         ensures relations { self.new.relations ≡ self.old.relations }
     {
         match self.locals.int_at(i as usize) {
@@ -118,6 +123,7 @@ impl Running<'_> {
         requires { self.old.at + 1 < 2 ^ 64 }
         ensures done { (s : State) → result ≡ true → quiet (machine_at s self.new) ≡ pushes (slice_get (machine_at s self.old).locals i) (machine_at s self.old) }
         ensures kept { result ≡ false → self.new ≡ self.old }
+        ensures layers { self.new.layers ≡ self.old.layers }
         ensures relations { self.new.relations ≡ self.old.relations }
     {
         match self.locals.flat_at(i as usize) {
@@ -131,6 +137,7 @@ impl Running<'_> {
         requires { self.old.at + 1 < 2 ^ 64 }
         ensures done { (s : State) → result ≡ true → quiet (machine_at s self.new) ≡ pushes (slice_get (machine_at s self.old).locals i) (machine_at s self.old) }
         ensures kept { result ≡ false → self.new ≡ self.old }
+        ensures layers { self.new.layers ≡ self.old.layers }
         ensures relations { self.new.relations ≡ self.old.relations }
     {
         let Some(row) = self.locals.row_at(i as usize) else {
@@ -148,6 +155,7 @@ impl Running<'_> {
         requires { self.old.at + 1 < 2 ^ 64 }
         ensures done { (s : State) → result ≡ true → quiet (machine_at s self.new) ≡ on_top (machine_at s self.old).operands (λ v vs. needs_slot i (machine_at s self.old) (quiet (record (machine_at s self.old) { at = (machine_at s self.old).at + 1; operands = vs; locals = set_local (machine_at s self.old).locals i v }))) }
         ensures kept { result ≡ false → self.new ≡ self.old }
+        ensures layers { self.new.layers ≡ self.old.layers }
         ensures relations { self.new.relations ≡ self.old.relations }
     {
         let Some(n) = self.operands.newest_int() else {
@@ -168,6 +176,7 @@ impl Running<'_> {
         requires { self.old.at + 1 < 2 ^ 64 }
         ensures done { (s : State) → result ≡ true → quiet (machine_at s self.new) ≡ on_top (machine_at s self.old).operands (λ v vs. needs_slot i (machine_at s self.old) (quiet (record (machine_at s self.old) { at = (machine_at s self.old).at + 1; operands = vs; locals = set_local (machine_at s self.old).locals i v }))) }
         ensures kept { result ≡ false → self.new ≡ self.old }
+        ensures layers { self.new.layers ≡ self.old.layers }
         ensures relations { self.new.relations ≡ self.old.relations }
     {
         let Some(v) = self.operands.newest_flat() else {
@@ -187,6 +196,7 @@ impl Running<'_> {
         requires { self.old.at + 1 < 2 ^ 64 }
         ensures done { (s : State) → result ≡ true → quiet (machine_at s self.new) ≡ on_some (arity op.now) (machine_at s self.old).operands (λ args vs. answers at op.now args vs (machine_at s self.old)) }
         ensures kept { result ≡ false → self.new ≡ self.old }
+        ensures layers { self.new.layers ≡ self.old.layers }
         ensures relations { self.new.relations ≡ self.old.relations }
     {
         let Some((left, right)) = self.operands.newest_ints() else {
@@ -206,6 +216,7 @@ impl Running<'_> {
         requires { self.old.at + 1 < 2 ^ 64 }
         ensures done { (s : State) → result ≡ true → quiet (machine_at s self.new) ≡ on_some (arity op.now) (machine_at s self.old).operands (λ args vs. answers at op.now args vs (machine_at s self.old)) }
         ensures kept { result ≡ false → self.new ≡ self.old }
+        ensures layers { self.new.layers ≡ self.old.layers }
         ensures relations { self.new.relations ≡ self.old.relations }
     {
         match self.operands.newest_two() {
@@ -227,6 +238,7 @@ impl Running<'_> {
         requires { self.old.at + 1 < 2 ^ 64 }
         ensures done { (s : State) → result ≡ true → quiet (machine_at s self.new) ≡ on_some (arity op.now) (machine_at s self.old).operands (λ args vs. answers at op.now args vs (machine_at s self.old)) }
         ensures kept { result ≡ false → self.new ≡ self.old }
+        ensures layers { self.new.layers ≡ self.old.layers }
         ensures relations { self.new.relations ≡ self.old.relations }
     {
         // named for the contract alone: the operation does not trap here
@@ -247,6 +259,7 @@ impl Running<'_> {
         requires { self.old.at + 1 < 2 ^ 64 }
         ensures done { (s : State) → result ≡ true → quiet (machine_at s self.new) ≡ on_some 1 (machine_at s self.old).operands (λ args vs. answers at (Op.Field schema.now i) args vs (machine_at s self.old)) }
         ensures kept { result ≡ false → self.new ≡ self.old }
+        ensures layers { self.new.layers ≡ self.old.layers }
         ensures relations { self.new.relations ≡ self.old.relations }
     {
         // named for the contract alone: the operation does not trap
@@ -263,6 +276,7 @@ impl Running<'_> {
     fn jumped(&mut self, code: &Code, a: u32) -> bool
         ensures done { (s : State) → result ≡ true → quiet (machine_at s self.new) ≡ goes_to code.now a (machine_at s self.old) }
         ensures kept { result ≡ false → self.new ≡ self.old }
+        ensures layers { self.new.layers ≡ self.old.layers }
         ensures relations { self.new.relations ≡ self.old.relations }
     {
         if (a as usize) >= code.instrs.len() {
@@ -277,6 +291,7 @@ impl Running<'_> {
         requires { self.old.at + 1 < 2 ^ 64 }
         ensures done { (s : State) → result ≡ true → quiet (machine_at s self.new) ≡ on_top (machine_at s self.old).operands (λ v vs. needs_address code.now a (by_bool v (quiet (on_with vs (machine_at s self.old))) (quiet (record (machine_at s self.old) { at = a; operands = vs })))) }
         ensures kept { result ≡ false → self.new ≡ self.old }
+        ensures layers { self.new.layers ≡ self.old.layers }
         ensures relations { self.new.relations ≡ self.old.relations }
     {
         let Some(Flat::Bool(b)) = self.operands.newest_flat() else {
@@ -298,6 +313,7 @@ impl Running<'_> {
     fn went_back(&mut self, code: &Code, a: u32) -> bool
         ensures done { (s : State) → result ≡ true → quiet (machine_at s self.new) ≡ needs_address code.now a (spends (machine_at s self.old).turns (λ n. quiet (record (machine_at s self.old) { at = a; turns = n }))) }
         ensures kept { result ≡ false → self.new ≡ self.old }
+        ensures layers { self.new.layers ≡ self.old.layers }
         ensures relations { self.new.relations ≡ self.old.relations }
     {
         if (a as usize) >= code.instrs.len() || self.turns == 0 {
@@ -313,6 +329,7 @@ impl Running<'_> {
         requires { self.old.at + 1 < 2 ^ 64 }
         ensures done { let s = stored.now.state in result ≡ true → quiet (machine_at s self.new) ≡ on_walk (machine_at s self.old).walks (λ w ws. needs_slot i (machine_at s self.old) (needs_address code.now a (next_row i a w.rows w ws (machine_at s self.old)))) }
         ensures kept { result ≡ false → self.new ≡ self.old }
+        ensures layers { self.new.layers ≡ self.old.layers }
         ensures relations { self.new.relations ≡ self.old.relations }
     {
         if (a as usize) >= code.instrs.len() {
@@ -336,6 +353,7 @@ impl Running<'_> {
         requires address { a < length code.now.instrs }
         ensures done { let s = stored.now.state in result ≡ true → quiet (machine_at s self.new) ≡ on_walk (machine_at s self.old).walks (λ w ws. needs_slot i (machine_at s self.old) (needs_address code.now a (next_row i a w.rows w ws (machine_at s self.old)))) }
         ensures kept { result ≡ false → self.new ≡ self.old }
+        ensures layers { self.new.layers ≡ self.old.layers }
         ensures relations { self.new.relations ≡ self.old.relations }
     {
         // named for the contract alone: a row is left here
@@ -355,6 +373,7 @@ impl Running<'_> {
         requires { self.old.at + 1 < 2 ^ 64 }
         ensures done { (s : State) → result ≡ true → quiet (machine_at s self.new) ≡ on_walk (machine_at s self.old).walks (λ w ws. on_top (machine_at s self.old).operands (λ v vs. keeps v vs w ws (machine_at s self.old))) }
         ensures kept { result ≡ false → self.new ≡ self.old }
+        ensures layers { self.new.layers ≡ self.old.layers }
         ensures relations { self.new.relations ≡ self.old.relations }
     {
         let Some(Flat::Bool(b)) = self.operands.newest_flat() else {

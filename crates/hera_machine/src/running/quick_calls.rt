@@ -33,6 +33,7 @@ impl Running<'_> {
         requires { self.old.at + 1 < 2 ^ 64 }
         ensures done { (s : State) → result ≡ true → quiet (machine_at s self.new) ≡ calls_body (slice_get code.now.bodies k) (machine_at s self.old) }
         ensures kept { result ≡ false → self.new ≡ self.old }
+        ensures layers { self.new.layers ≡ self.old.layers }
         ensures relations { self.new.relations ≡ self.old.relations }
     {
         match code.bodies.get(k as usize) {
@@ -47,6 +48,7 @@ impl Running<'_> {
         requires { self.old.at + 1 < 2 ^ 64 }
         ensures done { (s : State) → result ≡ true → quiet (machine_at s self.new) ≡ calls_body (Some body.now) (machine_at s self.old) }
         ensures kept { result ≡ false → self.new ≡ self.old }
+        ensures layers { self.new.layers ≡ self.old.layers }
         ensures relations { self.new.relations ≡ self.old.relations }
     {
         if body.params > body.slots || self.turns == 0 {
@@ -82,6 +84,7 @@ impl Running<'_> {
     pub(super) fn returned_nothing(&mut self) -> bool
         ensures done { (s : State) → result ≡ true → quiet (machine_at s self.new) ≡ goes_back (machine_at s self.old).callers [] (machine_at s self.old) }
         ensures kept { result ≡ false → self.new ≡ self.old }
+        ensures layers { self.new.layers ≡ self.old.layers }
         ensures relations { self.new.relations ≡ self.old.relations }
     {
         self.resume(None)
@@ -92,6 +95,7 @@ impl Running<'_> {
     pub(super) fn returned(&mut self) -> bool
         ensures done { (s : State) → result ≡ true → quiet (machine_at s self.new) ≡ on_top (machine_at s self.old).operands (λ v vs. goes_back (machine_at s self.old).callers (v ∷ []) (machine_at s self.old)) }
         ensures kept { result ≡ false → self.new ≡ self.old }
+        ensures layers { self.new.layers ≡ self.old.layers }
         ensures relations { self.new.relations ≡ self.old.relations }
     {
         match self.operands.newest_flat() {
@@ -107,6 +111,7 @@ impl Running<'_> {
         ensures done { (s : State) → result ≡ true → quiet (machine_at s self.new) ≡ goes_back (machine_at s self.old).callers (answer_values answer) (machine_at s self.old) }
         ensures kept { result ≡ false → self.new ≡ self.old }
         ensures none { answer ≡ None → result ≡ false → self.old.callers ≡ [] }
+        ensures layers { self.new.layers ≡ self.old.layers }
         ensures relations { self.new.relations ≡ self.old.relations }
     {
         let Some(point) = self.callers.resume(

@@ -24,7 +24,7 @@ use when_overlay::Stored;
 
 /// What an operation finds of its operands.
 #[derive(Drop)]
-pub(crate) enum Found {
+pub(crate) enum RelationAnswer {
     /// They do not fit it.
     Misfit,
     /// It traps.
@@ -34,34 +34,39 @@ pub(crate) enum Found {
 }
 
 /// What the operation gives of relations, of which one that takes a single operand has the first.
-fn found_of(alloc: Global, op: &Op, a: &Seen<'_>, b: &Seen<'_>) -> Result<Found, AllocError>
+fn found_of(
+    alloc: Global,
+    op: &Op,
+    a: &Seen<'_>,
+    b: &Seen<'_>,
+) -> Result<RelationAnswer, AllocError>
     requires op { takes_relations op.now ≡ is_relational op.now }
     requires some { 0 < arity op.now }
     ensures found { IfOk result (IsFound op.now (tables op.now (rows_seen a.now) (rows_seen b.now))) }
     ensures spared { takes_memory op.now ≡ false → IsOk result }
 {
     if !fits_seen(op, a, b) {
-        return Ok(Found::Misfit);
+        return Ok(RelationAnswer::Misfit);
     }
     match prim_rel(alloc, op, a, b) {
-        Ok(v) => Ok(Found::Answer(Datum::new(alloc, v)?)),
-        Err(PrimEnd::Trap(name)) => Ok(Found::Trap(name)),
+        Ok(v) => Ok(RelationAnswer::Answer(Datum::new(alloc, v)?)),
+        Err(PrimEnd::Trap(name)) => Ok(RelationAnswer::Trap(name)),
         Err(PrimEnd::Memory) => Err(AllocError),
     }
 }
 
 /// How many rows a relation has. It takes no memory.
-fn counted(rows: &Seen<'_>) -> Found
+fn counted(rows: &Seen<'_>) -> RelationAnswer
     ensures { IsFound Op.Count (table (rows_seen rows.now) ∷ []) result }
 {
     match rows.count() {
-        Some(count) => Found::Answer(Datum::Int(count as i64)),
-        None => Found::Trap(TrapName::Overflow),
+        Some(count) => RelationAnswer::Answer(Datum::Int(count as i64)),
+        None => RelationAnswer::Trap(TrapName::Overflow),
     }
 }
 
 /// What a count, or a test for no tuples, gives of a relation. It takes no memory.
-fn measured(alloc: Global, op: &Op, rows: &Seen<'_>) -> Result<Found, AllocError>
+fn measured(alloc: Global, op: &Op, rows: &Seen<'_>) -> Result<RelationAnswer, AllocError>
     requires { is_measure op.now ≡ true }
     ensures found { IfOk result (IsFound op.now (table (rows_seen rows.now) ∷ [])) }
     ensures spared { IsOk result }
@@ -94,7 +99,11 @@ impl Running<'_> {
 
     /// What a count, or a test for no tuples, gives of the newest operand; nothing where that is no relation.
     /// It takes no memory.
-    fn measured_here(&self, stored: &Stored<'_>, op: &Op) -> Result<Option<Found>, AllocError>
+    fn measured_here(
+        &self,
+        stored: &Stored<'_>,
+        op: &Op,
+    ) -> Result<Option<RelationAnswer>, AllocError>
         requires { is_measure op.now ≡ true }
         ensures found { let s = stored.now.state in IfOk result (λ r. MatchOption r ((at : ℕ) → ends stuck ≡ on_some 1 (machine_at s self.now).operands (λ args vs. answers at op.now args vs (machine_at s self.now))) (λ found. (self.now.operands ≢ []) × ((at : ℕ) → found_step at (drop 1 (machine_at s self.now).operands) (machine_at s self.now) found ≡ on_some 1 (machine_at s self.now).operands (λ args vs. answers at op.now args vs (machine_at s self.now))))) }
         ensures spared { IsOk result }
@@ -121,13 +130,13 @@ impl Running<'_> {
         let Some(tuple) = self.operands.pop() else {
             return stuck();
         };
-        let Some(row) = tuple.into_row() else {
+        let Some(row) = tuple.tuple() else {
             return stuck();
         };
         match relation.seen(&self.changes, stored) {
             None => stuck(),
             Some(rows) => {
-                self.operands.push(Datum::Bool(rows.has(row.bytes())))?;
+                self.operands.push(Datum::Bool(rows.has(row)))?;
                 self.at += 1;
                 Ok(Told::Quiet)
             }
@@ -153,7 +162,7 @@ impl Running<'_> {
     }
 
     /// What an operation with one operand, or two, finds of relations; nothing of other operands.
-    fn related(&self, stored: &Stored<'_>, op: &Op) -> Result<Option<Found>, AllocError>
+    fn related(&self, stored: &Stored<'_>, op: &Op) -> Result<Option<RelationAnswer>, AllocError>
         requires op { takes_relations op.now ≡ is_relational op.now }
         ensures { let s = stored.now.state in IfOk result (λ r. MatchOption r (Unit {0}) (λ found. ((arity op.now ≡ 1) ⊎ (arity op.now ≡ 2)) × (self.now.operands ≢ []) × ((at : ℕ) → found_step at (drop (arity op.now) (machine_at s self.now).operands) (machine_at s self.now) found ≡ on_some (arity op.now) (machine_at s self.now).operands (λ args vs. answers at op.now args vs (machine_at s self.now))))) }
     {
@@ -179,18 +188,24 @@ impl Running<'_> {
     }
 
     /// Puts what an operation found in the place of its operands, one or two. It takes no memory.
-    fn answer(&mut self, count: usize, found: Found, at: u32) -> Result<Told, AllocError>
+    pub(super) fn answer(
+        &mut self,
+        count: usize,
+        found: RelationAnswer,
+        at: u32,
+    ) -> Result<Told, AllocError>
         requires next { self.old.at + 1 < 2 ^ 64 }
         requires count { (count ≡ 1) ⊎ (count ≡ 2) }
         requires some { self.old.operands ≢ [] }
         ensures step { (s : State) → IfOk result (λ told. step_at s told self.new ≡ found_step at (drop count (machine_at s self.old).operands) (machine_at s self.old) found) }
+        ensures layers { self.new.layers ≡ self.old.layers }
         ensures no_copy { IsOk result }
         ensures relations { self.new.relations ≡ self.old.relations }
     {
         match found {
-            Found::Misfit => stuck(),
-            Found::Trap(name) => Ok(Told::Ended(End::Trap(name, at))),
-            Found::Answer(v) => {
+            RelationAnswer::Misfit => stuck(),
+            RelationAnswer::Trap(name) => Ok(Told::Ended(End::Trap(name, at))),
+            RelationAnswer::Answer(v) => {
                 self.put(count, v)?;
                 self.at += 1;
                 Ok(Told::Quiet)

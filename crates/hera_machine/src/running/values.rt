@@ -39,7 +39,7 @@ impl Running<'_> {
         ensures step { (s : State) → IfOk result (λ told. step_at s told self.new ≡ pushes (slice_get (machine_at s self.old).locals i) (machine_at s self.old)) }
         ensures relations { self.new.relations ≡ self.old.relations }
     {
-        let Some(v) = self.locals.copy_of(self.alloc, i as usize)? else {
+        let Some(v) = self.locals.again(self.alloc, i as usize)? else {
             return stuck();
         };
         self.operands.push(v)?;
@@ -50,6 +50,7 @@ impl Running<'_> {
     pub(super) fn store(&mut self, stored: &Stored<'_>, i: u32) -> Result<Told, AllocError>
         requires { self.old.at + 1 < 2 ^ 64 }
         ensures step { let s = stored.now.state in IfOk result (λ told. step_at s told self.new ≡ on_top (machine_at s self.old).operands (λ v vs. needs_slot i (machine_at s self.old) (quiet (record (machine_at s self.old) { at = (machine_at s self.old).at + 1; operands = vs; locals = set_local (machine_at s self.old).locals i v })))) }
+        ensures layers { self.new.layers ≡ self.old.layers }
         ensures relations { self.new.relations ≡ self.old.relations }
     {
         let Some(v) = self.operands.pop_value(self.alloc, &self.changes, stored)? else {
@@ -90,7 +91,7 @@ impl Running<'_> {
             None => stuck(),
             Some(Operand::Named { .. }) => stuck(),
             Some(Operand::Held(v)) => {
-                let v = v.into_value();
+                let v = v.into_value()?;
                 let answer = answer_for(hosts, h, &v);
                 let_go(v);
                 match answer {
@@ -131,7 +132,7 @@ impl Running<'_> {
         let Some(v) = self.operands.pop_value(self.alloc, &self.changes, stored)? else {
             return stuck();
         };
-        let v = v.into_value();
+        let v = v.into_value()?;
         if !has_shape(shape, &v, self.changes.catalogue()) {
             return stuck();
         }

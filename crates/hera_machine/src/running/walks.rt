@@ -43,7 +43,7 @@ impl Running<'_> {
             }
             Some(operand) => {
                 let v = operand.collect(self.alloc, &self.changes, stored)?;
-                let Some(rows) = into_rel(v) else {
+                let Some(rows) = into_rel(v)? else {
                     return stuck();
                 };
                 self.walks.push(Walk::new(self.alloc, rows))?;
@@ -125,7 +125,7 @@ impl Running<'_> {
         let Some(v) = self.operands.pop() else {
             return stuck();
         };
-        let Some(row) = v.into_row() else {
+        let Some(row) = v.into_row()? else {
             return stuck();
         };
         self.walks.gather(row.bytes())?;

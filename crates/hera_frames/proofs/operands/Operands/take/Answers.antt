@@ -14,7 +14,7 @@ loop-preserved c =
     let told = λ (o : Option Datum). MatchOption o (c.loop.self.items ≡ []) (λ v. operands_at s ls c.loop.self.items ≡ plain_of v ∷ rest) in
     record {
       taking =
-          ap (λ args. taken (c.args.n - (c.loop.counter + 1)) args rest) (c.in_ok-push_front-in-Some.ensures ∙ ap (λ v. v ∷ c.loop.args) c.into_value.ensures)
+          ap (λ args. taken (c.args.n - (c.loop.counter + 1)) args rest) (c.in_ok-push_front-in-Some.ensures ∙ ap (λ v. v ∷ c.loop.args) c.in_ok-value-in-Some.ensures)
           ∙ sym (taken_next c.args.n c.loop.counter c.loop.args (plain_of c.in-Some.v) rest (omega arith))
           ∙ ap (λ vs. taken (c.args.n - c.loop.counter) c.loop.args vs) (sym (subst told c.in-Some.is c.in_ok-pop_value.ensures.value))
           ∙ c.loop.invariant.taking;

@@ -1,6 +1,6 @@
 use Rattle.std.proofs.Common.{◌∙◌, sym, ap, arith, is_some}
 use Rattle.hera_frames.specs.contracts.walks.Walk.{the_view}
-use Rattle.hera_frames.specs.declared.walks.Source.{Source}
+use Rattle.hera_frames.specs.declared.walks.WalkSource.{WalkSource}
 use Rattle.hera_frames.specs.Walking.{Pace, given, rest_of, current_of, first_of, past_first}
 use Rattle.hera_frames.proofs.Drops.{pass_within, drop_past, left_some, left_none}
 use Rattle.hera_frames.proofs.Goings.{past_none, past_named}
@@ -13,17 +13,17 @@ returns-clause-found c =
     elim c.match-self.branch [
       | in-Rows+then-next-len w ↦
           w.result-is ∙ left_some w.in-Rows.rows w.in-Rows.next (omega (arith, w.if-next-len.true, w.len.ensures.count))
-          ∙ ap (λ (o : Source). is_some (first_of (rest_of o))) (sym w.in-Rows.is) ∙ told
+          ∙ ap (λ (o : WalkSource). is_some (first_of (rest_of o))) (sym w.in-Rows.is) ∙ told
       | in-Rows+else-next-len w ↦
           w.result-is ∙ left_none w.in-Rows.rows w.in-Rows.next (omega (arith, w.if-next-len.false, w.len.ensures.count))
-          ∙ ap (λ (o : Source). is_some (first_of (rest_of o))) (sym w.in-Rows.is) ∙ told
-      | in-Named w ↦ w.result-is ∙ ap (λ (o : Source). is_some (first_of (rest_of o))) (sym w.in-Named.is) ∙ told
+          ∙ ap (λ (o : WalkSource). is_some (first_of (rest_of o))) (sym w.in-Rows.is) ∙ told
+      | in-Named w ↦ w.result-is ∙ ap (λ (o : WalkSource). is_some (first_of (rest_of o))) (sym w.in-Named.is) ∙ told
     ]
 
 pub returns-clause-past : goal.returns-clause-past
 returns-clause-past c =
     let now = c.self.inside in
-    let pace : Source → Pace = λ o. record { rest = rest_of o; current = current_of o now.last; gathered = now.gathered } in
+    let pace : WalkSource → Pace = λ o. record { rest = rest_of o; current = current_of o now.last; gathered = now.gathered } in
     elim c.match-self.branch [
       | in-Rows+then-next-len w ↦
           ap the_view w.self-inside-is

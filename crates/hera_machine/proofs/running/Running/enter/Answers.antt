@@ -18,6 +18,6 @@ pub returns-clause-step : goal.returns-clause-step
 returns-clause-step c = λ s.
     let now = c.self.inside in
     ap (λ (w : Work). quiet (machine_at s (record w { at = w.at + 1 }))) c.self-2.view_is
-    ∙ enter_told s c.args.self.now.relations c.args.at c.pop.new.self.spare c.args.self.now (the_view now) c.enter_layer.new.self (item_of c.in-Some.v) c.pop.new.self.items c.in-Some-into_delta.delta
-    c.self.view_is c.in-Some.ensures.items (sym (c.into_delta.ensures s now.changes.layers) ∙ c.in-Some-into_delta.is) (sym c.is_fail.ensures.fails ∙ c.if-is_fail.false)
-    (ap (λ (rs : List RelDecl). is_delta_of rs c.in-Some-into_delta.delta) (sym (c.catalogue.ensures ∙ ap (λ (w : Work). w.relations) c.self.view_is)) ∙ sym c.is_delta_of.ensures ∙ c.if-not-is_delta_of.false) (c.in_ok-enter_layer.ensures.over s)
+    ∙ enter_told s c.args.self.now.relations c.args.at c.pop.new.self.spare c.args.self.now (the_view now) c.enter_layer.new.self (item_of c.in-Some.v) c.pop.new.self.items c.in-Some-2.delta
+    c.self.view_is c.in-Some.ensures.items (sym (c.in_ok-delta.ensures s now.changes.layers) ∙ c.in-Some-2.is) (sym c.is_fail.ensures.fails ∙ c.if-is_fail.false)
+    (ap (λ (rs : List RelDecl). is_delta_of rs c.in-Some-2.delta) (sym (c.catalogue.ensures ∙ ap (λ (w : Work). w.relations) c.self.view_is)) ∙ sym c.is_delta_of.ensures ∙ c.if-not-is_delta_of.false) (c.in_ok-enter_layer.ensures.over s)

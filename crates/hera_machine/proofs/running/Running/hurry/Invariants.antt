@@ -10,6 +10,7 @@ use Rattle.hera_machine.proofs.running.Running.hurry.Given as goal
 abbrev pub invariant-loop : goal.invariant-loop
 invariant-loop l = record {
   quietly : (rels : List RelDecl) → (hosts : Hosts) → let s = l.stored.state in GoesQuietly l.code rels hosts s (machine_at s l.initial.self) (machine_at s l.self);
+  layers : l.self.layers ≡ l.initial.self.layers;
   relations : l.self.relations ≡ l.initial.self.relations;
   less : Forward l.code → left (length l.code.instrs) (machine_at [] l.self) ≤ left (length l.code.instrs) (machine_at [] l.initial.self);
 }
