@@ -8,7 +8,7 @@ use Rattle.hera_meaning.specs.Run.{printed, state_after}
 use Rattle.hera_machine.proofs.Along.{printed-append, state_after-append}
 use Rattle.hera_volume.specs.Time.{Image}
 use Rattle.hera_store.specs.Databases.{Database}
-use Rattle.hera_run.specs.Cut.{text_of_next, StoresNext, with_state, IsCut}
+use Rattle.hera_outcome.specs.Cut.{text_of_next, StoresNext, with_state, IsCut}
 
 -- a longer list of events begins with the same event, or with the first behind a list without any
 text_longer : (rest more : List Event) (n : ℕ) → (m : ℕ) × (take n (text_of_next rest) ≡ take m (text_of_next (rest ++ more)))

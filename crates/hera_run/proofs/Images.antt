@@ -18,7 +18,7 @@ use Rattle.hera_store.specs.Databases.{Database, Holds}
 use Rattle.hera_store.specs.Moments.{IsEither}
 use Rattle.hera_store.specs.Standing.{Standing, StandsFor, database_of, database_after}
 use Rattle.hera_run.specs.Running.{ending_of, last_text}
-use Rattle.hera_run.specs.Cut.{IsCut, with_state}
+use Rattle.hera_outcome.specs.Cut.{IsCut, with_state}
 
 -- ---- states after commits
 

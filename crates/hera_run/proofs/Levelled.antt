@@ -1,5 +1,5 @@
 -- Few deltas in the place of a store's commits.
-use Rattle.std.proofs.Common.{◌≡◌, ℕ, true, List, [], ◌∷◌, ◌++◌, length, refl, sym, ap, ◌∙◌, subst}
+use Rattle.std.proofs.Common.{◌≡◌, true, List, [], ◌∷◌, ◌++◌, length, refl, sym, ap, ◌∙◌}
 use Rattle.std.specs.Prelude.{All, slice_index_or, nat_lt}
 use Rattle.std.specs.List.{list_all}
 use Rattle.std.proofs.lemmas.List.Sums.{list_all-from_AllPass}
@@ -16,7 +16,7 @@ use Rattle.hera_meaning.specs.Commits.{after_all as after_commits, IsCommitOf}
 use Rattle.hera_store.specs.Databases.{Database}
 use Rattle.hera_store.specs.Standing.{Standing, database_of}
 use Rattle.hera_meaning.proofs.CommitLaws.{state_push}
-use Rattle.hera_run.specs.Cut.{with_state}
+use Rattle.hera_outcome.specs.Cut.{with_state}
 use Rattle.hera_run.proofs.Images.{with_over}
 
 -- ---- deltas of a catalogue, as a test tells

@@ -1,10 +1,9 @@
-pub mod Fittings
 pub mod Cuts
-pub mod Images
-pub mod Steps
-pub mod Levelled
 pub mod Endings
+pub mod Fittings
+pub mod Images
+pub mod Levelled
 pub mod Meaning
-pub mod Opening
+pub mod Readied
 pub mod Results
-pub mod Renewal
+pub mod Steps

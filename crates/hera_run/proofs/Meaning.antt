@@ -4,6 +4,7 @@ use Rattle.std.proofs.lemmas.List.{take_all, take-append-le}
 use Rattle.std.proofs.Math.Seq.{take-append_seam}
 use Rattle.std.proofs.Common.{◌<◌, ◌≤◌, length, arith, ◌≡◌, ◌⊎◌, ℕ, Bool, true, false, cond, inl, inr, ⊎_elim, List, [], ◌∷◌, ◌++◌, take, Option, refl, sym, ap, ◌∙◌, subst, append-nil, append_assoc}
 use Rattle.std.specs.Io.KnownBytes.{Appends}
+use Rattle.std.proofs.KnownBytes.{Appends-nil}
 use Rattle.hera_meaning.specs.declared.schemas.RelDecl.{RelDecl}
 use Rattle.hera_meaning.specs.Deltas.{State}
 use Rattle.hera_meaning.specs.Hosts.{Hosts}
@@ -21,16 +22,19 @@ use Rattle.hera_machine.proofs.Along.{printed-append}
 use Rattle.hera_volume.specs.Time.{Image}
 use Rattle.hera_store.specs.Databases.{Database, Holds}
 use Rattle.hera_store.specs.Standing as seen
-use Rattle.hera_run.specs.declared.status.RunStatus.{RunStatus}
-use Rattle.hera_run.specs.declared.status.RunStatus.TheVariants.{Device, Output, Memory, Full}
-use Rattle.hera_run.specs.declared.fault.RunFault.{RunFault}
-use Rattle.hera_run.specs.declared.fault.RunFault.TheVariants.{Device as DeviceFault, Output as OutputFault, Memory as MemoryFault, Full as FullFault}
-use Rattle.hera_run.specs.Cut.{IsCut, with_state}
+use Rattle.hera_causes.specs.declared.traits.Output as output
+use Rattle.hera_volume.specs.declared.outside.Outside as files
+use Rattle.hera_volume.proofs.Moments.{leaves-none}
+use Rattle.hera_outcome.specs.declared.answer.Stop.{Stop as Stopped}
+use Rattle.hera_outcome.specs.declared.answer.Stop.TheVariants.{Refused, Device, Output, Memory, Full}
+use Rattle.hera_outcome.specs.Answers.{number_of_stop, IsFault}
+use Rattle.hera_outcome.specs.Cut.{IsCut, with_state}
+use Rattle.hera_outcome.specs.Outcomes.{Ended, ends, full, carried, status_of_finish, status_of_ended}
+use Rattle.hera_outcome.specs.Passages.{Passage, passage}
+use Rattle.hera_outcome.specs.Told.{StopFaults, IsDone, IsCutShort, IsToldBehind}
 use Rattle.hera_run.specs.Fitting.{all_fit, fitting, gate_after}
+use Rattle.hera_run.specs.Folder.{outcome_from}
 use Rattle.hera_run.specs.Running.{IsAllDone, IsDoneUpToFull, IsPartDone, IsCodeCut}
-use Rattle.hera_run.specs.Bound.{events_of}
-use Rattle.hera_run.specs.Passages.{Passage}
-use Rattle.hera_run.specs.Outcome.{RunOutcome, ran_in, filled, outcome_from, text_of_outcome, status_of_finish, KeepsFiles, IsWhole, IsSaid}
 use Rattle.hera_run.proofs.Cuts.{cut-longer}
 use Rattle.hera_run.proofs.Fittings.{all_fit-append, fitting-append, fitting-all, fitting-none, all_fit-none, prefix_fitting}
 use Rattle.hera_store.proofs.Commits.{stands_holds}
@@ -64,38 +68,13 @@ pub record Compiles (p : Program_tree) (hosts : Hosts) (s : State) (n : ℕ) : T
   pub stores : AreStoresOf p.relations (run_of p s hosts n).events
   pub prefixes : (k : ℕ) → IsPrefix (events_in (code_at (code_of p) p.relations s hosts n k)) (run_of p s hosts n).events
 
--- of a run nothing is asked of the files where it is cut short
-pub kept_run : (db : Database) (gate : ℕ) (report : Report) (v : Passage) → KeepsFiles (outcome_from db gate report) v
-kept_run db gate report v = by (all_fit gate report.events)
-  where
-    by : (b : Bool) → KeepsFiles (cond b (ran_in db report) (filled db (fitting gate report.events))) v
-    by true = tt
-    by false = tt
-
 module _ (p : Program_tree) (hosts : Hosts) (db : Database) (gate turns : ℕ) (compiles : Compiles p hosts db.state turns) where
   abbrev report : Report
   report = run_of p db.state hosts turns
 
-  abbrev outcome : RunOutcome
-  outcome = outcome_from db gate report
-
-  abbrev carried : List Event
-  carried = fitting gate report.events
-
-  -- the events of the outcome are those that fit
-  events_are : events_of outcome ≡ carried
-  events_are = by (all_fit gate report.events) (fitting-all gate report.events)
-    where
-      by : (b : Bool) → (b ≡ true → carried ≡ report.events) → events_of (cond b (ran_in db report) (filled db carried)) ≡ carried
-      by true all = sym (all refl)
-      by false all = refl
-
-  text_is : text_of_outcome outcome ≡ printed carried
-  text_is = by (all_fit gate report.events) (fitting-all gate report.events)
-    where
-      by : (b : Bool) → (b ≡ true → carried ≡ report.events) → text_of_outcome (cond b (ran_in db report) (filled db carried)) ≡ printed carried
-      by true all = ap printed (sym (all refl))
-      by false all = refl
+  -- the events that are carried out
+  abbrev done : List Event
+  done = fitting gate report.events
 
   -- each store of the code is of the catalogue
   pub proper_at : (code : Code) (rels catalogue : List RelDecl) → code ≡ code_of p → rels ≡ p.relations → catalogue ≡ p.relations → (k : ℕ) → AreStoresOf catalogue (events_in (code_at code rels db.state hosts turns k))
@@ -107,76 +86,99 @@ module _ (p : Program_tree) (hosts : Hosts) (db : Database) (gate turns : ℕ) (
       (subst (λ (rs : List RelDecl). AreStoresOf rs front) (sym same) are)
 
   -- a cut of the code's events is one of the outcome's
-  pub cut_of_outcome : (code : Code) (rels : List RelDecl) (start : Option (List ℕ)) (c : Image) → code ≡ code_of p → rels ≡ p.relations → IsCodeCut code rels hosts db gate turns start c → IsCut (events_of outcome) db start c
+  pub cut_of_outcome : (code : Code) (rels : List RelDecl) (start : Option (List ℕ)) (c : Image) → code ≡ code_of p → rels ≡ p.relations → IsCodeCut code rels hosts db gate turns start c → IsCut done db start c
   cut_of_outcome code rels start c is its cut =
       let mine : IsCodeCut (code_of p) p.relations hosts db gate turns start c = own (λ (x : Code) (rs : List RelDecl). IsCodeCut x rs hosts db gate turns start c) code (code_of p) rels p.relations is its cut in
       let front = events_in (code_at (code_of p) p.relations db.state hosts turns mine.steps) in
       let pre = prefix_fitting gate front report.events (compiles.prefixes mine.steps) mine.fit in
-      cut-longer front pre.rest (events_of outcome) db start c (pre.joined ∙ sym events_are) mine.cut
+      cut-longer front pre.rest done db start c pre.joined mine.cut
 
   -- what was said up to a fault is a front of the outcome's text
   pub run_part : (code : Code) (rels : List RelDecl) (before now : Option (List ℕ)) → code ≡ code_of p → rels ≡ p.relations
-      → IsPartDone code rels hosts db gate turns before now → (n : ℕ) × Appends before now (take n (text_of_outcome outcome))
+      → IsPartDone code rels hosts db gate turns before now → (n : ℕ) × Appends before now (take n (printed done))
   run_part code rels before now is its said =
       let mine : IsPartDone (code_of p) p.relations hosts db gate turns before now = own (λ (x : Code) (rs : List RelDecl). IsPartDone x rs hosts db gate turns before now) code (code_of p) rels p.relations is its said in
       let front = events_in (code_at (code_of p) p.relations db.state hosts turns mine.steps) in
-      let (m, same) = front_printed front carried mine.front (prefix_fitting gate front report.events (compiles.prefixes mine.steps) mine.fit) in
-      (m, subst (λ (l : List ℕ). Appends before now l) (same ∙ ap (λ (l : List ℕ). take m l) (sym text_is)) mine.said)
+      let (m, same) = front_printed front done mine.front (prefix_fitting gate front report.events (compiles.prefixes mine.steps) mine.fit) in
+      (m, subst (λ (l : List ℕ). Appends before now l) same mine.said)
 
   abbrev finish_in : Finish → Stop → Finish
   finish_in f (ended g) = g
   finish_in f stuck = f
 
   -- an end of the code, with its store, is the meaning's
-  pub whole_run : (code : Code) (rels : List RelDecl) (status : RunStatus) (v : Passage) (now : seen.Standing) (end : End) (finish : Finish) → code ≡ code_of p → rels ≡ p.relations
-      → stop_of end ≡ ended finish → status_of_finish finish ≡ status → IsAllDone code rels hosts db gate turns v.emitted_before v.emitted_now (seen.database_of now) end
-      → (v.told → seen.StandsFor v.disks_now now) → IsWhole outcome status v
-  whole_run code rels status v now end finish is its ends status_is said stands =
+  pub whole_run : (code : Code) (rels : List RelDecl) (status : ℕ) (v : Passage) (now : seen.Standing) (end : End) (finish : Finish) → code ≡ code_of p → rels ≡ p.relations
+      → stop_of end ≡ ended finish → status ≡ status_of_finish finish → IsAllDone code rels hosts db gate turns v.emitted_before v.emitted_now (seen.database_of now) end
+      → (v.told → seen.StandsFor v.disks_now now) → (v.output_now ≡ v.output_before) × (v.device_now ≡ v.device_before) → IsDone (outcome_from db gate report) status v
+  whole_run code rels status v now end finish is its ends_so own_status said stands quiet =
       let mine : IsAllDone (code_of p) p.relations hosts db gate turns v.emitted_before v.emitted_now (seen.database_of now) end =
       own (λ (x : Code) (rs : List RelDecl). IsAllDone x rs hosts db gate turns v.emitted_before v.emitted_now (seen.database_of now) end) code (code_of p) rels p.relations is its said in
       let (events, stop) = compiles.only mine.steps mine.events (stop_of end) mine.ends in
       let fit : all_fit gate report.events ≡ true = ap (all_fit gate) (sym events) ∙ mine.fit in
-      let ran : ran_in db report ≡ outcome = ap (λ (b : Bool). cond b (ran_in db report) (filled db carried)) (sym fit) in
-      let after : seen.database_of now ≡ with_state db (state_after db.state report.events) = mine.stored ∙ ap (λ (es : List Event). with_state db (state_after db.state es)) events in
-      subst (λ (o : RunOutcome). IsWhole o status v) ran (record {
-        own_status = sym status_is ∙ ap status_of_finish (ap (finish_in finish) (sym ends ∙ stop));
-        whole_text = subst (λ (l : List ℕ). Appends v.emitted_before v.emitted_now l) (ap printed events) mine.said;
+      let all : mine.events ≡ done = events ∙ sym (fitting-all gate report.events fit) in
+      let same : finish ≡ report.finish = ap (finish_in finish) (sym ends_so ∙ stop) in
+      let after : seen.database_of now ≡ with_state db (state_after db.state done) = mine.stored ∙ ap (λ (es : List Event). with_state db (state_after db.state es)) all in
+      record {
+        own_status = own_status ∙ ap status_of_finish same ∙ ap (λ (b : Bool). status_of_ended (cond b (ends report.finish) full)) (sym fit);
+        whole_text = subst (λ (l : List ℕ). Appends v.emitted_before v.emitted_now l) (ap printed all) mine.said;
         files = λ told. record { settled = (stands told).settled; holds = subst (λ (x : Database). Holds (λ f. (v.disks_now f).bytes) x) after (stands_holds v.disks_now now (stands told)) };
-      })
+        output = quiet.0;
+        device = quiet.1;
+      }
 
   -- a run that ends at a commit that does not fit
   pub full_run : (code : Code) (rels : List RelDecl) (v : Passage) (now : seen.Standing) → code ≡ code_of p → rels ≡ p.relations
-      → IsDoneUpToFull code rels hosts db gate turns v.emitted_before v.emitted_now (seen.database_of now) → (v.told → seen.StandsFor v.disks_now now) → IsWhole outcome Full v
-  full_run code rels v now is its said stands =
+      → IsDoneUpToFull code rels hosts db gate turns v.emitted_before v.emitted_now (seen.database_of now) → (v.told → seen.StandsFor v.disks_now now)
+      → (v.output_now ≡ v.output_before) × (v.device_now ≡ v.device_before) → IsDone (outcome_from db gate report) 10 v
+  full_run code rels v now is its said stands quiet =
       let mine : IsDoneUpToFull (code_of p) p.relations hosts db gate turns v.emitted_before v.emitted_now (seen.database_of now) =
       own (λ (x : Code) (rs : List RelDecl). IsDoneUpToFull x rs hosts db gate turns v.emitted_before v.emitted_now (seen.database_of now)) code (code_of p) rels p.relations is its said in
       let pre = compiles.prefixes mine.steps in
       let whole : mine.events ++ (mine.next ++ pre.rest) ≡ report.events = sym (append_assoc mine.events mine.next pre.rest) ∙ ap (λ (es : List Event). es ++ pre.rest) (sym mine.reaches) ∙ pre.joined in
       let behind = gate_after gate mine.events in
-      let front : carried ≡ mine.events = ap (fitting gate) (sym whole) ∙ fitting-append gate mine.events (mine.next ++ pre.rest) mine.fit
+      let front : done ≡ mine.events = ap (fitting gate) (sym whole) ∙ fitting-append gate mine.events (mine.next ++ pre.rest) mine.fit
       ∙ ap (λ (es : List Event). mine.events ++ es) (fitting-none behind mine.next pre.rest mine.full) ∙ append-nil mine.events in
       let over_full : all_fit gate report.events ≡ false = ap (all_fit gate) (sym whole) ∙ all_fit-append gate mine.events (mine.next ++ pre.rest) mine.fit ∙ all_fit-none behind mine.next pre.rest mine.full in
-      let full : filled db mine.events ≡ outcome = ap (filled db) (sym front) ∙ ap (λ (b : Bool). cond b (ran_in db report) (filled db carried)) (sym over_full) in
-      subst (λ (o : RunOutcome). IsWhole o Full v) full (record {
-        own_status = refl;
-        whole_text = mine.said;
-        files = λ told. record { settled = (stands told).settled; holds = subst (λ (x : Database). Holds (λ f. (v.disks_now f).bytes) x) mine.stored (stands_holds v.disks_now now (stands told)) };
-      })
+      let after : seen.database_of now ≡ with_state db (state_after db.state done) = mine.stored ∙ ap (λ (es : List Event). with_state db (state_after db.state es)) (sym front) in
+      record {
+        own_status = ap (λ (b : Bool). status_of_ended (cond b (ends report.finish) full)) (sym over_full);
+        whole_text = subst (λ (l : List ℕ). Appends v.emitted_before v.emitted_now l) (ap printed (sym front)) mine.said;
+        files = λ told. record { settled = (stands told).settled; holds = subst (λ (x : Database). Holds (λ f. (v.disks_now f).bytes) x) after (stands_holds v.disks_now now (stands told)) };
+        output = quiet.0;
+        device = quiet.1;
+      }
 
   stuck_is_no_end : (finish : Finish) → stuck ≡ ended finish → ⊥
   stuck_is_no_end _ is = cc (is)
 
   pub never_stuck : (code : Code) (rels : List RelDecl) (before now : Option (List ℕ)) (left : Database) (end : End) → code ≡ code_of p → rels ≡ p.relations → stop_of end ≡ stuck
       → IsAllDone code rels hosts db gate turns before now left end → ⊥
-  never_stuck code rels before now left end is its ends said =
+  never_stuck code rels before now left end is its stops said =
       let mine : IsAllDone (code_of p) p.relations hosts db gate turns before now left end = own (λ (x : Code) (rs : List RelDecl). IsAllDone x rs hosts db gate turns before now left end) code (code_of p) rels p.relations is its said in
-      stuck_is_no_end report.finish (sym ends ∙ (compiles.only mine.steps mine.events (stop_of end) mine.ends).1)
+      stuck_is_no_end report.finish (sym stops ∙ (compiles.only mine.steps mine.events (stop_of end) mine.ends).1)
 
-  -- a run that is cut short
-  pub run_fault : (status : RunStatus) (fault : RunFault) (v : Passage)
-      → ((status ≡ Device) × (fault ≡ DeviceFault)) ⊎ ((status ≡ Output) × (fault ≡ OutputFault)) ⊎ ((status ≡ Memory) × (fault ≡ MemoryFault)) ⊎ ((status ≡ Full) × (fault ≡ FullFault))
-      → ((n : ℕ) × Appends v.emitted_before v.emitted_now (take n (text_of_outcome outcome))) → (fault ≡ FullFault → IsWhole outcome Full v) → IsSaid outcome status v
-  run_fault status fault v (inl device) front full = inr (record { cause = inl device.0; front = front; files = λ told. kept_run db gate report v })
-  run_fault status fault v (inr (inl output)) front full = inr (record { cause = inr (inl output.0); front = front; files = λ told. kept_run db gate report v })
-  run_fault status fault v (inr (inr (inl memory))) front full = inr (record { cause = inr (inr memory.0); front = front; files = λ told. kept_run db gate report v })
-  run_fault status fault v (inr (inr (inr is))) front full = inl (subst (λ (s : RunStatus). IsWhole outcome s v) (sym is.0) (full is.1))
+  -- a run that stops
+  pub run_stop : (stop : Stopped) (v : Passage) → StopFaults stop v → ((n : ℕ) × Appends v.emitted_before v.emitted_now (take n (printed done)))
+      → (stop ≡ Full → IsDone (outcome_from db gate report) 10 v) → IsDone (outcome_from db gate report) (number_of_stop stop) v ⊎ IsCutShort (outcome_from db gate report) (number_of_stop stop) v
+  run_stop (Refused refusal) v faults front whole = absurd faults
+  run_stop Device v (rose, still) front whole = inr (record { cause = inl (refl, rose, still); front = front; files = λ told. tt })
+  run_stop Output v (rose, still) front whole = inr (record { cause = inr (inl (refl, rose, still)); front = front; files = λ told. tt })
+  run_stop Memory v (fine, sound) front whole = inr (record { cause = inr (inr (refl, fine, sound)); front = front; files = λ told. tt })
+  run_stop Full v faults front whole = inl (whole refl)
+
+-- no memory before anything was done
+pub behind_none : {D : Type 0} (q : output.Ghosts D) (w : files.Ghosts D) (a : D) (db : Database) (events : List Event) (end : Ended) → IsToldBehind (carried db events end) 9 (passage q w a a)
+behind_none q w a db events end = record {
+  ending = inr (record { cause = inr (inr (refl, refl, refl)); front = (0, Appends-nil (q.emitted a)); files = λ t. tt });
+  moments = λ t. leaves-none w.moment w.left_since a _;
+}
+
+pub stop_is_fault : (stop : Stopped) (v : Passage) → StopFaults stop v → IsFault stop
+stop_is_fault (Refused refusal) v faults = absurd faults
+stop_is_fault Device v faults = tt
+stop_is_fault Output v faults = tt
+stop_is_fault Memory v faults = tt
+stop_is_fault Full v faults = tt
+
+pub faults_full : (stop : Stopped) (v : Passage) → stop ≡ Full → StopFaults stop v → (v.output_now ≡ v.output_before) × (v.device_now ≡ v.device_before)
+faults_full stop v is faults = subst (λ (s : Stopped). StopFaults s v) is faults

@@ -14,8 +14,7 @@ use Rattle.hera_code.specs.Machine.{Machine, Step, quiet, says, commits, ends, S
 use Rattle.hera_code.specs.Reached.{still, after_step, stores, with_line, exec_code, code_at, start_of}
 use Rattle.hera_code.specs.Forward.{Forward}
 use Rattle.hera_codegen.specs.Correct.{events_in, AreStoresOf}
-use Rattle.hera_machine.specs.Over.{state_over}
-use Rattle.hera_machine.specs.Standing.{Standing, machine_over, event_over, commit_over, stop_of, status_by, GoesQuietly, Tells, IsLess}
+use Rattle.hera_machine.specs.Standing.{Standing, machine_over, commit_over, stop_of, status_by, GoesQuietly, Tells, IsLess}
 use Rattle.hera_machine.specs.declared.events.End.{End}
 use Rattle.hera_machine.specs.declared.events.End.TheVariants.{Done, Trap, Spent, Stuck}
 use Rattle.hera_machine.specs.declared.events.Event as machine_event
@@ -26,12 +25,12 @@ use Rattle.rel_pages.specs.Stored.{Stored}
 use Rattle.hera_volume.specs.Time.{Image}
 use Rattle.hera_store.specs.Databases.{Database}
 use Rattle.hera_store.specs.Standing as seen
-use Rattle.hera_run.specs.Cut.{IsCut, with_state}
+use Rattle.hera_outcome.specs.Cut.{IsCut, with_state}
 use Rattle.hera_run.specs.Fitting.{fits, gate_behind, all_fit, gate_after, overfills}
 use Rattle.hera_run.specs.Running.{ending_of, last_text, IsAllDone, IsDoneUpToFull, IsPartDone, IsCodeCut}
 use Rattle.hera_run.proofs.Cuts.{cut-behind}
 use Rattle.hera_run.proofs.Fittings.{gate_after-append, all_fit-append, fit-store}
-use Rattle.hera_run.proofs.Images.{with_over, database_more}
+use Rattle.hera_run.proofs.Images.{database_more}
 
 -- the database of a store that is as before
 database_kept : (old now : seen.Standing) (db : Database) → now.base ≡ old.base → now.commits ≡ old.commits → seen.database_of old ≡ db → seen.database_of now ≡ db

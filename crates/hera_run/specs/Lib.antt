@@ -1,7 +1,5 @@
 pub mod Fitting
 pub mod Action
-pub mod Cut
+pub mod Folder
+pub mod Opening
 pub mod Running
-pub mod Passages
-pub mod Outcome
-pub mod Bound

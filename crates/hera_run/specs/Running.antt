@@ -12,7 +12,7 @@ use Rattle.hera_machine.specs.declared.events.End.{End}
 use Rattle.hera_machine.specs.Standing.{stop_of}
 use Rattle.hera_volume.specs.Time.{Image}
 use Rattle.hera_store.specs.Databases.{Database}
-use Rattle.hera_run.specs.Cut.{IsCut, with_state}
+use Rattle.hera_outcome.specs.Cut.{IsCut, with_state}
 use Rattle.hera_run.specs.Fitting.{all_fit, gate_after, overfills}
 
 -- what a run that ends so does last, and prints last: nothing where it is done

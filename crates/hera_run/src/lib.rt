@@ -1,19 +1,15 @@
-//! The run of a program over a folder, event by event: opened, bound and carried out, and what a stop at
-//! any moment leaves of it.
+//! Runs over a folder: it is opened and made ready, a program is bound to it, and its events are carried out one by one;
+//! and what a stop at any moment leaves of them.
 #![tactic(auto)]
 
 mod carry;
-mod fault;
 mod folder;
 mod lines;
-mod refusal;
+mod opening;
 mod run;
-mod status;
 
 pub use carry::{Action, carry_out};
-pub use fault::RunFault;
 pub use folder::run_in_folder;
 pub use lines::{commit_line, last_line};
-pub use refusal::{FolderRefusal, refusal_line};
-pub use run::run_code;
-pub use status::RunStatus;
+pub use opening::{open_folder, open_for, rewrite};
+pub use run::{commit, run_code};

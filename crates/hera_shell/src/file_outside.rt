@@ -69,6 +69,8 @@ impl<'a, R: Files + Print> Outside for FileOutside<'a, R> {
 
     ghost device_faults = { λ outside. outside.device_faults };
 
+    ghost as_read = { λ a f told. absurd told };
+
     ghost only_now = { λ a c told. absurd told };
 
     ghost counts_now = { λ a t c told. absurd told };

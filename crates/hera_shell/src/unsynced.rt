@@ -106,21 +106,98 @@ pub(crate) fn write_from<F: Write + Seek>(opened: &mut F, at: u64, bytes: &[u8])
 #[cfg(test)]
 mod tests {
     use super::*;
-    use std::fs;
+    use std::alloc::Global;
+    use std::cell::Cell;
+    use std::fs::{self, Metadata};
+    use std::io::SeekFrom;
     use std::test::Fail;
+
+    /// A file that takes down each write, with its place and its length, and the last length that was set.
+    #[derive(Drop)]
+    struct Noted<F> {
+        file: F,
+        at: u64,
+        writes: Vec<(u64, usize)>,
+        len: Cell<u64>,
+    }
+
+    impl<F> Noted<F> {
+        fn new(alloc: Global, file: F) -> Noted<F> {
+            Noted {
+                file,
+                at: 0,
+                writes: Vec::new(alloc),
+                len: Cell::new(0),
+            }
+        }
+    }
+
+    impl<F: Read> Read for Noted<F> {
+        fn read(&mut self, buf: &mut [u8]) -> io::Result<usize> {
+            self.file.read(buf)
+        }
+    }
+
+    impl<F: Write> Write for Noted<F> {
+        fn write(&mut self, buf: &[u8]) -> io::Result<usize> {
+            self.writes.push((self.at, buf.len()))?;
+            self.file.write(buf)
+        }
+
+        fn flush(&mut self) -> io::Result<()> {
+            self.file.flush()
+        }
+    }
+
+    impl<F: Seek> Seek for Noted<F> {
+        fn seek(&mut self, to: SeekFrom) -> io::Result<u64> {
+            self.at = self.file.seek(to)?;
+            Ok(self.at)
+        }
+    }
+
+    impl<F: OpenFile> OpenFile for Noted<F> {
+        fn metadata(&self) -> io::Result<Metadata> {
+            self.file.metadata()
+        }
+
+        fn set_len(&self, size: u64) -> io::Result<()> {
+            self.len.set(size);
+            self.file.set_len(size)
+        }
+
+        fn sync_all(&self) -> io::Result<()> {
+            self.file.sync_all()
+        }
+
+        fn sync_data(&self) -> io::Result<()> {
+            self.file.sync_data()
+        }
+    }
 
     #[test]
     fn what_is_written_again_is_what_a_read_gives(rt: HostRuntime) -> Result<(), Fail> {
         let mut bytes = vec![in rt.alloc(); 7u8; 5000]?;
         bytes[4999] = 8;
         fs::write(&rt, "again", bytes.as_slice())?;
-        let mut how = fs::OpenOptions::new();
-        how.read(true).write(true);
-        let mut opened = how.open(&rt, "again")?;
-        Unsynced::all().write_again(&mut opened)?;
-        Unsynced::none().with(4090, 20).write_again(&mut opened)?;
-        let after = fs::read(&rt, "again")?;
-        assert!(rt; after.as_slice() == bytes.as_slice());
+        let all: &[(u64, usize)] = &[(0, 4096), (4096, 904)];
+        let within: &[(u64, usize)] = &[(4090, 6), (4096, 14)];
+        let end: &[(u64, usize)] = &[(4998, 2)];
+        for (unsynced, writes) in [
+            (Unsynced::all(), all),
+            (Unsynced::none().with(4090, 20), within),
+            (Unsynced::none().with(4998, 20), end),
+            (Unsynced::none(), &[]),
+        ] {
+            let mut how = fs::OpenOptions::new();
+            how.read(true).write(true);
+            let mut opened = Noted::new(rt.alloc(), how.open(&rt, "again")?);
+            unsynced.write_again(&mut opened)?;
+            assert!(rt; opened.writes.as_slice() == writes);
+            assert_eq!(rt; opened.len.get(), 5000);
+            let after = fs::read(&rt, "again")?;
+            assert!(rt; after.as_slice() == bytes.as_slice());
+        }
         fs::remove_file(&rt, "again")?;
         Ok(())
     }

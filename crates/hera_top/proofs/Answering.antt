@@ -1,77 +1,182 @@
--- What a command with a folder answers, of what was said on the way.
-use Rattle.std.proofs.Common.{◌≡◌, ◌<◌, ◌+◌, arith, ◌∙◌, ℕ, ⊎_elim, inl, inr, ◌⊎◌, List, refl, sym, ap, subst, Some}
+-- What a command answers, of what was answered on the way.
+use Rattle.std.proofs.Common.{◌≡◌, ◌<◌, ◌+◌, arith, ◌∙◌, ℕ, suc, ⊎_elim, inl, inr, ◌⊎◌, List, [], ◌∷◌, length, true, false, Option, Some, None, Result, Ok, Err, refl, sym, ap, subst}
+use Rattle.std.specs.Prelude.{get_or, slice_set}
+use Rattle.hera_causes.specs.Causes.{Rose}
+use Rattle.hera_causes.specs.declared.traits.Output as output
 use Rattle.hera_meaning.specs.declared.schemas.RelDecl.{RelDecl}
 use Rattle.hera_meaning.specs.Trees.{Program_tree}
 use Rattle.hera_host.specs.Tables.{Host}
-use Rattle.hera_top.specs.declared.words.Command.TheVariants.{Folder}
-use Rattle.hera_top.specs.declared.words.FolderCommand.{FolderCommand}
-use Rattle.hera_top.specs.declared.words.FolderCommand.TheVariants.{Init, Run, Dump, Checkpoint}
-use Rattle.hera_top.specs.declared.refusal.Refusal.TheVariants.{Exists}
-use Rattle.hera_top.specs.declared.status.ExitStatus.{ExitStatus}
-use Rattle.hera_top.specs.declared.status.ExitStatus.TheVariants.{Done, OutputFailed}
-use Rattle.hera_top.specs.Outcome.{IsRead}
-use Rattle.hera_top.specs.Folder.{made, turned_away, ReadsScript, Gives, refuses, reads_none, does, makes, is_taken, dump_comes, checkpoint_comes, AnswersIn, tells, fails}
-use Rattle.hera_top.specs.Passages.{Passage}
-use Rattle.hera_top.specs.Said.{AnswersThere, SaysMade, SaysDone, SaysIn}
-use Rattle.hera_top.specs.Sources.{Seen}
-use Rattle.hera_top.specs.Statuses.{number_of}
-use Rattle.hera_top.specs.Words.{files_in}
+use Rattle.hera_volume.specs.declared.outside.Outside as files
+use Rattle.hera_outcome.specs.declared.answer.Ending.{Ending}
+use Rattle.hera_outcome.specs.declared.answer.Stop.{Stop}
+use Rattle.hera_outcome.specs.declared.answer.Stop.TheVariants.{Refused, Device, Output, Memory, Full}
+use Rattle.hera_outcome.specs.declared.refusal.Refusal.{Refusal}
+use Rattle.hera_outcome.specs.declared.refusal.Refusal.TheVariants.{Unread}
+use Rattle.hera_outcome.specs.Answers.{number_of, number_of_ending, IsConcluded}
+use Rattle.hera_outcome.specs.Outcomes.{refused}
+use Rattle.hera_outcome.specs.Passages.{Passage, passage, start, start_of, KeepsFiles}
+use Rattle.hera_outcome.specs.Told.{IsTold, Tells, Answered}
+use Rattle.hera_outcome.proofs.Passing.{answered_weaker, told_on}
+use Rattle.hera_run.specs.Folder.{RunsTo}
+use Rattle.hera_words.specs.declared.command.Command.{Command}
+use Rattle.hera_words.specs.declared.command.Command.TheVariants.{Check, List as list_command, Eval, Drill, Init, Run, Dump, Checkpoint}
+use Rattle.hera_words.specs.Words.{form_of, files_in, folder_in}
+use Rattle.hera_top.specs.Commands.{Performs, makes, runs, IsMade, ComesToFor, ReadsScript, LooksAlone, Finds, ComesTo, reads, drills, looks, Answers, tells, fails, IsAnswered}
+use Rattle.hera_top.specs.Drill.{drill_text, drill_turns}
+use Rattle.hera_top.specs.Sources.{Seen, first_seen}
 
--- a text without numbers is said, or its output fails
-pub never_nine : (status : ExitStatus) → (status ≡ Done) ⊎ (status ≡ OutputFailed) → number_of status ≡ 9 → ⊥
-never_nine status either is =
-    ⊎_elim (λ done. (let bad : 0 ≡ 9 = ap number_of (sym done) ∙ is in cc (bad))) (λ failed. (let bad : 8 ≡ 9 = ap number_of (sym failed) ∙ is in cc (bad))) either
+-- ---- commands
 
-pub same_rels : (a b : List RelDecl) (status : ℕ) (v : Passage) → a ≡ b → SaysMade a status v → SaysMade b status v
-same_rels a b status v is said = subst (λ (r : List RelDecl). SaysMade r status v) is said
+pub ran_answered : (hosts : List Host) (p : Program_tree) (command : Command) (turns : ℕ) (v : Passage) (r : Result Ending Stop) → command ≡ Run turns → Answered (RunsTo hosts turns p (start_of v)) r v → Answered (Performs hosts p (start_of v) command) r v
+ran_answered hosts p command turns v r is answered =
+    subst (λ (x : Command). Answered (Performs hosts p (start_of v) x) r v) (sym is) (answered_weaker _ _ r v (λ o comes. runs comes) answered)
 
-pub made_told : (hosts : List Host) (p : Program_tree) (status : ℕ) (v : Passage) → SaysMade p.relations status v → SaysDone hosts p Init status v
-made_told hosts p status v said =
-    ⊎_elim (λ (vacant, one). inl (made p.relations, makes vacant, one)) (λ more. ⊎_elim (λ (taken, one). inl (turned_away Exists, is_taken taken, one)) (λ given. inr given) more) said
+pub made_answers : (hosts : List Host) (p : Program_tree) (rels : List RelDecl) (r : Result Ending Stop) (v : Passage) → rels ≡ p.relations → Answered (IsMade rels (start_of v)) r v → Answered (Performs hosts p (start_of v) Init) r v
+made_answers hosts p rels r v is answered = answered_weaker _ _ r v (λ o comes. makes (subst (λ (x : List RelDecl). IsMade x (start_of v) o) is comes)) answered
 
-done_told : (hosts : List Host) (command : FolderCommand) (before now : Seen) (p : Program_tree) (status : ℕ) (v : Passage) → Gives hosts before now p → SaysDone hosts p command status v → AnswersIn hosts command before now status v
-done_told hosts command before now p status v gives said = ⊎_elim (λ (outcome, comes, one). tells (does gives comes) one) (λ given. fails gives.still given) said
+pub same_performed : (hosts : List Host) (p : Program_tree) (done command : Command) (r : Result Ending Stop) (v : Passage) → done ≡ command → Answered (Performs hosts p (start_of v) done) r v → Answered (Performs hosts p (start_of v) command) r v
+same_performed hosts p done command r v is answered = subst (λ (x : Command). Answered (Performs hosts p (start_of v) x) r v) is answered
 
-pub same_done : (hosts : List Host) (p : Program_tree) (done command : FolderCommand) (status : ℕ) (v : Passage) → done ≡ command → SaysDone hosts p done status v → SaysDone hosts p command status v
-same_done hosts p done command status v is said = subst (λ (c : FolderCommand). SaysDone hosts p c status v) is said
+pub run_has_folder : (command : Command) (turns : ℕ) → command ≡ Run turns → (form_of command).folder ≡ false → ⊥
+run_has_folder command turns is none = (let bad : true ≡ false = sym (ap (λ (x : Command). (form_of x).folder) is) ∙ none in cc (bad))
 
-pub numbered_done : (hosts : List Host) (p : Program_tree) (command : FolderCommand) (number status : ℕ) (v : Passage) → number ≡ status → SaysDone hosts p command status v → SaysDone hosts p command number v
-numbered_done hosts p command number status v is said = subst (λ (n : ℕ). SaysDone hosts p command n v) (sym is) said
-
--- a script that was read whole
-pub script_told : (hosts : List Host) (command : FolderCommand) (before now : Seen) (script : List ℕ) (status : ℕ) (v : Passage) → ReadsScript command → IsRead before.left now.left script → now.faults ≡ before.faults
-    → SaysIn hosts command script status v → AnswersIn hosts command before now status v
-script_told hosts command before now script status v reads read still said =
-    ⊎_elim (λ (cause, at, refused, one). tells (reads_none reads (refuses script read still refused)) one)
-    (λ more. ⊎_elim (λ (p, short, accepted, done). done_told hosts command before now p status v (record { script = script; read = read; still = still; short = short; accepted = accepted }) done) (λ given. fails still given) more) said
-
--- no script is read
-pub dump_told : (hosts : List Host) (seen : Seen) (status : ℕ) (v : Passage) → AnswersThere Dump status v → AnswersIn hosts Dump seen seen status v
-dump_told hosts seen status v said = ⊎_elim (λ (outcome, comes, one). tells (dump_comes comes) one) (λ given. fails refl given) said
-
-pub checkpoint_told : (hosts : List Host) (seen : Seen) (status : ℕ) (v : Passage) → AnswersThere Checkpoint status v → AnswersIn hosts Checkpoint seen seen status v
-checkpoint_told hosts seen status v said = ⊎_elim (λ (outcome, comes, one). tells (checkpoint_comes comes) one) (λ given. fails refl given) said
-
-pub same_folder_answers : (hosts : List Host) (read command : FolderCommand) (b c n m : Seen) (status number : ℕ) (v : Passage) → read ≡ command → b ≡ c → n ≡ m → number ≡ status
-    → AnswersIn hosts read b n status v → AnswersIn hosts command c m number v
-same_folder_answers hosts read command b c n m status number v is before now same answers =
-    subst (λ (x : FolderCommand). AnswersIn hosts x c m number v) is
-    (subst (λ (x : Seen). AnswersIn hosts read x m number v) before
-    (subst (λ (x : Seen). AnswersIn hosts read b x number v) now
-    (subst (λ (x : ℕ). AnswersIn hosts read b n x v) (sym same) answers)))
-
-pub one_folder : (read command : FolderCommand) → Some (Folder read) ≡ Some (Folder command) → read ≡ command
-one_folder read command is = cc (is)
+pub init_has_folder : (command : Command) → command ≡ Init → (form_of command).folder ≡ false → ⊥
+init_has_folder command is none = (let bad : true ≡ false = sym (ap (λ (x : Command). (form_of x).folder) is) ∙ none in cc (bad))
 
 -- a command that reads a script has one source
-pub one_source_in : (command : FolderCommand) (n : ℕ) → ReadsScript command → n + (files_in (Some (Folder command))).0 ≡ (files_in (Some (Folder command))).1 → 0 < n
-one_source_in Init n reads is = omega (arith, is)
-one_source_in (Run turns) n reads is = omega (arith, is)
-one_source_in Dump n reads is = absurd reads
-one_source_in Checkpoint n reads is = absurd reads
+pub one_source : (command : Command) (n : ℕ) → ReadsScript command → n + (files_in (Some command)).0 ≡ (files_in (Some command)).1 → 0 < n
+one_source Check n given is = omega (arith, is)
+one_source list_command n given is = omega (arith, is)
+one_source (Eval turns) n given is = omega (arith, is)
+one_source (Drill rows) n given is = absurd given
+one_source Init n given is = omega (arith, is)
+one_source (Run turns) n given is = omega (arith, is)
+one_source Dump n given is = absurd given
+one_source Checkpoint n given is = absurd given
 
-pub init_reads : (command : FolderCommand) → command ≡ Init → ReadsScript command
-init_reads command is = subst ReadsScript (sym is) tt
+pub reads_files : (command : Command) → ReadsScript command → (form_of command).files ≡ 0 → ⊥
+reads_files Check given none = cc (none)
+reads_files list_command given none = cc (none)
+reads_files (Eval turns) given none = cc (none)
+reads_files (Drill rows) given none = given
+reads_files Init given none = cc (none)
+reads_files (Run turns) given none = cc (none)
+reads_files Dump given none = given
+reads_files Checkpoint given none = given
 
-pub run_reads : (command : FolderCommand) (turns : ℕ) → command ≡ Run turns → ReadsScript command
-run_reads command turns is = subst ReadsScript (sym is) tt
+alone_folder : (command : Command) → LooksAlone command → (form_of command).folder ≡ false → ⊥
+alone_folder Check alone none = alone
+alone_folder list_command alone none = alone
+alone_folder (Eval turns) alone none = alone
+alone_folder (Drill rows) alone none = alone
+alone_folder Init alone none = alone
+alone_folder (Run turns) alone none = alone
+alone_folder Dump alone none = cc (none)
+alone_folder Checkpoint alone none = cc (none)
+
+pub looks_has_folder : (done command : Command) → done ≡ command → LooksAlone done → (form_of command).folder ≡ false → ⊥
+looks_has_folder done command is alone none = alone_folder command (subst LooksAlone is alone) none
+
+-- ---- the first source
+
+pub seen_first : {S : Type 0} (left : S → Option (List ℕ)) (faults : S → ℕ) (items : List S) (source : S) → 0 < length items → source ≡ get_or items 0 source
+    → ◌≡◌ {A = Seen} (record { left = left source; faults = faults source }) (first_seen left faults items)
+seen_first left faults [] source some is = absurd (omega arith)
+seen_first {S} left faults (first ∷ more) source some is = ap (λ (x : S). record { left = left x; faults = faults x }) is
+
+pub seen_set : {S : Type 0} (left : S → Option (List ℕ)) (faults : S → ℕ) (items : List S) (source : S) → 0 < length items
+    → ◌≡◌ {A = Seen} (record { left = left source; faults = faults source }) (first_seen left faults (slice_set items 0 source))
+seen_set left faults [] source some = absurd (omega arith)
+seen_set left faults (old ∷ more) source some = refl
+
+pub same_source : (hosts : List Host) (command : Command) (b c n m : Seen) (r : Result Ending Stop) (v : Passage) → b ≡ c → n ≡ m → IsAnswered hosts command b n r v → IsAnswered hosts command c m r v
+same_source hosts command b c n m r v before now answered =
+    subst (λ (x : Seen). IsAnswered hosts command x m r v) before (subst (λ (x : Seen). IsAnswered hosts command b x r v) now answered)
+
+-- no source was read
+pub drill_answered : (hosts : List Host) (command : Command) (rows : ℕ) (seen : Seen) (r : Result Ending Stop) (v : Passage) → command ≡ Drill rows → Answered (ComesToFor hosts (drill_text rows) (start_of v) (Eval drill_turns)) r v
+    → IsAnswered hosts command seen seen r v
+drill_answered hosts command rows seen r v is answered = record { answered = answered_weaker _ _ r v (λ o comes. drills is comes) answered; still = inl refl; later = omega arith }
+
+pub looked_answered : (hosts : List Host) (done command : Command) (seen : Seen) (r : Result Ending Stop) (v : Passage) → done ≡ command → LooksAlone done → Answered (Finds (start_of v) done) r v → IsAnswered hosts command seen seen r v
+looked_answered hosts done command seen r v is alone answered =
+    subst (λ (x : Command). IsAnswered hosts x seen seen r v) is (record { answered = answered_weaker _ _ r v (λ o comes. looks alone comes) answered; still = inl refl; later = omega arith })
+
+-- ---- words
+
+some_same : (a b : Command) → Some a ≡ Some b → a ≡ b
+some_same a b is = cc (is)
+
+pub same_command : (hosts : List Host) (read command : Command) (before now : Seen) (status : ℕ) (v : Passage) → Some read ≡ Some command → Answers hosts read before now status v → Answers hosts command before now status v
+same_command hosts read command before now status v is answers = subst (λ (x : Command). Answers hosts x before now status v) (some_same read command is) answers
+
+pub no_folder_word : (command : Command) → folder_in (Some command) ≡ None → (form_of command).folder ≡ false
+no_folder_word Check is = refl
+no_folder_word list_command is = refl
+no_folder_word (Eval turns) is = refl
+no_folder_word (Drill rows) is = refl
+no_folder_word Init is = absurd (cc (is))
+no_folder_word (Run turns) is = absurd (cc (is))
+no_folder_word Dump is = absurd (cc (is))
+no_folder_word Checkpoint is = absurd (cc (is))
+
+-- behind the words there is a place for a file
+some_file : (a b : ℕ) → ◌≡◌ {A = ℕ × ℕ} (suc a, b) (0, 0) → ⊥
+some_file a b is =
+    let first : suc a ≡ 0 = ap (λ (places : ℕ × ℕ). places.0) is in
+    cc (first)
+
+pub no_file_word : (command : Command) → files_in (Some command) ≡ (0, 0) → (form_of command).files ≡ 0
+no_file_word Check is = absurd (some_file 0 2 is)
+no_file_word list_command is = absurd (some_file 0 2 is)
+no_file_word (Eval turns) is = absurd (some_file 1 3 is)
+no_file_word (Drill rows) is = refl
+no_file_word Init is = absurd (some_file 1 3 is)
+no_file_word (Run turns) is = absurd (some_file 2 4 is)
+no_file_word Dump is = refl
+no_file_word Checkpoint is = refl
+
+-- ---- the whole answer
+
+unread_or_still : (before now : Seen) (r : Result Ending Stop) → IsConcluded r → (now.faults ≡ before.faults) ⊎ ((r ≡ Err (Refused Unread)) × Rose before.faults now.faults) → now.faults ≡ before.faults
+unread_or_still before now r concluded (inl still) = still
+unread_or_still before now r concluded (inr (is, rose)) = absurd (subst IsConcluded is concluded)
+
+tells_answers : (hosts : List Host) (command : Command) (before now : Seen) (status : ℕ) (v : Passage) → now.faults ≡ before.faults → Tells (ComesTo hosts before now (start_of v) command) status v → Answers hosts command before now status v
+tells_answers hosts command before now status v still told = ⊎_elim (λ (outcome, comes, one). tells comes one) (λ up. fails still up) told
+
+told_answer : (hosts : List Host) (command : Command) (before now : Seen) (r : Result Ending Stop) (v : Passage) → IsConcluded r → IsAnswered hosts command before now r v → Answers hosts command before now (number_of r) v
+told_answer hosts command before now (Ok ending) v concluded answer = tells_answers hosts command before now (number_of_ending ending) v (unread_or_still before now (Ok ending) concluded answer.still) answer.answered
+told_answer hosts command before now (Err (Refused refusal)) v concluded answer = absurd concluded
+told_answer hosts command before now (Err Device) v concluded answer = tells_answers hosts command before now 6 v (unread_or_still before now (Err Device) concluded answer.still) answer.answered
+told_answer hosts command before now (Err Output) v concluded answer = tells_answers hosts command before now 8 v (unread_or_still before now (Err Output) concluded answer.still) answer.answered
+told_answer hosts command before now (Err Memory) v concluded answer = tells_answers hosts command before now 9 v (unread_or_still before now (Err Memory) concluded answer.still) answer.answered
+told_answer hosts command before now (Err Full) v concluded answer = tells_answers hosts command before now 10 v (unread_or_still before now (Err Full) concluded answer.still) answer.answered
+
+concluded_or_refused : (r : Result Ending Stop) → IsConcluded r ⊎ ((refusal : Refusal) × (r ≡ Err (Refused refusal)))
+concluded_or_refused (Ok ending) = inl tt
+concluded_or_refused (Err (Refused refusal)) = inr (refusal, refl)
+concluded_or_refused (Err Device) = inl tt
+concluded_or_refused (Err Output) = inl tt
+concluded_or_refused (Err Memory) = inl tt
+concluded_or_refused (Err Full) = inl tt
+
+module _ {D : Type 0} (q : output.Ghosts D) (w : files.Ghosts D) (a b c : D) (hosts : List Host) (command : Command) (before now : Seen) (r : Result Ending Stop) (status : ℕ) (answer : IsAnswered hosts command before now r (passage q w a b)) where
+  abbrev over : D → D → Passage
+  over x y = passage q w x y
+
+  refusal_answers : (refusal : Refusal) → r ≡ Err (Refused refusal) → IsTold (refused refusal) status (over b c) → Answers hosts command before now status (over a c)
+  refusal_answers refusal is told =
+      let (comes, pending) = subst (λ (x : Result Ending Stop). Answered (ComesTo hosts before now (start w a) command) x (over a b)) is answer.answered in
+      tells comes (told_on q w a b pending (refused refusal) status c tt told)
+
+  pub keeps_both : KeepsFiles (over a b) → KeepsFiles (over b c) → KeepsFiles (over a c)
+  keeps_both first second = record { files = λ t f. second.files t f ∙ first.files t f; device = second.device ∙ first.device }
+
+  pub concluded : ((refusal : Refusal) → r ≡ Err (Refused refusal) → IsTold (refused refusal) status (over b c)) → (IsConcluded r → status ≡ number_of r) → (IsConcluded r → c ≡ b) → Answers hosts command before now status (over a c)
+  concluded told number same =
+      ⊎_elim
+      (λ is. subst (λ (x : D). Answers hosts command before now status (over a x)) (sym (same is))
+      (subst (λ (n : ℕ). Answers hosts command before now n (over a b)) (sym (number is)) (told_answer hosts command before now r (over a b) is answer)))
+      (λ (refusal, is). refusal_answers refusal is (told refusal is))
+      (concluded_or_refused r)

@@ -1,5 +1,5 @@
 -- A command comes to an outcome for each script.
-use Rattle.std.proofs.Common.{◌≡◌, ◌≤◌, ◌⊎◌, inl, inr, ⊎_elim, ℕ, List, Option, Some, None, true, false, length, refl, sym, ◌∙◌, arith, IsUtf8}
+use Rattle.std.proofs.Common.{◌≡◌, ◌≤◌, ◌⊎◌, inl, inr, ⊎_elim, ℕ, List, Option, Some, None, Bool, true, false, length, refl, sym, ◌∙◌, arith, IsUtf8}
 use Rattle.std.specs.Str.{is_utf8}
 use Rattle.std.proofs.lemmas.Bool.{cases_Bool, cases_lt, false≢true}
 use Rattle.std.proofs.lemmas.Str.{IsUtf8-from_is_utf8, is_utf8-from_IsUtf8}
@@ -17,8 +17,12 @@ use Rattle.hera_rules.specs.Programs.{ElabScript, FirstFault}
 use Rattle.hera_rules.specs.ReadActs.{script_of}
 use Rattle.hera_script.specs.declared.cause.Cause.{Cause}
 use Rattle.hera_script.specs.Refusing.{HasTokens, IsRefused, too_long, bad_utf8, bad_token, too_deep, syntax, types, unknown, repeated, mismatch, impure, no_return, too_many}
-use Rattle.hera_top.specs.declared.words.ScriptCommand.{ScriptCommand}
-use Rattle.hera_top.specs.Outcome.{Outcome, ComesTo, refuses, performs}
+use Rattle.hera_outcome.specs.Outcomes.{Outcome}
+use Rattle.hera_outcome.specs.Passages.{Start}
+use Rattle.hera_words.specs.declared.command.Command.{Command}
+use Rattle.hera_words.specs.declared.command.Command.TheVariants.{Check, List as list_command, Eval, Drill, Init, Run, Dump, Checkpoint}
+use Rattle.hera_words.specs.Words.{form_of}
+use Rattle.hera_top.specs.Commands.{Performs, checks, lists, evaluates, ReadsScript, ComesToFor, refuses, performs}
 
 abbrev SomeTokens : Type 0
 SomeTokens = (bytes : List ℕ) → IsUtf8 bytes → ((tokens : List Token) × Lex bytes tokens) ⊎ ((place : ℕ) × LexFails bytes place)
@@ -35,9 +39,10 @@ FaultsHavePlaces = (hosts : List Host) (script : Script) → ¬ FirstFault hosts
 abbrev SomeTyping : Type 0
 SomeTyping = (hosts : List Host) (script : Script) → ((p : Program_tree) × ElabScript hosts script p) ⊎ ((fault : TypeFault) × FirstFault hosts script fault)
 
-module _ (some_tokens : SomeTokens) (few : FewTokens) (some_tree : SomeTree) (places : FaultsHavePlaces) (some_typing : SomeTyping) (hosts : List Host) (command : ScriptCommand) (script : List ℕ) where
+module _ (some_tokens : SomeTokens) (few : FewTokens) (some_tree : SomeTree) (places : FaultsHavePlaces) (some_typing : SomeTyping) (hosts : List Host) (command : Command) (script : List ℕ) (s : Start)
+    (some_done : (p : Program_tree) → (outcome : Outcome) × Performs hosts p s command outcome) where
   abbrev Comes : Type 0
-  Comes = (outcome : Outcome) × ComesTo hosts command script outcome
+  Comes = (outcome : Outcome) × ComesToFor hosts script s command outcome
 
   is_refused : {cause : Cause} {at : ℕ} → IsRefused hosts script cause at → Comes
   is_refused refusal = (_, refuses refusal)
@@ -53,7 +58,9 @@ module _ (some_tokens : SomeTokens) (few : FewTokens) (some_tree : SomeTree) (pl
 
   by_types : (tokens : List Token) (tree : Tree) → HasTokens script tokens → IsTextOf tree tokens
       → ((p : Program_tree) × ElabScript hosts (script_of tree) p) ⊎ ((fault : TypeFault) × FirstFault hosts (script_of tree) fault) → Comes
-  by_types tokens tree has text (inl (p, typed)) = (_, performs has.short (record { tokens = tokens; tree = tree; lexed = has.lexed; shallow = has.shallow; text = text; typed = typed }))
+  by_types tokens tree has text (inl (p, typed)) =
+      let (outcome, done) = some_done p in
+      (outcome, performs has.short (record { tokens = tokens; tree = tree; lexed = has.lexed; shallow = has.shallow; text = text; typed = typed }) done)
   by_types tokens tree has text (inr (fault, first)) = by_fault tokens tree has text fault first
 
   by_tree : (tokens : List Token) → HasTokens script tokens → ((tree : Tree) × IsTextOf tree tokens) ⊎ ((place : ℕ) × IsFaultAt tokens place) → Comes
@@ -75,5 +82,19 @@ module _ (some_tokens : SomeTokens) (few : FewTokens) (some_tree : SomeTree) (pl
   comes : Comes
   comes = ⊎_elim (λ long. is_refused (too_long long)) (λ short. by_utf8 short (cases_Bool (is_utf8 script))) (cases_lt script_limit (length script))
 
-pub some_outcome : SomeTokens → FewTokens → SomeTree → FaultsHavePlaces → SomeTyping → (hosts : List Host) (command : ScriptCommand) (script : List ℕ) → (outcome : Outcome) × ComesTo hosts command script outcome
-some_outcome some_tokens few some_tree places some_typing hosts command script = comes some_tokens few some_tree places some_typing hosts command script
+no_folder : (b : Bool) → b ≡ true → b ≡ false → ⊥
+no_folder b some none = (let bad : true ≡ false = sym some ∙ none in cc (bad))
+
+some_done : (hosts : List Host) (s : Start) (command : Command) → ReadsScript command → (form_of command).folder ≡ false → (p : Program_tree) → (outcome : Outcome) × Performs hosts p s command outcome
+some_done hosts s Check reads none p = (_, checks)
+some_done hosts s list_command reads none p = (_, lists)
+some_done hosts s (Eval turns) reads none p = (_, evaluates)
+some_done hosts s (Drill rows) reads none p = absurd reads
+some_done hosts s Init reads none p = absurd (no_folder true refl none)
+some_done hosts s (Run turns) reads none p = absurd (no_folder true refl none)
+some_done hosts s Dump reads none p = absurd reads
+some_done hosts s Checkpoint reads none p = absurd reads
+
+pub some_outcome : SomeTokens → FewTokens → SomeTree → FaultsHavePlaces → SomeTyping → (hosts : List Host) (command : Command) (script : List ℕ) (s : Start) → ReadsScript command → (form_of command).folder ≡ false
+    → (outcome : Outcome) × ComesToFor hosts script s command outcome
+some_outcome some_tokens few some_tree places some_typing hosts command script s reads none = comes some_tokens few some_tree places some_typing hosts command script s (some_done hosts s command reads none)

@@ -1,5 +1,5 @@
 -- The text of a database is that of its relations, one behind another.
-use Rattle.std.proofs.Common.{◌≡◌, ℕ, zero, suc, ◌+◌, ◌<◌, Bool, true, List, [], ◌∷◌, ◌++◌, length, drop, Some, refl, sym, ap, ◌∙◌, subst, arith, append_assoc, append-nil}
+use Rattle.std.proofs.Common.{◌≡◌, ℕ, zero, suc, ◌+◌, ◌<◌, true, List, [], ◌∷◌, ◌++◌, length, drop, Some, refl, sym, ap, ◌∙◌, subst, arith, append_assoc, append-nil}
 use Rattle.std.specs.Prelude.{slice_get, All}
 use Rattle.std.specs.List.{list_all}
 use Rattle.std.proofs.lemmas.Bool.{and_from}
@@ -14,7 +14,7 @@ use Rattle.hera_meaning.specs.Rows.{IsRow, is_row}
 use Rattle.hera_meaning.proofs.RowsRead.{is_row-from_IsRow}
 use Rattle.when_overlay.specs.Changed.{after_all as seen_after}
 use Rattle.hera_top.specs.Dumping.{relation_text}
-use Rattle.hera_top.specs.Folder.{tables_text}
+use Rattle.hera_top.specs.Commands.{tables_text}
 
 -- two ways to say what commits do to a state
 pub same_after : (s : State) (ds : List Delta) → seen_after s ds ≡ after_all s ds

@@ -13,9 +13,11 @@ use Rattle.hera_bind.specs.Meaning.{Means}
 use Rattle.hera_syntax.specs.Tokens.{script_limit}
 use Rattle.hera_script.specs.declared.cause.Cause.{Cause}
 use Rattle.hera_script.specs.Refusing.{IsRefused}
-use Rattle.hera_top.specs.declared.refusal.Refusal.TheVariants.{Script}
-use Rattle.hera_top.specs.declared.words.ScriptCommand.TheVariants.{Eval}
-use Rattle.hera_top.specs.Outcome.{Outcome, refused, ran, ComesTo, refuses, performs}
+use Rattle.hera_outcome.specs.Outcomes.{Outcome, refused, ran}
+use Rattle.hera_outcome.specs.Passages.{Start}
+use Rattle.hera_outcome.specs.declared.refusal.Refusal.TheVariants.{Script}
+use Rattle.hera_words.specs.declared.command.Command.TheVariants.{Eval}
+use Rattle.hera_top.specs.Commands.{ComesToFor, refuses, performs, evaluates}
 
 abbrev AreSound : Type 0
 AreSound = (bytes : List ℕ) → (hosts : List Host) → (p : Program_tree) → length bytes ≤ script_limit → AreHosts hosts → Accepted bytes hosts p → Sound p (specs_of hosts)
@@ -42,8 +44,8 @@ means sound own same hosts turns script p are short accepted =
       runs = ap (λ (q : Program_tree). run_of q (empty_state p.relations) (specs_of hosts) turns) (same p (specs_of hosts) is);
     }
 
-pub evaluated : AreSound → HaveTheirOwn → AreTheSame → (hosts : List Host) (turns : ℕ) (script : List ℕ) (outcome : Outcome) → AreHosts hosts → ComesTo hosts (Eval turns) script outcome
+pub evaluated : AreSound → HaveTheirOwn → AreTheSame → (hosts : List Host) (turns : ℕ) (script : List ℕ) (s : Start) (outcome : Outcome) → AreHosts hosts → ComesToFor hosts script s (Eval turns) outcome
     → IsEvaluated hosts turns script outcome
-evaluated sound own same hosts turns script _ are (refuses {cause} {at} is) = inl (cause, at, is, refl)
-evaluated sound own same hosts turns script _ are (performs {p} short accepted) =
+evaluated sound own same hosts turns script s _ are (refuses {cause} {at} is) = inl (cause, at, is, refl)
+evaluated sound own same hosts turns script s _ are (performs {p} short accepted evaluates) =
     inr (p, run_of p (empty_state p.relations) (specs_of hosts) turns, accepted, means sound own same hosts turns script p are short accepted, refl)

@@ -1,11 +1,11 @@
 -- The run of a program's code is the program's.
-use Rattle.std.proofs.Common.{◌≡◌, ℕ, ◌+◌, ◌<◌, ◌≤◌, ⊎_elim, List, [], ◌++◌, take, length, Option, Some, sym, ap, ◌∙◌, subst, arith, append-nil}
+use Rattle.std.proofs.Common.{◌≡◌, ℕ, ◌+◌, ◌<◌, ◌≤◌, ⊎_elim, inl, inr, refl, List, [], ◌++◌, take, length, Option, Some, sym, ap, ◌∙◌, subst, arith, append-nil}
 use Rattle.std.proofs.lemmas.Bool.{cases_lt}
 use Rattle.std.proofs.lemmas.List.{take_all, take-append-le}
 use Rattle.std.proofs.Math.Seq.{take-append_seam, take-append-add}
 use Rattle.std.specs.Io.KnownBytes.{Appends}
 use Rattle.std.proofs.KnownBytes.{Appends-trans}
-use Rattle.hera_top.proofs.Saying.{Appends-nothing}
+use Rattle.std.proofs.KnownBytes.{Appends-nil as Appends-nothing}
 use Rattle.hera_top.proofs.Lines.{same_part}
 use Rattle.hera_meaning.specs.declared.schemas.RelDecl.{RelDecl}
 use Rattle.hera_meaning.specs.Deltas.{Delta, State}
@@ -14,7 +14,7 @@ use Rattle.hera_meaning.specs.Worlds.{Event}
 use Rattle.hera_meaning.specs.Run.{Report, Finish, printed, run_of}
 use Rattle.hera_code.specs.declared.instrs.Code.{Code}
 use Rattle.hera_meaning.specs.Hosts.{Hosts}
-use Rattle.hera_code.specs.Machine.{Stop, ended, stuck, code_step}
+use Rattle.hera_code.specs.Machine.{Stop, ended, stuck}
 use Rattle.hera_code.specs.Reached.{over, code_at}
 use Rattle.hera_code.specs.Scheme.{code_of}
 use Rattle.hera_code.specs.Forward.{Forward}
@@ -22,15 +22,20 @@ use Rattle.hera_codegen.specs.Correct.{events_in, IsPrefix}
 use Rattle.hera_machine.specs.declared.events.End.{End}
 use Rattle.hera_machine.specs.declared.events.End.TheVariants.{Stuck}
 use Rattle.hera_machine.specs.declared.events.Event as machine_event
-use Rattle.hera_machine.specs.Standing.{Standing, stop_of, machine_over, event_over, Tells, IsLess}
+use Rattle.hera_machine.specs.Standing.{Standing, stop_of, Tells, IsLess}
 use Rattle.hera_machine.specs.Over.{state_over}
 use Rattle.hera_machine.proofs.Along.{IsAlong, EndsAs, printed-append}
 use Rattle.rel_pages.specs.Stored.{empty_state}
 use Rattle.hera_volume.specs.Disk.{Disk, IsImage}
 use Rattle.hera_volume.specs.Time.{Image, IsImageAmid}
 use Rattle.hera_volume.specs.declared.file_id.FileId.{FileId}
-use Rattle.hera_top.specs.Outcome.{ran, status_of_finish, IsWhole, SaysPart}
-use Rattle.hera_top.specs.Passages.{Passage}
+use Rattle.hera_outcome.specs.declared.answer.Stop.{Stop as Stopped}
+use Rattle.hera_outcome.specs.declared.answer.Stop.TheVariants.{Refused, Device, Output, Memory, Full}
+use Rattle.hera_outcome.specs.Answers.{number_of_stop, IsSpoken}
+use Rattle.hera_outcome.specs.Outcomes.{ran, status_of_finish}
+use Rattle.hera_outcome.specs.Passages.{Passage, KeepsFiles}
+use Rattle.hera_outcome.specs.Told.{StopFaults, IsTold}
+use Rattle.hera_outcome.proofs.Passing.{told_whole, reads_kept}
 use Rattle.hera_run.specs.Running.{last_text}
 use Rattle.hera_top.specs.Running.{EndsSaid, PartSaid, IsRunImage}
 
@@ -119,6 +124,16 @@ module _ (code : Code) (rels : List RelDecl) (hosts : Hosts) (s : State) (turns 
     part = ends_cut start mid (Some c.emitted) bytes ds end e first (same_part mid (Some c.emitted) text (last_text end) is image.emitted);
   }
 
+-- ---- ends
+
+abbrev finish_in : Finish → Stop → Finish
+finish_in f (ended g) = g
+finish_in f stuck = f
+
+-- the status of an end is that of the finish that it tells
+pub status_same : (end : End) (f other : Finish) (status : ℕ) → stop_of end ≡ ended f → status ≡ status_of_finish f → stop_of end ≡ ended other → status ≡ status_of_finish other
+status_same end f other status is own also = own ∙ ap status_of_finish (ap (finish_in f) (sym is ∙ also))
+
 -- ---- a program's run
 
 module _ (p : Program_tree) (hosts : Hosts) (turns : ℕ) where
@@ -128,20 +143,21 @@ module _ (p : Program_tree) (hosts : Hosts) (turns : ℕ) where
   abbrev pub Only : Type 0
   Only = (k : ℕ) (events : List Event) (stop : Stop) → code_at (code_of p) p.relations (empty_state p.relations) hosts turns k ≡ over events stop → (events ≡ report.events) × (stop ≡ ended report.finish)
 
-  abbrev finish_in : Finish → Stop → Finish
-  finish_in f (ended g) = g
-  finish_in f stuck = f
-
-  pub run_whole : (v : Passage) (end : End) (finish : Finish) (status : ℕ) → Only → stop_of end ≡ ended finish → status_of_finish finish ≡ status → v.output_now ≡ v.output_before
-      → EndsSaid (code_of p) p.relations hosts (empty_state p.relations) turns v.emitted_before v.emitted_now end → IsWhole (ran report) status v
-  run_whole v end finish status only is own fine said =
+  pub run_whole : (v : Passage) (end : End) (status : ℕ) → Only → ((finish : Finish) → stop_of end ≡ ended finish → status ≡ status_of_finish finish) → v.output_now ≡ v.output_before → KeepsFiles v
+      → (v.told → v.leaves_only (IsImageAmid v.disks_before v.emitted_before (printed report.events)))
+      → EndsSaid (code_of p) p.relations hosts (empty_state p.relations) turns v.emitted_before v.emitted_now end → IsTold (ran report) status v
+  run_whole v end status only own fine keeps moments said =
       let (events, stop) = only said.steps said.events (stop_of end) said.ends in
-      let same : finish ≡ report.finish = ap (finish_in finish) (sym is ∙ stop) in
-      record {
-        own_status = sym own ∙ ap status_of_finish same;
-        whole_text = subst (λ (l : List ℕ). Appends v.emitted_before v.emitted_now l) (ap printed events) said.said;
-        no_fault = fine;
-      }
+      told_whole (ran report) v (printed report.events) status tt refl (own report.finish stop) (subst (λ (l : List ℕ). Appends v.emitted_before v.emitted_now l) (ap printed events) said.said) fine keeps moments
+
+  -- it stopped
+  pub run_stopped : (stop : Stopped) (v : Passage) → StopFaults stop v → IsSpoken stop → ((n : ℕ) × Appends v.emitted_before v.emitted_now (take n (printed report.events))) → KeepsFiles v
+      → (v.told → v.leaves_only (IsImageAmid v.disks_before v.emitted_before (printed report.events))) → IsTold (ran report) (number_of_stop stop) v
+  run_stopped (Refused refusal) v faults spoken front keeps moments = absurd spoken
+  run_stopped Device v faults spoken front keeps moments = absurd spoken
+  run_stopped Output v faults spoken front keeps moments = record { ending = inr (record { cause = inr (inl (refl, faults.0, faults.1)); front = front; files = reads_kept v keeps }); moments = moments }
+  run_stopped Memory v faults spoken front keeps moments = record { ending = inr (record { cause = inr (inr (refl, faults.0, faults.1)); front = front; files = reads_kept v keeps }); moments = moments }
+  run_stopped Full v faults spoken front keeps moments = absurd spoken
 
   stuck_is_no_end : (finish : Finish) → stuck ≡ ended finish → ⊥
   stuck_is_no_end _ is = cc (is)
@@ -150,7 +166,7 @@ module _ (p : Program_tree) (hosts : Hosts) (turns : ℕ) where
   never_stuck before now only said = stuck_is_no_end report.finish (only said.steps said.events stuck said.ends).1
 
   pub run_part : (before now : Option (List ℕ)) → ((k : ℕ) → IsPrefix (events_in (code_at (code_of p) p.relations (empty_state p.relations) hosts turns k)) report.events)
-      → PartSaid (code_of p) p.relations hosts (empty_state p.relations) turns before now → SaysPart (ran report) before now
+      → PartSaid (code_of p) p.relations hosts (empty_state p.relations) turns before now → (n : ℕ) × Appends before now (take n (printed report.events))
   run_part before now prefixes said =
       let (m, is) = front_printed _ report.events said.front (prefixes said.steps) in
       (m, subst (λ (l : List ℕ). Appends before now l) is said.said)

@@ -1,11 +1,6 @@
-pub mod Words
 pub mod Sources
-pub mod Statuses
-pub mod Passages
-pub mod Outcome
-pub mod Said
-pub mod Running
-pub mod Folder
 pub mod Dumping
 pub mod Drill
+pub mod Running
+pub mod Commands
 pub mod Told

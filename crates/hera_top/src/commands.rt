@@ -1,126 +1,142 @@
-ghost use Rattle.std.specs.Prelude.{ℕ, ◌≡◌, ◌≤◌, ◌≢◌, ◌⊎◌, [], length};
-ghost use Rattle.hera_causes.specs.Causes.{Rose};
+//! The commands on a program.
+ghost use Rattle.std.specs.Prelude.{◌≡◌, ◌≢◌, ℕ, false};
+ghost use Rattle.hera_meaning.specs.Catalogues.{IsCatalogue};
 ghost use Rattle.hera_meaning.specs.Plain.{program_of};
 ghost use Rattle.hera_meaning.specs.Sound.{Sound};
 ghost use Rattle.hera_host.specs.Tables.{specs_of};
-ghost use Rattle.hera_syntax.specs.Tokens.{script_limit};
-ghost use Rattle.hera_top.specs.Outcome.{outcome_of, IsSaid};
-ghost use Rattle.hera_top.specs.Passages.{passage};
-ghost use Rattle.hera_top.specs.Said.{SaysOutcome};
-ghost use Rattle.hera_top.specs.Statuses.{number_of};
+ghost use Rattle.hera_outcome.specs.Passages.{passage, start};
+ghost use Rattle.hera_outcome.specs.Told.{Answered};
+ghost use Rattle.hera_words.specs.declared.command.Command.{Command};
+ghost use Rattle.hera_words.specs.Words.{form_of};
+ghost use Rattle.hera_top.specs.Commands.{Performs, ReadsScript, IsMade, IsApart};
 
-use crate::refusal::Refusal;
+use crate::catalogue::catalogue_of;
 use crate::run::run;
-use crate::say::{refuse, say_all};
-use crate::status::ExitStatus;
-use crate::words::ScriptCommand;
 use hera_code::listing;
 use hera_codegen::generate;
 use hera_host::HostTable;
-use hera_meaning::Program;
-use hera_script::{ScriptFault, read_program};
+use hera_meaning::{Program, RelDecl};
+use hera_outcome::{Ending, Refusal, Stop, tell};
+use hera_row::Catalogue;
+use hera_run::run_in_folder;
+use hera_store::{InitFault, init_store};
 use hera_volume::Outside;
+use hera_words::Command;
 use std::alloc::Global;
 
-/// Prints the listing of a program's code, and gives the status.
+/// Prints the listing of a program's code.
 fn list<W: Outside>(
     alloc: Global,
     program: &Program,
     outside: &mut W,
     hosts: &HostTable,
-) -> ExitStatus
-    requires { Sound (program_of program.now) (specs_of hosts.now.names) }
-    ensures said { IsSaid (outcome_of hosts.now.names ScriptCommand.List (program_of program.now)) (number_of result) (passage W.told W.disk W.emitted W.output_faults W.device_faults W.moment W.left_since outside.old outside.new) }
-    ensures later { W.output_faults outside.old ≤ W.output_faults outside.new }
-    ensures output { result ≡ ExitStatus.OutputFailed → Rose (W.output_faults outside.old) (W.output_faults outside.new) }
-    ensures status { (result ≡ ExitStatus.Done) ⊎ (result ≡ ExitStatus.OutputFailed) ⊎ (result ≡ ExitStatus.NoMemory) }
+) -> Result<Ending, Stop>
+    requires sound { Sound (program_of program.now) (specs_of hosts.now.names) }
+    ensures answered { Answered (Performs hosts.now.names (program_of program.now) (start W.Outside.own outside.old) Command.List) result (passage W.Output W.Outside.own outside.old outside.new) }
+    ensures apart { IsApart result (passage W.Output W.Outside.own outside.old outside.new) }
 {
     let Ok(code) = generate(alloc, program) else {
-        return ExitStatus::NoMemory;
+        return Err(Stop::Memory);
     };
     let text = listing(alloc, &code);
     drop(code);
     match text {
-        Ok(text) => say_all(outside, text.bytes(), ExitStatus::Done),
-        Err(_) => ExitStatus::NoMemory,
+        Ok(text) => tell(outside, text.bytes()),
+        Err(_) => Err(Stop::Memory),
     }
 }
 
-/// Carries out a command on an accepted script's program, and gives the status.
-fn perform<W: Outside>(
-    alloc: Global,
-    command: ScriptCommand,
-    program: &Program,
-    outside: &mut W,
-    hosts: &HostTable,
-) -> ExitStatus
-    requires sound { Sound (program_of program.now) (specs_of hosts.now.names) }
-    ensures said { IsSaid (outcome_of hosts.now.names command (program_of program.now)) (number_of result) (passage W.told W.disk W.emitted W.output_faults W.device_faults W.moment W.left_since outside.old outside.new) }
-    ensures later { W.output_faults outside.old ≤ W.output_faults outside.new }
-    ensures output { result ≡ ExitStatus.OutputFailed → Rose (W.output_faults outside.old) (W.output_faults outside.new) }
-    ensures read { result ≢ ExitStatus.Unread }
-    ensures formed { result ≢ ExitStatus.Usage }
-    ensures no_device { result ≢ ExitStatus.DeviceFailed }
-{
-    match command {
-        ScriptCommand::Check => say_all(outside, b"accepted\n", ExitStatus::Done),
-        ScriptCommand::List => list(alloc, program, outside, hosts),
-        ScriptCommand::Eval(turns) => eval(alloc, program, turns, outside, hosts),
-    }
-}
-
-/// Carries out a command on a script, and gives the status.
-pub(crate) fn answer_script<W: Outside>(
-    alloc: Global,
-    command: ScriptCommand,
-    script: &[u8],
-    outside: &mut W,
-    hosts: &HostTable,
-) -> ExitStatus
-    requires short { length script.now ≤ script_limit }
-    ensures said { SaysOutcome hosts.now.names command script.now (number_of result) (passage W.told W.disk W.emitted W.output_faults W.device_faults W.moment W.left_since outside.old outside.new) }
-    ensures later { W.output_faults outside.old ≤ W.output_faults outside.new }
-    ensures output { result ≡ ExitStatus.OutputFailed → Rose (W.output_faults outside.old) (W.output_faults outside.new) }
-    ensures read { result ≢ ExitStatus.Unread }
-    ensures formed { result ≢ ExitStatus.Usage }
-    ensures no_device { result ≢ ExitStatus.DeviceFailed }
-{
-    match read_program(alloc, script, hosts) {
-        Ok(program) => {
-            let status = perform(alloc, command, &program, outside, hosts);
-            drop(program);
-            status
-        }
-        Err(ScriptFault::Refused { cause, at }) => {
-            refuse(alloc, outside, Refusal::Script { cause, at })
-        }
-        Err(ScriptFault::Memory) => ExitStatus::NoMemory,
-    }
-}
-
-/// Runs a program on empty relations with at most so many turns, and gives the status.
+/// Runs a program on its relations without rows, with at most so many turns.
 fn eval<W: Outside>(
     alloc: Global,
     program: &Program,
     turns: u64,
     outside: &mut W,
     hosts: &HostTable,
-) -> ExitStatus
+) -> Result<Ending, Stop>
     requires sound { Sound (program_of program.now) (specs_of hosts.now.names) }
-    ensures said { IsSaid (outcome_of hosts.now.names (ScriptCommand.Eval turns) (program_of program.now)) (number_of result) (passage W.told W.disk W.emitted W.output_faults W.device_faults W.moment W.left_since outside.old outside.new) }
-    ensures later { W.output_faults outside.old ≤ W.output_faults outside.new }
-    ensures output { result ≡ ExitStatus.OutputFailed → Rose (W.output_faults outside.old) (W.output_faults outside.new) }
-    ensures read { result ≢ ExitStatus.Unread }
-    ensures formed { result ≢ ExitStatus.Usage }
-    ensures no_device { result ≢ ExitStatus.DeviceFailed }
+    ensures answered { Answered (Performs hosts.now.names (program_of program.now) (start W.Outside.own outside.old) (Command.Eval turns)) result (passage W.Output W.Outside.own outside.old outside.new) }
+    ensures apart { IsApart result (passage W.Output W.Outside.own outside.old outside.new) }
 {
     let Ok(code) = generate(alloc, program) else {
-        return ExitStatus::NoMemory;
+        return Err(Stop::Memory);
     };
-    let outcome = run(alloc, program, &code, turns, outside, hosts);
+    let answer = run(alloc, program, &code, turns, outside, hosts);
     drop(code);
-    match outcome {
-        Ok(status) => status,
-        Err(fault) => fault.status(),
+    answer
+}
+
+/// Makes the database of a catalogue in the folder, without rows.
+fn make_from<W: Outside>(
+    alloc: Global,
+    catalogue: &Catalogue,
+    outside: &mut W,
+) -> Result<Ending, Stop>
+    ensures answered { Answered (IsMade catalogue.now (start W.Outside.own outside.old)) result (passage W.Output W.Outside.own outside.old outside.new) }
+{
+    match init_store(alloc, outside, catalogue) {
+        Ok(()) => tell(outside, b"created\n"),
+        Err(InitFault::Exists) => Err(Stop::Refused(Refusal::Exists)),
+        Err(InitFault::Device) => Err(Stop::Device),
+        Err(InitFault::Memory) => Err(Stop::Memory),
+    }
+}
+
+/// Makes the database of these relations in the folder, without rows.
+fn init<W: Outside>(alloc: Global, relations: &[RelDecl], outside: &mut W) -> Result<Ending, Stop>
+    requires { IsCatalogue relations.now }
+    ensures answered { Answered (IsMade relations.now (start W.Outside.own outside.old)) result (passage W.Output W.Outside.own outside.old outside.new) }
+{
+    let Ok(catalogue) = catalogue_of(alloc, relations) else {
+        return Err(Stop::Memory);
+    };
+    let answer = make_from(alloc, &catalogue, outside);
+    drop(catalogue);
+    answer
+}
+
+/// Carries out a command on an accepted script's program.
+pub(crate) fn perform<W: Outside>(
+    alloc: Global,
+    command: Command,
+    program: Program,
+    outside: &mut W,
+    hosts: &HostTable,
+) -> Result<Ending, Stop>
+    requires reads { ReadsScript command }
+    requires sound { Sound (program_of program) (specs_of hosts.now.names) }
+    ensures answered { Answered (Performs hosts.now.names (program_of program) (start W.Outside.own outside.old) command) result (passage W.Output W.Outside.own outside.old outside.new) }
+    ensures apart { (form_of command).folder ≡ false → IsApart result (passage W.Output W.Outside.own outside.old outside.new) }
+{
+    match command {
+        Command::Run(turns) => run_in_folder(alloc, program, turns, outside, hosts),
+        _ => {
+            let answer = perform_on(alloc, command, &program, outside, hosts);
+            drop(program);
+            answer
+        }
+    }
+}
+
+/// Carries out a command other than a run over a folder.
+fn perform_on<W: Outside>(
+    alloc: Global,
+    command: Command,
+    program: &Program,
+    outside: &mut W,
+    hosts: &HostTable,
+) -> Result<Ending, Stop>
+    requires reads { ReadsScript command }
+    requires sound { Sound (program_of program.now) (specs_of hosts.now.names) }
+    requires other { (turns : ℕ) → command ≢ Command.Run turns }
+    ensures answered { Answered (Performs hosts.now.names (program_of program.now) (start W.Outside.own outside.old) command) result (passage W.Output W.Outside.own outside.old outside.new) }
+    ensures apart { (form_of command).folder ≡ false → IsApart result (passage W.Output W.Outside.own outside.old outside.new) }
+{
+    match command {
+        Command::Check => tell(outside, b"accepted\n"),
+        Command::List => list(alloc, program, outside, hosts),
+        Command::Eval(turns) => eval(alloc, program, turns, outside, hosts),
+        Command::Init => init(alloc, &program.relations, outside),
+        Command::Run(_) | Command::Drill(_) | Command::Dump | Command::Checkpoint => unreachable!(),
     }
 }

@@ -6,7 +6,7 @@ ghost use Rattle.hera_meaning.specs.Printed.{table_text};
 ghost use Rattle.hera_meaning.specs.Rows.{is_row};
 ghost use Rattle.hera_store.specs.Standing.{database_of};
 ghost use Rattle.hera_top.specs.Dumping.{relation_text};
-ghost use Rattle.hera_top.specs.Folder.{tables_text};
+ghost use Rattle.hera_top.specs.Commands.{tables_text};
 
 use delta_atoms::Value;
 use hera_meaning::writing::put;

@@ -1,6 +1,6 @@
 //! Laws of the definitions that the contract of `hera` cites. The functions do nothing: their clauses are the laws.
 
-ghost use Rattle.std.specs.Prelude.{◌≡◌, ◌≢◌, ◌≤◌, ◌↔◌, ◌⊎◌, ℕ, true, List, Option, Some, length, codes};
+ghost use Rattle.std.specs.Prelude.{◌≡◌, ◌≢◌, ◌≤◌, ◌↔◌, ◌⊎◌, ℕ, true, false, List, Option, Some, length, codes};
 ghost use Rattle.hera_causes.specs.Causes.{Rose};
 ghost use Rattle.hera_meaning.specs.Run.{Report, run_of};
 ghost use Rattle.hera_meaning.specs.Trees.{Program_tree};
@@ -8,23 +8,24 @@ ghost use Rattle.hera_host.specs.Tables.{Host, AreHosts, specs_of};
 ghost use Rattle.hera_rules.specs.Accepted.{Accepted};
 ghost use Rattle.hera_rules.specs.Bound.{bound};
 ghost use Rattle.hera_bind.specs.Having.{AllHas};
-ghost use Rattle.hera_store.specs.Databases.{Database, Holds};
-ghost use Rattle.hera_run.specs.Fitting.{all_fit};
-ghost use Rattle.hera_run.specs.Outcome.{ran_in, StartsAt};
-ghost use Rattle.hera_top.specs.declared.words.FolderCommand.{FolderCommand};
-ghost use Rattle.hera_top.specs.declared.words.ScriptCommand.{ScriptCommand};
-ghost use Rattle.hera_script.specs.Refusing.{IsRefused};
-ghost use Rattle.hera_syntax.specs.Tokens.{script_limit};
-ghost use Rattle.hera_script.specs.declared.cause.Cause.{Cause};
 ghost use Rattle.hera_bind.specs.Meaning.{Means};
+ghost use Rattle.hera_script.specs.Refusing.{IsRefused};
+ghost use Rattle.hera_script.specs.declared.cause.Cause.{Cause};
+ghost use Rattle.hera_syntax.specs.Tokens.{script_limit};
+ghost use Rattle.hera_store.specs.Databases.{Database, Holds};
 ghost use Rattle.hera_volume.specs.declared.file_id.FileId.{FileId};
 ghost use Rattle.rel_pages.specs.Stored.{empty_state};
-ghost use Rattle.hera_top.specs.Folder.{FolderOutcome, turned_away, ran as done_in_folder, ComesToIn, IsDone, AnswersIn};
-ghost use Rattle.hera_top.specs.Passages.{passage};
+ghost use Rattle.hera_outcome.specs.Outcomes.{Outcome, refused, prints, ran, carried, ends};
+ghost use Rattle.hera_outcome.specs.Passages.{passage, start};
+ghost use Rattle.hera_outcome.specs.Told.{IsDone};
+ghost use Rattle.hera_outcome.specs.declared.refusal.Refusal.{Refusal};
+ghost use Rattle.hera_run.specs.Fitting.{all_fit};
+ghost use Rattle.hera_run.specs.Folder.{StartsAt};
+ghost use Rattle.hera_words.specs.declared.command.Command.{Command};
+ghost use Rattle.hera_words.specs.Words.{form_of};
+ghost use Rattle.hera_top.specs.Commands.{ComesToFor, ComesTo, ReadsScript, IsRead, Answers};
 ghost use Rattle.hera_top.specs.Sources.{Seen};
-ghost use Rattle.hera_top.specs.Told.{BeginsWith};
-ghost use Rattle.hera_top.specs.declared.refusal.Refusal.{Refusal};
-ghost use Rattle.hera_top.specs.Outcome.{Outcome, prints, ran, refused, ComesTo, IsRead};
+ghost use Rattle.hera_top.specs.Told.{BeginsWith, full_source, drained};
 
 use half_laws::laws::{a_half_has_one_catalogue_and_state, a_half_has_one_version};
 use hera_bind::laws::a_program_is_bound_to_its_own_relations;
@@ -34,20 +35,22 @@ use hera_script::{a_script_has_one_answer, accepted_programs_are_sound};
 use hera_store::laws::one_thing_is_found;
 use hera_volume::Outside;
 
-/// A command comes to one outcome for a script: so each refusal stands for its cause alone, and what runs is the one
-/// program of the script. What `check` prints is `accepted` exactly for the scripts that are accepted.
-pub fn one_outcome()
-    ensures one { (hosts : List Host) (command : ScriptCommand) (script : List ℕ) (a b : Outcome) → ComesTo hosts command script a → ComesTo hosts command script b → a ≡ b }
-    ensures accepted { (hosts : List Host) (script : List ℕ) (outcome : Outcome) → ComesTo hosts ScriptCommand.Check script outcome
+/// A command without a folder comes to one outcome for a script: so each refusal stands for its cause alone, and what runs
+/// is the one program of the script. What `check` prints is `accepted` exactly for the scripts that are accepted.
+pub fn one_outcome<W: Outside>()
+    ensures one { (hosts : List Host) (command : Command) (script : List ℕ) (first second : W) (a b : Outcome) → (form_of command).folder ≡ false
+        → ComesToFor hosts script (start W.Outside.own first) command a → ComesToFor hosts script (start W.Outside.own second) command b → a ≡ b }
+    ensures accepted { (hosts : List Host) (script : List ℕ) (first : W) (outcome : Outcome) → ComesToFor hosts script (start W.Outside.own first) Command.Check outcome
         → (outcome ≡ prints (codes "accepted\n")) ↔ ((length script ≤ script_limit) × ((p : Program_tree) × Accepted script hosts p)) }
 {
     a_script_has_one_answer();
 }
 
-/// A command comes to an outcome for each script: no script is left out of the definitions of what is refused and what
-/// is accepted.
-pub fn some_outcome()
-    ensures { (hosts : List Host) (command : ScriptCommand) (script : List ℕ) → (outcome : Outcome) × ComesTo hosts command script outcome }
+/// A command that reads a script and has no folder comes to an outcome for each script: no script is left out of the
+/// definitions of what is refused and what is accepted.
+pub fn some_outcome<W: Outside>()
+    ensures { (hosts : List Host) (command : Command) (script : List ℕ) (first : W) → ReadsScript command → (form_of command).folder ≡ false
+        → (outcome : Outcome) × ComesToFor hosts script (start W.Outside.own first) command outcome }
 {
     some_tokens();
     some_tree();
@@ -55,15 +58,31 @@ pub fn some_outcome()
     typing_is_exact();
 }
 
-/// A command over a folder comes to one outcome for a script, what the files hold, the table of hosts and the turns: two
-/// calls that begin with the same of these come to the same, but where a source failed before the script was read.
+/// A command comes to one outcome for a script, where it reads one, what the files hold, the table of hosts and the turns:
+/// two calls that begin with the same of these come to the same, but where a source failed before the script was read.
 pub fn one_outcome_in_a_folder<W: Outside>()
-    ensures { (hosts : List Host) (command : FolderCommand) (script : List ℕ) (files : FileId → List ℕ) (before now later after : Seen) (first first_end second second_end : W) (a b : FolderOutcome)
-        → BeginsWith script files before (passage W.told W.disk W.emitted W.output_faults W.device_faults W.moment W.left_since first first_end)
-        → BeginsWith script files later (passage W.told W.disk W.emitted W.output_faults W.device_faults W.moment W.left_since second second_end)
-        → ComesToIn hosts before now (passage W.told W.disk W.emitted W.output_faults W.device_faults W.moment W.left_since first first_end) command a
-        → ComesToIn hosts later after (passage W.told W.disk W.emitted W.output_faults W.device_faults W.moment W.left_since second second_end) command b
-        → a ≢ turned_away Refusal.Unread → b ≢ turned_away Refusal.Unread → a ≡ b }
+    ensures { (hosts : List Host) (command : Command) (script : List ℕ) (files : FileId → List ℕ) (before now later after : Seen) (first second : W) (a b : Outcome)
+        → BeginsWith command script files before (start W.Outside.own first)
+        → BeginsWith command script files later (start W.Outside.own second)
+        → ComesTo hosts before now (start W.Outside.own first) command a
+        → ComesTo hosts later after (start W.Outside.own second) command b
+        → a ≢ refused Refusal.Unread → b ≢ refused Refusal.Unread → a ≡ b }
+{
+    a_script_has_one_answer();
+    one_thing_is_found();
+    a_half_has_one_version();
+    a_half_has_one_catalogue_and_state();
+}
+
+/// Completeness. Let no call on a source, a file or the output fail. Then a command does the whole of what it comes to for
+/// its script and what the files hold, or there was no memory (9).
+pub fn a_call_is_complete<W: Outside>()
+    ensures { (hosts : List Host) (command : Command) (script : List ℕ) (files : FileId → List ℕ) (before now : Seen) (first last : W) (status : ℕ) (outcome : Outcome)
+        → BeginsWith command script files before (start W.Outside.own first)
+        → ¬ Rose before.faults now.faults → ¬ Rose (W.device_faults first) (W.device_faults last) → ¬ Rose (W.output_faults first) (W.output_faults last)
+        → ComesTo hosts (full_source script) drained (start W.Outside.own first) command outcome → outcome ≢ refused Refusal.Unread
+        → Answers hosts command before now status (passage W.Output W.Outside.own first last)
+        → (status ≡ 9) ⊎ IsDone outcome status (passage W.Output W.Outside.own first last) }
 {
     a_script_has_one_answer();
     one_thing_is_found();
@@ -72,16 +91,17 @@ pub fn one_outcome_in_a_folder<W: Outside>()
 }
 
 /// Completeness of `run`. Let a script be accepted, the files hold a database with all relations that it declares, whose
-/// half, where it is of format 1, fits in format 2, each of its commits fit into the half, and the source not fail. Then `run` does the whole of what the script means, and
-/// ends as that ends, but where a call on a file failed (6), the output did (8) or there was no memory (9).
+/// half, where it is of format 1, fits in format 2, each of its commits fit into the half, and the source not fail. Then
+/// `run` does the whole of what the script means, and ends as that ends, but where a call on a file failed (6), the output
+/// did (8) or there was no memory (9).
 pub fn a_run_is_complete<W: Outside>()
     ensures { (hosts : List Host) (turns : ℕ) (script : List ℕ) (files : FileId → List ℕ) (p : Program_tree) (db : Database) (gate : ℕ) (before now : Seen) (first last : W) (status : ℕ)
-        → BeginsWith script files before (passage W.told W.disk W.emitted W.output_faults W.device_faults W.moment W.left_since first last) → ¬ Rose before.faults now.faults
+        → BeginsWith (Command.Run turns) script files before (start W.Outside.own first) → ¬ Rose before.faults now.faults
         → length script ≤ script_limit → Accepted script hosts p → Holds files db → StartsAt files db gate → AllHas db.catalogue p.relations
         → all_fit gate (run_of (bound p db.catalogue) db.state (specs_of hosts) turns).events ≡ true
-        → AnswersIn hosts (FolderCommand.Run turns) before now status (passage W.told W.disk W.emitted W.output_faults W.device_faults W.moment W.left_since first last)
+        → Answers hosts (Command.Run turns) before now status (passage W.Output W.Outside.own first last)
         → (status ≡ 6) ⊎ (status ≡ 8) ⊎ (status ≡ 9)
-        ⊎ IsDone (done_in_folder (ran_in db (run_of (bound p db.catalogue) db.state (specs_of hosts) turns))) status (passage W.told W.disk W.emitted W.output_faults W.device_faults W.moment W.left_since first last) }
+        ⊎ IsDone (carried db (run_of (bound p db.catalogue) db.state (specs_of hosts) turns).events (ends (run_of (bound p db.catalogue) db.state (specs_of hosts) turns).finish)) status (passage W.Output W.Outside.own first last) }
 {
     a_script_has_one_answer();
     one_thing_is_found();
@@ -90,14 +110,15 @@ pub fn a_run_is_complete<W: Outside>()
 }
 
 /// Where a source tells what it has left, the outcome of what came from it is the outcome of all of that.
-pub fn told_outcome()
-    ensures { (hosts : List Host) (command : ScriptCommand) (script bytes : List ℕ) (left : Option (List ℕ)) (outcome : Outcome) → IsRead (Some script) left bytes → ComesTo hosts command bytes outcome → ComesTo hosts command script outcome }
+pub fn told_outcome<W: Outside>()
+    ensures { (hosts : List Host) (command : Command) (script bytes : List ℕ) (left : Option (List ℕ)) (first : W) (outcome : Outcome)
+        → IsRead (Some script) left bytes → ComesToFor hosts bytes (start W.Outside.own first) command outcome → ComesToFor hosts script (start W.Outside.own first) command outcome }
 {}
 
 /// What `eval` comes to for a script is its refusal, or what the script means with these hosts and so many turns, on its
 /// own relations without rows.
-pub fn an_evaluation_is_the_meaning()
-    ensures { (hosts : List Host) (turns : ℕ) (script : List ℕ) (outcome : Outcome) → AreHosts hosts → ComesTo hosts (ScriptCommand.Eval turns) script outcome
+pub fn an_evaluation_is_the_meaning<W: Outside>()
+    ensures { (hosts : List Host) (turns : ℕ) (script : List ℕ) (first : W) (outcome : Outcome) → AreHosts hosts → ComesToFor hosts script (start W.Outside.own first) (Command.Eval turns) outcome
         → ((cause : Cause) × (at : ℕ) × IsRefused hosts script cause at × (outcome ≡ refused (Refusal.Script cause at)))
         ⊎ ((p : Program_tree) × (report : Report) × Accepted script hosts p × Means script p.relations (empty_state p.relations) hosts turns report × (outcome ≡ ran report)) }
 {

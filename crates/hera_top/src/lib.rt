@@ -5,15 +5,11 @@ mod catalogue;
 mod commands;
 mod drill;
 mod dumping;
-mod in_folder;
+mod folders;
 pub mod laws;
-mod refusal;
 mod run;
-mod say;
-mod status;
+mod script;
 mod top;
-mod words;
 
-pub use refusal::Refusal;
+pub use hera_words::{Command, files_of, folder_of};
 pub use top::hera;
-pub use words::{Command, FolderCommand, ScriptCommand, files_of, folder_of};

@@ -1,88 +1,90 @@
-ghost use Rattle.std.specs.Prelude.{ℕ, ◌≡◌, ◌≤◌, ◌+◌, [], length, Some, None, ◌≢◌};
+ghost use Rattle.std.specs.Prelude.{◌≡◌, ◌≤◌, ◌+◌, false, length, Some, None, ◌≢◌, IsTrue, IsFalse};
 ghost use Rattle.hera_causes.specs.Causes.{Rose};
+ghost use Rattle.hera_outcome.specs.Outcomes.{refused};
+ghost use Rattle.hera_outcome.specs.Passages.{passage, start, KeepsFiles};
+ghost use Rattle.hera_outcome.specs.Told.{IsTold, Answered};
+ghost use Rattle.hera_outcome.specs.declared.refusal.Refusal.{Refusal};
+ghost use Rattle.hera_words.specs.declared.command.Command.{Command};
+ghost use Rattle.hera_words.specs.Words.{words_of, command_of, files_in, folder_in, form_of};
+ghost use Rattle.hera_top.specs.Commands.{Answers, IsAnswered, IsApart, ComesToFor, ReadsScript};
 ghost use Rattle.hera_top.specs.Drill.{drill_text, drill_turns};
-ghost use Rattle.hera_top.specs.Folder.{AnswersIn};
-ghost use Rattle.hera_top.specs.Outcome.{refused, IsSaid, Answers};
-ghost use Rattle.hera_top.specs.Passages.{passage};
-ghost use Rattle.hera_top.specs.Said.{SaysOutcome};
-ghost use Rattle.hera_top.specs.Sources.{first_seen};
-ghost use Rattle.hera_top.specs.Statuses.{number_of};
-ghost use Rattle.hera_top.specs.Words.{words_of, command_of, files_in, folder_in};
+ghost use Rattle.hera_top.specs.Sources.{Seen, first_seen};
 
-use crate::commands::answer_script;
-use crate::drill::drill;
-use crate::in_folder::{answer_with_script, checkpoint, dump};
-use crate::refusal::Refusal;
-use crate::say::refuse;
-use crate::status::ExitStatus;
-use crate::words::{Command, FolderCommand, ScriptCommand, read_words};
-use hera_causes::{ReadFail, Source, read_all};
+use crate::drill::{DRILL_TURNS, drill_text};
+use crate::folders::{checkpoint, dump};
+use crate::script::{answer_script, answer_source};
+use hera_causes::Source;
 use hera_host::HostTable;
-use hera_script::Cause;
+use hera_outcome::{Ending, Refusal, Stop, conclude, refuse};
 use hera_volume::Outside;
+use hera_words::{Command, read_words};
 use std::alloc::Global;
 
-/// The most bytes of a script.
-pub(crate) const SCRIPT_LIMIT: usize = 1_048_576;
-
-/// Reads a script and carries out a command on it, and gives the status.
-fn answer<S: Source, W: Outside>(
+/// Runs the drill over so many rows.
+fn drill<W: Outside>(
     alloc: Global,
-    command: ScriptCommand,
-    source: &mut S,
+    rows: u64,
     outside: &mut W,
     hosts: &HostTable,
-) -> ExitStatus
-    ensures answers { Answers hosts.now.names command (record { left = S.left source.old; faults = S.faults source.old }) (record { left = S.left source.new; faults = S.faults source.new }) (number_of result) (passage W.told W.disk W.emitted W.output_faults W.device_faults W.moment W.left_since outside.old outside.new) }
-    ensures sources { S.faults source.old ≤ S.faults source.new }
-    ensures later { W.output_faults outside.old ≤ W.output_faults outside.new }
-    ensures output { result ≡ ExitStatus.OutputFailed → Rose (W.output_faults outside.old) (W.output_faults outside.new) }
-    ensures unread { result ≡ ExitStatus.Unread → Rose (S.faults source.old) (S.faults source.new) }
-    ensures formed { result ≢ ExitStatus.Usage }
-    ensures no_device { result ≢ ExitStatus.DeviceFailed }
+) -> Result<Ending, Stop>
+    ensures answered { Answered (ComesToFor hosts.now.names (drill_text rows) (start W.Outside.own outside.old) (Command.Eval drill_turns)) result (passage W.Output W.Outside.own outside.old outside.new) }
+    ensures apart { IsApart result (passage W.Output W.Outside.own outside.old outside.new) }
 {
-    match read_all(alloc, source, SCRIPT_LIMIT) {
-        Ok(script) => answer_script(alloc, command, &script, outside, hosts),
-        Err(ReadFail::Fault) => refuse(alloc, outside, Refusal::Unread),
-        Err(ReadFail::TooLong) => refuse(
-            alloc,
-            outside,
-            Refusal::Script {
-                cause: Cause::TooLong,
-                at: SCRIPT_LIMIT as u32,
-            },
-        ),
-        Err(ReadFail::Memory) => ExitStatus::NoMemory,
+    let Ok(text) = drill_text(alloc, rows) else {
+        return Err(Stop::Memory);
+    };
+    answer_script(alloc, Command::Eval(DRILL_TURNS), &text, outside, hosts)
+}
+
+/// Whether a command reads a script from its source.
+fn reads_script(command: Command) -> bool
+    ensures reads { IsTrue result → ReadsScript command }
+    ensures other { IsFalse result → ¬ ReadsScript command }
+{
+    match command {
+        Command::Check | Command::List | Command::Eval(_) | Command::Init | Command::Run(_) => true,
+        Command::Drill(_) | Command::Dump | Command::Checkpoint => false,
     }
 }
 
-/// Carries out a command on the database in a folder, and gives the status.
-fn answer_in_folder<S: Source, W: Outside>(
+/// Carries out a command that reads no source. A refusal is still to be told.
+fn answer_unread<W: Outside>(
     alloc: Global,
-    command: FolderCommand,
+    command: Command,
+    outside: &mut W,
+    hosts: &HostTable,
+) -> Result<Ending, Stop>
+    requires other { ¬ ReadsScript command }
+    ensures answered { (seen : Seen) → IsAnswered hosts.now.names command seen seen result (passage W.Output W.Outside.own outside.old outside.new) }
+    ensures apart { (form_of command).folder ≡ false → IsApart result (passage W.Output W.Outside.own outside.old outside.new) }
+{
+    match command {
+        Command::Drill(rows) => drill(alloc, rows, outside, hosts),
+        Command::Dump => dump(alloc, outside),
+        Command::Checkpoint => checkpoint(alloc, outside),
+        Command::Check | Command::List | Command::Eval(_) | Command::Init | Command::Run(_) => {
+            unreachable!()
+        }
+    }
+}
+
+/// Carries out a command. A refusal is still to be told.
+fn answer<S: Source, W: Outside>(
+    alloc: Global,
+    command: Command,
     sources: &mut Vec<S>,
     outside: &mut W,
     hosts: &HostTable,
-) -> ExitStatus
-    requires sources { length sources.old.items + (files_in (Some (Command.Folder command))).0 ≡ (files_in (Some (Command.Folder command))).1 }
-    ensures answers { AnswersIn hosts.now.names command (first_seen S.left S.faults sources.old.items) (first_seen S.left S.faults sources.new.items) (number_of result) (passage W.told W.disk W.emitted W.output_faults W.device_faults W.moment W.left_since outside.old outside.new) }
-    ensures sources { (first_seen S.left S.faults sources.old.items).faults ≤ (first_seen S.left S.faults sources.new.items).faults }
-    ensures unread { result ≡ ExitStatus.Unread → Rose (first_seen S.left S.faults sources.old.items).faults (first_seen S.left S.faults sources.new.items).faults }
-    ensures later { W.output_faults outside.old ≤ W.output_faults outside.new }
-    ensures device_later { W.device_faults outside.old ≤ W.device_faults outside.new }
-    ensures output { result ≡ ExitStatus.OutputFailed → Rose (W.output_faults outside.old) (W.output_faults outside.new) }
-    ensures device { result ≡ ExitStatus.DeviceFailed → Rose (W.device_faults outside.old) (W.device_faults outside.new) }
-    ensures formed { result ≢ ExitStatus.Usage }
+) -> Result<Ending, Stop>
+    requires sources { length sources.old.items + (files_in (Some command)).0 ≡ (files_in (Some command)).1 }
+    ensures answered { IsAnswered hosts.now.names command (first_seen S.left S.faults sources.old.items) (first_seen S.left S.faults sources.new.items) result (passage W.Output W.Outside.own outside.old outside.new) }
+    ensures unread { (form_of command).files ≡ 0 → sources.new ≡ sources.old }
+    ensures apart { (form_of command).folder ≡ false → IsApart result (passage W.Output W.Outside.own outside.old outside.new) }
 {
-    match command {
-        FolderCommand::Init => {
-            answer_with_script(alloc, command, &mut sources[0], outside, hosts)
-        }
-        FolderCommand::Run(_) => {
-            answer_with_script(alloc, command, &mut sources[0], outside, hosts)
-        }
-        FolderCommand::Dump => dump(alloc, outside),
-        FolderCommand::Checkpoint => checkpoint(alloc, outside),
+    if reads_script(command) {
+        answer_source(alloc, command, &mut sources[0], outside, hosts)
+    } else {
+        answer_unread(alloc, command, outside, hosts)
     }
 }
 
@@ -100,10 +102,10 @@ fn answer_in_folder<S: Source, W: Outside>(
 /// A script may call the hosts of the table.
 ///
 /// The statuses: 0 the command or the run is done, 1 the run ended in a trap, 2 the words are no listed form, 3 the
-/// script is refused, 4 the turns were spent, 5 there is a database and there should be none, or none, or it is damaged or lacks a relation,
-/// 6 a call on a file of the folder failed, 7 the script's source failed, 8 the output failed, 9 there was no memory, 10
-/// the half of a commit, of a checkpoint or in place of one of format 1 would be longer than 268,435,456 bytes. With 6, 8 and 9 a prefix of what would have been
-/// emitted was emitted, else all of it.
+/// script is refused, 4 the turns were spent, 5 there is a database and there should be none, or none, or it is damaged
+/// or lacks a relation, 6 a call on a file of the folder failed, 7 the script's source failed, 8 the output failed, 9
+/// there was no memory, 10 the half of a commit, of a checkpoint or in place of one of format 1 would be longer than
+/// 268,435,456 bytes. With 6, 8 and 9 a prefix of what would have been emitted was emitted, else all of it.
 pub fn hera<S: Source, W: Outside>(
     alloc: Global,
     words: &Vec<String>,
@@ -113,22 +115,16 @@ pub fn hera<S: Source, W: Outside>(
 ) -> u8
     requires sources { length sources.old.items + (files_in (command_of (words_of words.now.items))).0 ≡ (files_in (command_of (words_of words.now.items))).1 }
     // Words that are no listed form.
-    ensures usage { command_of (words_of words.now.items) ≡ None → IsSaid (refused Refusal.Usage) result (passage W.told W.disk W.emitted W.output_faults W.device_faults W.moment W.left_since outside.old outside.new) }
-    ensures usage_unread { command_of (words_of words.now.items) ≡ None → sources.new ≡ sources.old }
+    ensures usage { command_of (words_of words.now.items) ≡ None → IsTold (refused Refusal.Usage) result (passage W.Output W.Outside.own outside.old outside.new) }
     ensures usage_only { result ≡ 2 → command_of (words_of words.now.items) ≡ None }
 
-    // `check`, `list` and `eval`.
-    ensures command { (command : ScriptCommand) → command_of (words_of words.now.items) ≡ Some (Command.Script command)
-        → Answers hosts.now.names command (first_seen S.left S.faults sources.old.items) (first_seen S.left S.faults sources.new.items) result (passage W.told W.disk W.emitted W.output_faults W.device_faults W.moment W.left_since outside.old outside.new) }
+    // Each command.
+    ensures answers { (command : Command) → command_of (words_of words.now.items) ≡ Some command
+        → Answers hosts.now.names command (first_seen S.left S.faults sources.old.items) (first_seen S.left S.faults sources.new.items) result (passage W.Output W.Outside.own outside.old outside.new) }
 
-    // `drill`, which is `eval` on a script of its own.
-    ensures drill { (count : ℕ) → command_of (words_of words.now.items) ≡ Some (Command.Drill count)
-        → SaysOutcome hosts.now.names (ScriptCommand.Eval drill_turns) (drill_text count) result (passage W.told W.disk W.emitted W.output_faults W.device_faults W.moment W.left_since outside.old outside.new) }
-    ensures drill_unread { (count : ℕ) → command_of (words_of words.now.items) ≡ Some (Command.Drill count) → sources.new ≡ sources.old }
-
-    // `init`, `run`, `dump` and `checkpoint`.
-    ensures folder { (command : FolderCommand) → command_of (words_of words.now.items) ≡ Some (Command.Folder command)
-        → AnswersIn hosts.now.names command (first_seen S.left S.faults sources.old.items) (first_seen S.left S.faults sources.new.items) result (passage W.told W.disk W.emitted W.output_faults W.device_faults W.moment W.left_since outside.old outside.new) }
+    // Words without a folder make no call on a file that shows, and those without a script read none.
+    ensures keeps { folder_in (command_of (words_of words.now.items)) ≡ None → KeepsFiles (passage W.Output W.Outside.own outside.old outside.new) }
+    ensures unread_sources { files_in (command_of (words_of words.now.items)) ≡ (0, 0) → sources.new ≡ sources.old }
 
     // The causes of the statuses 6, 7 and 8.
     ensures device { result ≡ 6 → Rose (W.device_faults outside.old) (W.device_faults outside.new) }
@@ -139,14 +135,11 @@ pub fn hera<S: Source, W: Outside>(
     ensures output_later { W.output_faults outside.old ≤ W.output_faults outside.new }
     ensures device_later { W.device_faults outside.old ≤ W.device_faults outside.new }
 {
-    match read_words(words) {
-        Some(Command::Script(command)) => {
-            answer(alloc, command, &mut sources[0], outside, hosts).number()
+    match read_words(words.as_slice()) {
+        Some(command) => {
+            let ended = answer(alloc, command, sources, outside, hosts);
+            conclude(alloc, outside, ended)
         }
-        Some(Command::Folder(command)) => {
-            answer_in_folder(alloc, command, sources, outside, hosts).number()
-        }
-        Some(Command::Drill(count)) => drill(alloc, count, outside, hosts).number(),
-        None => refuse(alloc, outside, Refusal::Usage).number(),
+        None => refuse(alloc, outside, &Refusal::Usage),
     }
 }

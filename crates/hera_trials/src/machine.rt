@@ -1,11 +1,18 @@
 //! Code run by hand: some that no generator made, and some over few rows and over many.
+ghost use Rattle.std.specs.Prelude.{◌≡◌, true, [], None, Ok, IfOk};
+ghost use Rattle.hera_machine.specs.Counted.{AreCountsOver};
+ghost use Rattle.hera_machine.specs.Over.{state_over};
+ghost use Rattle.hera_machine.specs.declared.events.Status.TheVariants.{Working};
+
 use delta_atoms::Value;
 use hera_code::{Bodies, BodyInfo, Code, Instr, Instrs};
+use hera_frames::Counts;
 use hera_host::HostTable;
 use hera_machine::{End, Event, Machine};
 use hera_meaning::{Attr, Const, Kind, Op, RelDecl, RelId, Scalar, Schema, Shape, Sign, Text};
 use hera_prims::{fits_rel, prim_rel};
 use hera_rows::RowSet;
+use rel_format::{PAGE_HEAD, PAGE_ONE};
 use rel_pages::{Base, PageRel, read_half};
 use std::alloc::{AllocError, Global};
 use std::mem::size_of;
@@ -58,6 +65,49 @@ fn code_of(alloc: Global, instrs: Vec<Instr>) -> Result<Code, Fail> {
     Ok(Code { instrs, bodies })
 }
 
+/// The event of a step, or that the machine found no memory for it.
+fn moved(answer: Result<Event, AllocError>) -> Result<Event, Starved>
+    ensures { IfOk result (λ event. answer ≡ Ok event) }
+{
+    match answer {
+        Ok(event) => Ok(event),
+        Err(AllocError) => Err(Starved::Machine),
+    }
+}
+
+/// Executes an instruction, puts what it prints behind the rest, and tells whether the code goes on.
+fn step(
+    rt: &impl Abort,
+    machine: &mut Machine,
+    counts: &mut Counts,
+    base: &Base,
+    hosts: &HostTable,
+    printed: &mut Vec<u8>,
+) -> Result<bool, Starved>
+    requires waits { machine.old.waits ≡ None }
+    requires works { machine.old.status ≡ Working }
+    requires counted { AreCountsOver (state_over base.now.state []) machine.old counts.old }
+    ensures waits { IfOk result (λ on. on ≡ true → machine.new.waits ≡ None) }
+    ensures works { IfOk result (λ on. on ≡ true → machine.new.status ≡ Working) }
+    ensures counted { IfOk result (λ on. on ≡ true → AreCountsOver (state_over base.now.state []) machine.new counts.new) }
+{
+    match moved(machine.advance(base, &[], counts, hosts))? {
+        Event::Quiet => Ok(true),
+        Event::Out(line) => {
+            printed.extend_from_slice(line.bytes())?;
+            Ok(true)
+        }
+        Event::Commit => {
+            assert!(rt; false);
+            Ok(false)
+        }
+        Event::Ended(end) => {
+            assert_eq!(rt; end, End::Done);
+            Ok(false)
+        }
+    }
+}
+
 /// What code prints up to its end, with each instruction executed once.
 fn printed(
     rt: &impl Abort,
@@ -68,14 +118,11 @@ fn printed(
 ) -> Result<Vec<u8>, Starved> {
     let hosts = HostTable::new(alloc);
     let mut machine = Machine::new(alloc, code, relations, 1)?;
+    let mut counts = Counts::new(alloc, relations.len())?;
     let mut printed = Vec::new(alloc);
     'steps: for _ in 0..code.instrs.len() {
-        match machine.advance(base, &[], &hosts) {
-            Err(AllocError) => return Err(Starved::Machine),
-            Ok(Event::Quiet) => {}
-            Ok(Event::Out(line)) => printed.extend_from_slice(line.bytes())?,
-            Ok(Event::Commit) => assert!(rt; false),
-            Ok(Event::Ended(end)) => assert_eq!(rt; end, End::Done),
+        if !step(rt, &mut machine, &mut counts, base, &hosts, &mut printed)? {
+            break 'steps;
         }
     }
     Ok(printed)
@@ -127,9 +174,9 @@ fn an_operand_keeps_the_rows_of_its_moment(rt: HostRuntime) -> Result<(), Fail> 
     Ok(())
 }
 
-/// Puts zeros behind so many bytes of a page, up to its end.
+/// Puts zeros behind so many bytes of a page of format 1, up to its end.
 fn fill_page(bytes: &mut Vec<u8>, used: usize) -> Result<(), AllocError> {
-    for _ in used..8192 {
+    for _ in used..PAGE_ONE {
         bytes.push(0)?;
     }
     Ok(())
@@ -143,7 +190,7 @@ fn put_page(bytes: &mut Vec<u8>, rel: u16, last: &mut u64, count: u16) -> Result
         *last = last.wrapping_add(1);
         bytes.extend_from_slice(&last.to_be_bytes())?;
     }
-    fill_page(bytes, 4 + 8 * usize::from(count))
+    fill_page(bytes, PAGE_HEAD + 8 * usize::from(count))
 }
 
 /// The base with Q(a int), which holds 1, and R(a int), which holds the ints from 1 on: so many full pages

@@ -1,37 +1,61 @@
-use Rattle.std.proofs.Common.{Err, ap, ◌∙◌}
+use Rattle.std.proofs.Common.{◌≡◌, ℕ, List, [], ◌∷◌, Err, ap, ◌∙◌, subst, sym}
+use borrow.Enum.Total.{pick_at}
+use Rattle.hera_meaning.specs.declared.schemas.RelDecl.{RelDecl}
 use Rattle.hera_meaning.specs.Plain.{program_of}
-use Rattle.hera_run.specs.Outcome.{finds_none, finds_damage}
-use Rattle.hera_run.specs.declared.refusal.FolderRefusal.TheVariants.{NoDatabase, Damaged}
-use Rattle.hera_run.proofs.Opening.{run_answers, refusal_answers}
+use Rattle.hera_meaning.specs.Run.{run_of}
+use Rattle.hera_meaning.specs.Trees.{Program_tree}
+use Rattle.hera_host.specs.Tables.{specs_of}
+use Rattle.hera_meaning.specs.contracts.scalars.Text.{the_field}
+use Rattle.hera_rules.specs.Bound.{bound, Differs}
+use Rattle.hera_bind.specs.contracts.binding.BindFault.{as_values}
+use Rattle.hera_bind.specs.declared.binding.BindFault.{BindFault}
+use Rattle.hera_bind.specs.Having.{AllHas}
+use Rattle.rel_pages.specs.Stored.{Stored}
+use Rattle.hera_store.specs.Standing.{database_of}
+use Rattle.hera_outcome.specs.Answers.{number_of}
+use Rattle.hera_outcome.specs.Passages.{passage, start}
+use Rattle.hera_outcome.specs.Told.{IsToldBehind, Answered}
+use Rattle.hera_outcome.specs.declared.answer.Stop.TheVariants.{Refused}
+use Rattle.hera_outcome.specs.declared.refusal.Refusal.TheVariants.{Differing}
+use Rattle.hera_run.specs.Folder.{outcome_from, RunsTo}
+use Rattle.hera_run.specs.Opening.{IsReady, IsUnready}
+use Rattle.hera_run.proofs.Readied.{unready_answered, memory_answered, differs_answered, run_answered}
 use Rattle.hera_run.proofs.folder.run_in_folder.Goals as goal
 
-pub returns-then-is_to_renew-clause-answers : goal.returns-then-is_to_renew-clause-answers
-returns-then-is_to_renew-clause-answers g c =
-    let opening = c.open_store.ensures in
-    run_answers g.W.Outside.told g.W.Outside.disk g.W.Output.emitted g.W.Outside.moment g.W.Outside.left_since c.args.outside.now c.open_store.new.outside c.renew.new.outside
-    (λ told. record { reads = opening.reads told; within = opening.within told; same = opening.emitted; any_moment = opening.any_moment told }) opening.emitted
-    c.args.hosts.now.names c.args.turns (program_of c.args.program) c.renew.result (λ told. (c.in-Ok.ensures.stands told).settled) c.renew.ensures.continues
+pub returns-in-Ok-bind : goal.returns-in-Ok-bind
+returns-in-Ok-bind g c =
+    let p = program_of c.args.program in
+    let store = c.in-Ok.store in
+    let db = database_of store in
+    let own : c.catalogue.result.now ≡ db.catalogue = c.catalogue.ensures.catalogue ∙ ap (λ (b : Stored). b.catalogue) c.base.ensures.base in
+    let same : program_of c.in-Ok-bind.program ≡ bound p db.catalogue = c.in-Ok-bind.ensures.bound ∙ ap (λ (rs : List RelDecl). bound p rs) own in
+    let has = subst (λ (rs : List RelDecl). AllHas rs p.relations) own c.in-Ok-bind.ensures.has in
+    record {
+      answered = run_answered g.W.Output g.W.Outside c.args.hosts.now.names c.args.turns p c.args.outside.now c.open_for.new.outside store (subst (λ (rs : List RelDecl). IsReady rs store (passage g.W.Output g.W.Outside c.args.outside.now c.open_for.new.outside)) c.deref.ensures.value c.in-Ok.ensures.ready) c.run_bound.new.outside c.run_bound.result has c.run_bound.ensures.fault
+          (subst (λ (x : Program_tree). IsToldBehind (outcome_from db store.end (run_of x db.state (specs_of c.args.hosts.now.names) c.args.turns)) (number_of c.run_bound.result) (passage g.W.Output g.W.Outside c.open_for.new.outside c.run_bound.new.outside)) same c.run_bound.ensures.told);
+    }
 
-pub returns-in-Ok-clause-answers : goal.returns-in-Ok-clause-answers
-returns-in-Ok-clause-answers g c =
-    let opening = c.open_store.ensures in
-    run_answers g.W.Outside.told g.W.Outside.disk g.W.Output.emitted g.W.Outside.moment g.W.Outside.left_since c.args.outside.now c.open_store.new.outside c.run_store.new.outside
-    (λ told. record { reads = opening.reads told; within = opening.within told; same = opening.emitted; any_moment = opening.any_moment told }) opening.emitted
-    c.args.hosts.now.names c.args.turns (program_of c.args.program) c.run_store.result (λ told. (c.in-Ok.ensures.stands told).settled) c.run_store.ensures.continues
+pub returns-in-Err-Differs : goal.returns-in-Err-Differs
+returns-in-Err-Differs g c =
+    let p = program_of c.args.program in
+    let store = c.in-Ok.store in
+    let name : List ℕ = c.in-Err-Differs.relation in
+    let v = passage g.W.Output g.W.Outside c.args.outside.now c.open_for.new.outside in
+    let own : c.catalogue.result.now ≡ store.base.catalogue = c.catalogue.ensures.catalogue ∙ ap (λ (b : Stored). b.catalogue) c.base.ensures.base in
+    let ready = subst (λ (rs : List RelDecl). IsReady rs store v) c.deref.ensures.value c.in-Ok.ensures.ready in
+    -- the name that is moved out of the fault
+    let moved : BindFault → List ℕ = λ f. (pick_at ((the_field ∷ []) ∷ [] ∷ []) 0 (as_values f) (name, tt)).0 in
+    let same : moved c.in-Err-Differs.field-0 ≡ name = ap moved c.in-Err-Differs.field-0-is in
+    record {
+      answered = subst (λ (n : List ℕ). Answered (RunsTo c.args.hosts.now.names c.args.turns p (start g.W.Outside c.args.outside.now)) (Err (Refused (Differing n))) v) (sym same)
+          (differs_answered g.W.Output g.W.Outside c.args.hosts.now.names c.args.turns p c.args.outside.now c.open_for.new.outside store ready name
+          (subst (λ (rs : List RelDecl). Differs rs p.relations name) own ((c.bind.ensures.differs name).0 (c.in-Err-Differs.is ∙ ap Err c.in-Err-Differs.field-0-is))));
+    }
 
-pub returns-in-Err-NoDatabase-clause-answers : goal.returns-in-Err-NoDatabase-clause-answers
-returns-in-Err-NoDatabase-clause-answers g c =
-    let opening = c.open_store.ensures in
-    refusal_answers g.W.Outside.told g.W.Outside.disk g.W.Output.emitted g.W.Outside.moment g.W.Outside.left_since c.args.outside.now c.open_store.new.outside c.refuse.new.outside
-    (λ told. record { reads = opening.reads told; within = opening.within told; same = opening.emitted; any_moment = opening.any_moment told }) opening.emitted
-    c.args.hosts.now.names c.args.turns (program_of c.args.program) NoDatabase c.refuse.result (finds_none (λ told. opening.absent told (c.in-Err-NoDatabase.is ∙ ap Err c.in-Err-NoDatabase.field-0-is)))
-    c.refuse.ensures.said c.refuse.ensures.any_moment
+pub returns-in-Ok : goal.returns-in-Ok
+returns-in-Ok g c =
+    record { answered = memory_answered g.W.Output g.W.Outside c.args.hosts.now.names c.args.turns (program_of c.args.program) c.args.outside.now c.open_for.new.outside c.in-Ok.store (subst (λ (rs : List RelDecl). IsReady rs c.in-Ok.store (passage g.W.Output g.W.Outside c.args.outside.now c.open_for.new.outside)) c.deref.ensures.value c.in-Ok.ensures.ready) }
 
-pub returns-in-Err-Damaged-clause-answers : goal.returns-in-Err-Damaged-clause-answers
-returns-in-Err-Damaged-clause-answers g c =
-    let opening = c.open_store.ensures in
-    refusal_answers g.W.Outside.told g.W.Outside.disk g.W.Output.emitted g.W.Outside.moment g.W.Outside.left_since c.args.outside.now c.open_store.new.outside c.refuse-in-Err-Damaged.new.outside
-    (λ told. record { reads = opening.reads told; within = opening.within told; same = opening.emitted; any_moment = opening.any_moment told }) opening.emitted
-    c.args.hosts.now.names c.args.turns (program_of c.args.program) (Damaged c.in-Err-Damaged.file c.in-Err-Damaged.at) c.refuse-in-Err-Damaged.result
-    (finds_damage (λ told. opening.damaged told c.in-Err-Damaged.file c.in-Err-Damaged.at (c.in-Err-Damaged.is ∙ ap Err c.in-Err-Damaged.field-0-is)))
-    c.refuse-in-Err-Damaged.ensures.said c.refuse-in-Err-Damaged.ensures.any_moment
+pub returns : goal.returns
+returns g c =
+    record { answered = unready_answered g.W.Output g.W.Outside c.args.hosts.now.names c.args.turns (program_of c.args.program) c.args.outside.now c.open_for.new.outside c.in-Err.stop (subst (λ (rs : List RelDecl). IsUnready rs c.in-Err.stop (passage g.W.Output g.W.Outside c.args.outside.now c.open_for.new.outside)) c.deref.ensures.value c.in-Err.ensures.unready) }

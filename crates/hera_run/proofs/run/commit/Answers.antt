@@ -6,10 +6,12 @@ use Rattle.hera_meaning.specs.Deltas.{apply_of}
 use Rattle.hera_volume.proofs.Moments.{leaves-weaker, leaves-on}
 use Rattle.hera_store.specs.Databases.{Database}
 use Rattle.hera_store.specs.Standing.{database_of}
-use Rattle.hera_run.specs.Cut.{IsCut}
+use Rattle.hera_outcome.specs.Cut.{IsCut}
 use Rattle.hera_run.proofs.Cuts.{cut-longer, cut-behind}
 use Rattle.hera_run.proofs.Images.{database_more}
 use Rattle.hera_run.proofs.Endings.{none_part}
+use Rattle.hera_outcome.specs.Passages.{passage}
+use Rattle.hera_outcome.proofs.Passing.{memory_faults, faults_by, stop_faults}
 use Rattle.hera_run.proofs.run.commit.Goals as goal
 
 pub returns-in_err-carry_out-clause-part : goal.returns-in_err-carry_out-clause-part
@@ -38,3 +40,15 @@ returns-clause-any_moment g c = λ told.
     cut-behind (stored ∷ []) (out (commit_text c.args.number) ∷ []) db here start (g.W.Output.emitted c.carry_out.new.outside) image ens.whole refl
     (subst (λ (d : Database). IsCut (out (commit_text c.args.number) ∷ []) d (g.W.Output.emitted c.carry_out.new.outside) image) (database_more old mid c.args.delta db c.carry_out.ensures.base ens.commits refl)
     (subst (λ (l : List ℕ). IsCut (out l ∷ []) (database_of mid) (g.W.Output.emitted c.carry_out.new.outside) image) c.in_ok-text.ensures cut)))
+
+pub returns-in_err-text-clause-faults : goal.returns-in_err-text-clause-faults
+returns-in_err-text-clause-faults g c = memory_faults c.from_residual.result (passage g.W.Output g.W.Outside c.args.outside.now c.args.outside.now) c.from_residual.ensures.1 refl refl
+
+pub returns-clause-faults : goal.returns-clause-faults
+returns-clause-faults g c =
+    let first = c.in_ok-carry_out.ensures.faults in
+    faults_by g.W.Output g.W.Outside c.args.outside.now c.carry_out.new.outside first.1 first.0 c.carry_out-2.result c.carry_out-2.new.outside c.carry_out-2.ensures.faults
+
+pub returns-in_err-carry_out-clause-faults : goal.returns-in_err-carry_out-clause-faults
+returns-in_err-carry_out-clause-faults g c =
+    stop_faults c.from_residual-in_err-carry_out.result c.in_err-carry_out.field-0.0 (passage g.W.Output g.W.Outside c.args.outside.now c.carry_out.new.outside) c.from_residual-in_err-carry_out.ensures.1 c.in_err-carry_out.ensures.faults

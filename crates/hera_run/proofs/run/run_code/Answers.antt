@@ -2,24 +2,28 @@ use Rattle.std.proofs.Common.{◌≡◌, ◌<◌, ◌+◌, ◌-◌, ◌++◌, �
 use Rattle.std.proofs.lemmas.Result.{MatchResult-from_err, err_from_is_err_and}
 use Rattle.std.proofs.KnownBytes.{Appends-nil}
 use Rattle.std.specs.Io.KnownBytes.{Appends}
-use Rattle.hera_meaning.specs.Deltas.{Delta, apply_of}
+use Rattle.hera_meaning.specs.Deltas.{Delta, State, apply_of}
 use Rattle.hera_meaning.specs.Worlds.{out}
 use Rattle.hera_meaning.specs.Run.{printed, state_after}
 use Rattle.hera_host.specs.Tables.{specs_of}
 use Rattle.hera_code.specs.Machine.{commits}
 use Rattle.hera_code.specs.Reached.{stores}
 use Rattle.hera_machine.specs.declared.events.Event.TheVariants as events
+use Rattle.when_overlay.specs.Changed.{after_all}
 use Rattle.hera_machine.specs.Over.{state_over}
+use Rattle.hera_machine.proofs.Counted.{counted_same, counted_quiet, counted_out, counted_commit}
 use Rattle.hera_machine.specs.Standing.{Standing, machine_over, commit_over, WaitsBy}
 use Rattle.rel_pages.specs.Stored.{Stored}
 use Rattle.hera_volume.specs.Time.{LeavesOnly}
 use Rattle.hera_volume.proofs.Moments.{leaves-none, leaves-on}
 use Rattle.hera_store.specs.Standing.{database_of}
 use Rattle.hera_run.specs.Fitting.{fits}
-use Rattle.hera_run.specs.declared.fault.RunFault.TheVariants as RunFault
+use Rattle.hera_outcome.specs.declared.answer.Stop.TheVariants as Stop
+use Rattle.hera_outcome.specs.Passages.{passage}
+use Rattle.hera_outcome.proofs.Passing.{memory_faults, faults_by, stop_faults}
 use Rattle.hera_run.specs.Running.{ending_of, IsCodeCut}
 use Rattle.hera_run.proofs.Fittings.{true_or_false}
-use Rattle.hera_run.proofs.Results.{ok_is_no_err, same_error}
+use Rattle.hera_run.proofs.Results.{same_error, spoken_not_full}
 use Rattle.hera_machine.specs.Descends.{left}
 use Rattle.hera_run.proofs.Steps.{comes_nearer, at_start, stepped, at_quiet, at_out, at_commit, committing, carried_out, carried_commit, adds_out, adds_commit, adds_end, cut_next, cut_commit, part_next, part_here, part_out, part_commit, said_out, said_commit, all_done, done_up_to, proper_commit, ending_fits}
 use Rattle.hera_run.proofs.Levelled.{levelled_start, levelled_kept, levelled_more, state_read, levels_read}
@@ -38,6 +42,7 @@ steps-init g c =
       base = refl;
       carried = record { stored = refl; count = omega (arith, long); fit = refl; ends = refl };
       levelled = levelled_start c.in_ok-levels.levels c.commits.result.now init c.commits.ensures.commits c.commits.ensures.proper (c.in_ok-levels.ensures.does init.base.state) (c.in_ok-levels.ensures.known init.base.catalogue);
+      counted = c.in_ok-counts.ensures _;
       said = Appends-nil _;
       stands = c.requires.stands;
       any_moment = λ told. leaves-none _ _ _ _;
@@ -55,6 +60,11 @@ returns-in_err-advance-clause-cut g c =
 
 pub advance-requires-clause-commits : goal.advance-requires-clause-commits
 advance-requires-clause-commits g c = levels_read c.steps.store c.steps.levels c.base.result.now c.deltas.result.now c.steps.invariant.levelled c.base.ensures.base c.deltas.ensures.deltas
+
+pub advance-requires-clause-counted : goal.advance-requires-clause-counted
+advance-requires-clause-counted g c =
+    let old = c.steps.store in
+    counted_same _ _ c.steps.machine _ (sym (ap (λ (b : Stored). state_over b.state c.deltas.result.now) c.base.ensures.base ∙ ap (state_over old.base.state) c.deltas.ensures.deltas)) c.steps.invariant.counted
 
 pub steps-preserved-in-Quiet : goal.steps-preserved-in-Quiet
 steps-preserved-in-Quiet g c =
@@ -78,6 +88,7 @@ steps-preserved-in-Quiet g c =
       base = i.base;
       carried = i.carried;
       levelled = i.levelled;
+      counted = counted_same _ _ n _ (ap (λ (b : Stored). state_over b.state c.deltas.result.now) c.base.ensures.base ∙ ap (state_over old.base.state) c.deltas.ensures.deltas) (counted_quiet _ _ n c.in_ok-advance.field-0 (ens.counted i.at.works) c.in-Quiet.is);
       said = i.said;
       stands = i.stands;
       any_moment = i.any_moment;
@@ -85,8 +96,8 @@ steps-preserved-in-Quiet g c =
       output = i.output;
     }
 
-pub steps-preserved-in-Continue-branch-5 : goal.steps-preserved-in-Continue-branch-5
-steps-preserved-in-Continue-branch-5 g c =
+pub steps-preserved-in-Continue-branch-6 : goal.steps-preserved-in-Continue-branch-6
+steps-preserved-in-Continue-branch-6 g c =
     let i = c.steps.invariant in
     let m = c.steps.machine in
     let n = c.advance.new.self in
@@ -108,11 +119,12 @@ steps-preserved-in-Continue-branch-5 g c =
       base = c.carry_out.ensures.base ∙ i.base;
       carried = carried_out db gate (length c.commits-opened.result.now) i.events old c.carry_out.new.store c.in-Out.line i.carried c.carry_out.ensures.base done.commits done.gate;
       levelled = levelled_kept c.steps.levels old c.carry_out.new.store c.carry_out.ensures.base done.commits i.levelled;
+      counted = counted_same _ _ n _ (ap (λ (b : Stored). state_over b.state c.deltas.result.now) c.base.ensures.base ∙ ap (state_over old.base.state) c.deltas.ensures.deltas ∙ sym (ap (λ (b : Stored). after_all b.state c.steps.levels) c.carry_out.ensures.base)) (counted_out _ _ n c.in_ok-advance.field-0 (ens.counted i.at.works) c.in-Out.line c.in-Out.is);
       said = said_out c.args.code.now c.args.relations.now (specs_of c.args.hosts.now.names) db c.args.turns gate i.events c.in-Out.line start mid _ i.said done.whole;
       stands = λ told. done.stands told;
       any_moment = λ told. leaves-on _ _ (i.any_moment told) (c.carry_out.ensures.any_moment told) (λ image cut. cut_next c.args.code.now c.args.relations.now (specs_of c.args.hosts.now.names) db c.args.turns gate i.events (out c.in-Out.line ∷ []) m (database_of old) start mid image (adds_out c.args.code.now c.args.relations.now (specs_of c.args.hosts.now.names) db c.args.turns i.events m n c.in-Out.line to) i.carried.fit refl i.carried.stored i.said cut);
-      device = done.device_still (λ h. ok_is_no_err _ _ h) ∙ i.device;
-      output = done.output_still (λ h. ok_is_no_err _ _ h) ∙ i.output;
+      device = done.faults.1 ∙ i.device;
+      output = done.faults.0 ∙ i.output;
     }
 
 pub returns-in_err-carry_out-in-Out-clause-cut : goal.returns-in_err-carry_out-in-Out-clause-cut
@@ -206,11 +218,13 @@ steps-preserved g c =
       base = c.commit.ensures.base ∙ i.base;
       carried = carried_commit db gate (length c.commits-opened.result.now) i.events old c.commit.new.store d _ i.carried c.commit.ensures.base done.commits done.gate yes;
       levelled = levelled_more c.steps.levels c.push.new.self old c.commit.new.store d c.commit.ensures.base done.commits i.levelled (c.in_ok-push-in-Commit.ensures.does old.base.state) proper.1 (c.in_ok-push-in-Commit.ensures.known old.base.catalogue);
+      counted = counted_same _ _ c.take_pending-delta.new.self _ (ap (λ (x : State). apply_of x d) (ap (λ (b : Stored). state_over b.state c.deltas.result.now) c.base.ensures.base ∙ ap (state_over old.base.state) c.deltas.ensures.deltas) ∙ sym (c.in_ok-push-in-Commit.ensures.does old.base.state) ∙ sym (ap (λ (b : Stored). after_all b.state c.push.new.self) c.commit.ensures.base))
+          (counted_commit _ _ n c.in_ok-advance.field-0 (ens.counted i.at.works) d c.take_pending-delta.new.self c.in-Commit.is c.take_pending-delta.ensures.delta c.take_pending-delta.ensures.taken);
       said = said_commit c.args.code.now c.args.relations.now (specs_of c.args.hosts.now.names) db c.args.turns gate i.events d number start mid _ count i.said done.whole;
       stands = λ told. done.stands told;
       any_moment = λ told. leaves-on _ _ (i.any_moment told) (c.commit.ensures.any_moment told) (λ image cut. cut_commit c.args.code.now c.args.relations.now (specs_of c.args.hosts.now.names) db c.args.turns gate i.events m d number (database_of old) start mid image adds i.carried.fit (ap (λ (k : _). fits k d) (sym i.carried.ends) ∙ yes) i.carried.stored count i.said cut);
-      device = done.device_still (λ h. ok_is_no_err _ _ h) ∙ i.device;
-      output = done.output_still (λ h. ok_is_no_err _ _ h) ∙ i.output;
+      device = done.faults.1 ∙ i.device;
+      output = done.faults.0 ∙ i.output;
     }
 
 pub returns-in_err-commit-in-Commit-clause-cut : goal.returns-in_err-commit-in-Commit-clause-cut
@@ -284,10 +298,10 @@ returns-in_err-commit-in-Commit-clause-full g c =
     let q = err_from_is_err_and c.from_residual-in_err-commit-in-Commit.result c.from_residual-in_err-commit-in-Commit.ensures.1 in
     rw (q.1, q.2)
     (λ h.
-    let no : fits old.end d ≡ false = c.commit.ensures.full (c.in_err-commit-in-Commit.was ∙ ap Err (same_error c.in_err-commit-in-Commit.field-0.0 RunFault.Full h)) in
+    let no : fits old.end d ≡ false = c.commit.ensures.full (c.in_err-commit-in-Commit.was ∙ ap Err (same_error c.in_err-commit-in-Commit.field-0.0 Stop.Full h)) in
     done_up_to c.args.code.now c.args.relations.now (specs_of c.args.hosts.now.names) db c.args.turns gate i.events (committing c.args.code.now c.args.relations.now (specs_of c.args.hosts.now.names) db c.args.turns i.events d) m (database_of c.commit.new.store) start (g.W.Output.emitted c.commit.new.outside) adds i.carried.fit
     (ap not (ap (λ (k : _). fits k d) (sym i.carried.ends) ∙ no))
-    (ap database_of (c.commit.ensures.nothing_full (c.in_err-commit-in-Commit.was ∙ ap Err (same_error c.in_err-commit-in-Commit.field-0.0 RunFault.Full h))) ∙ i.carried.stored)
+    (ap database_of (c.commit.ensures.nothing_full (c.in_err-commit-in-Commit.was ∙ ap Err (same_error c.in_err-commit-in-Commit.field-0.0 Stop.Full h))) ∙ i.carried.stored)
     (subst (λ x. Appends start (g.W.Output.emitted x) (printed i.events)) (sym (c.commit.ensures.nothing_done no)) i.said))
 
 pub returns-in_err-say_end-in-Ended-clause-cut : goal.returns-in_err-say_end-in-Ended-clause-cut
@@ -306,6 +320,10 @@ returns-in_err-say_end-in-Ended-clause-cut g c =
     let to = stepped c.args.code.now c.args.relations.now (specs_of c.args.hosts.now.names) db c.args.turns i.events m n (state_over c.base.result.now.state c.deltas.result.now) c.in_ok-advance.field-0 (events.Ended c.in-Ended.end) i.at same c.in-Ended.is (ens.tells i.at.works) ens.status ens.code ens.relations in
     MatchResult-from_err c.from_residual-in_err-say_end-in-Ended.result _ _ c.from_residual-in_err-say_end-in-Ended.ensures.0
     (λ _. part_next c.args.code.now c.args.relations.now (specs_of c.args.hosts.now.names) db c.args.turns gate i.events (ending_of c.in-Ended.end) m start mid _ (adds_end c.args.code.now c.args.relations.now (specs_of c.args.hosts.now.names) db c.args.turns i.events m n c.in-Ended.end to) i.carried.fit (ending_fits _ c.in-Ended.end) i.said c.in_err-say_end-in-Ended.ensures.part)
+
+pub returns-in_err-say_end-in-Ended-clause-full : goal.returns-in_err-say_end-in-Ended-clause-full
+returns-in_err-say_end-in-Ended-clause-full g c = λ full.
+    absurd (spoken_not_full c.from_residual-in_err-say_end-in-Ended.result c.in_err-say_end-in-Ended.field-0.0 c.from_residual-in_err-say_end-in-Ended.ensures.1 c.in_err-say_end-in-Ended.ensures.spoken full)
 
 pub returns-in_err-say_end-in-Ended-clause-any_moment : goal.returns-in_err-say_end-in-Ended-clause-any_moment
 returns-in_err-say_end-in-Ended-clause-any_moment g c =
@@ -355,8 +373,8 @@ returns-in-Ended-clause-whole g c =
     let to = stepped c.args.code.now c.args.relations.now (specs_of c.args.hosts.now.names) db c.args.turns i.events m n (state_over c.base.result.now.state c.deltas.result.now) c.in_ok-advance.field-0 (events.Ended c.in-Ended.end) i.at same c.in-Ended.is (ens.tells i.at.works) ens.status ens.code ens.relations in
     all_done c.args.code.now c.args.relations.now (specs_of c.args.hosts.now.names) db c.args.turns gate i.events m n c.in-Ended.end (database_of old) start mid _ to i.carried.fit i.carried.stored i.said c.in_ok-say_end-in-Ended.ensures.whole
 
-pub steps-smaller-in-Continue-branch-5 : goal.steps-smaller-in-Continue-branch-5
-steps-smaller-in-Continue-branch-5 g c =
+pub steps-smaller-in-Continue-branch-6 : goal.steps-smaller-in-Continue-branch-6
+steps-smaller-in-Continue-branch-6 g c =
     comes_nearer c.args.code.now c.steps.machine c.advance.new.self c.in_ok-advance.field-0 (events.Out c.in-Out.line) c.steps.invariant.at.code_is c.requires.forward c.in_ok-advance.ensures.less c.in-Out.is
 
 pub steps-smaller : goal.steps-smaller
@@ -366,3 +384,47 @@ steps-smaller g c =
     let lower : left (length c.args.code.now.instrs) n.state < left (length c.args.code.now.instrs) m.state =
     comes_nearer c.args.code.now m n c.in_ok-advance.field-0 (events.Commit) c.steps.invariant.at.code_is c.requires.forward c.in_ok-advance.ensures.less c.in-Commit.is in
     subst (λ (x : Standing). left (length c.args.code.now.instrs) x.state < left (length c.args.code.now.instrs) m.state) (sym c.take_pending-delta.ensures.taken) lower
+
+pub returns-in_err-counts-clause-faults : goal.returns-in_err-counts-clause-faults
+returns-in_err-counts-clause-faults g c =
+    memory_faults c.from_residual.result (passage g.W.Output g.W.Outside c.args.outside.now c.args.outside.now) c.from_residual.ensures.1 refl refl
+
+pub returns-in_err-machine-clause-faults : goal.returns-in_err-machine-clause-faults
+returns-in_err-machine-clause-faults g c =
+    memory_faults c.from_residual-in_err-machine.result (passage g.W.Output g.W.Outside c.args.outside.now c.args.outside.now) c.from_residual-in_err-machine.ensures.1 refl refl
+
+pub returns-in_err-levels-clause-faults : goal.returns-in_err-levels-clause-faults
+returns-in_err-levels-clause-faults g c =
+    memory_faults c.from_residual-in_err-levels.result (passage g.W.Output g.W.Outside c.args.outside.now c.args.outside.now) c.from_residual-in_err-levels.ensures.1 refl refl
+
+pub returns-in_err-advance-clause-faults : goal.returns-in_err-advance-clause-faults
+returns-in_err-advance-clause-faults g c =
+    memory_faults c.from_residual-in_err-advance.result (passage g.W.Output g.W.Outside c.args.outside.now c.steps.outside) c.from_residual-in_err-advance.ensures.1 c.steps.invariant.output c.steps.invariant.device
+
+pub returns-in_err-push-in-Commit-clause-faults : goal.returns-in_err-push-in-Commit-clause-faults
+returns-in_err-push-in-Commit-clause-faults g c =
+    memory_faults c.from_residual-in_err-push-in-Commit.result (passage g.W.Output g.W.Outside c.args.outside.now c.steps.outside) c.from_residual-in_err-push-in-Commit.ensures.1 c.steps.invariant.output c.steps.invariant.device
+
+pub returns-in_err-carry_out-in-Out-clause-faults : goal.returns-in_err-carry_out-in-Out-clause-faults
+returns-in_err-carry_out-in-Out-clause-faults g c =
+    let i = c.steps.invariant in
+    faults_by g.W.Output g.W.Outside c.args.outside.now c.steps.outside i.device i.output c.from_residual-in_err-carry_out-in-Out.result c.carry_out.new.outside
+    (stop_faults c.from_residual-in_err-carry_out-in-Out.result c.in_err-carry_out-in-Out.field-0.0 (passage g.W.Output g.W.Outside c.steps.outside c.carry_out.new.outside) c.from_residual-in_err-carry_out-in-Out.ensures.1 c.in_err-carry_out-in-Out.ensures.faults)
+
+pub returns-in_err-commit-in-Commit-clause-faults : goal.returns-in_err-commit-in-Commit-clause-faults
+returns-in_err-commit-in-Commit-clause-faults g c =
+    let i = c.steps.invariant in
+    faults_by g.W.Output g.W.Outside c.args.outside.now c.steps.outside i.device i.output c.from_residual-in_err-commit-in-Commit.result c.commit.new.outside
+    (stop_faults c.from_residual-in_err-commit-in-Commit.result c.in_err-commit-in-Commit.field-0.0 (passage g.W.Output g.W.Outside c.steps.outside c.commit.new.outside) c.from_residual-in_err-commit-in-Commit.ensures.1 c.in_err-commit-in-Commit.ensures.faults)
+
+pub returns-in_err-say_end-in-Ended-clause-faults : goal.returns-in_err-say_end-in-Ended-clause-faults
+returns-in_err-say_end-in-Ended-clause-faults g c =
+    let i = c.steps.invariant in
+    faults_by g.W.Output g.W.Outside c.args.outside.now c.steps.outside i.device i.output c.from_residual-in_err-say_end-in-Ended.result c.say_end.new.outside
+    (stop_faults c.from_residual-in_err-say_end-in-Ended.result c.in_err-say_end-in-Ended.field-0.0 (passage g.W.Output g.W.Outside c.steps.outside c.say_end.new.outside) c.from_residual-in_err-say_end-in-Ended.ensures.1 c.in_err-say_end-in-Ended.ensures.faults)
+
+pub returns-in-Ended-clause-faults : goal.returns-in-Ended-clause-faults
+returns-in-Ended-clause-faults g c =
+    let i = c.steps.invariant in
+    let told = c.in_ok-say_end-in-Ended.ensures.faults in
+    (told.0 ∙ i.output, told.1 ∙ i.device)

@@ -3,7 +3,9 @@ use Rattle.std.specs.Io.KnownBytes.{Appends}
 use Rattle.hera_meaning.specs.Worlds.{Event}
 use Rattle.hera_meaning.specs.Run.{printed}
 use Rattle.hera_host.specs.Tables.{specs_of}
+use Rattle.when_overlay.specs.Changed.{after_all}
 use Rattle.hera_machine.specs.Descends.{left}
+use Rattle.hera_machine.specs.Counted.{AreCountsOver}
 use Rattle.hera_volume.specs.Time.{LeavesOnly}
 use Rattle.hera_store.specs.Standing.{StandsFor, database_of}
 use Rattle.hera_run.specs.Running.{IsCodeCut}
@@ -20,6 +22,7 @@ invariant-steps g l = record {
   base : l.store.base ≡ l.initial.store.base;
   carried : IsCarried (database_of l.initial.store) l.initial.store.end l.opened events l.store;
   levelled : IsLevelled l.levels l.store;
+  counted : AreCountsOver (after_all l.store.base.state l.levels) l.machine l.counts;
   said : Appends (g.W.Output.emitted l.initial.outside) (g.W.Output.emitted l.outside) (printed events);
   stands : g.W.Outside.told → StandsFor (g.W.Outside.disk l.outside) l.store;
   any_moment : g.W.Outside.told → LeavesOnly g.W.Outside.moment g.W.Outside.left_since l.initial.outside l.outside

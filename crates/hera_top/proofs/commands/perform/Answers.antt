@@ -1,11 +1,11 @@
-use Rattle.std.proofs.Common.{ap}
 use Rattle.hera_meaning.specs.Plain.{program_of}
-use Rattle.hera_top.specs.declared.words.ScriptCommand.{ScriptCommand}
-use Rattle.hera_top.specs.Outcome.{outcome_of, text_of_outcome, status_of_outcome}
+use Rattle.hera_outcome.specs.Passages.{passage}
+use Rattle.hera_top.proofs.Answering.{ran_answered, run_has_folder}
 use Rattle.hera_top.proofs.commands.perform.Goals as goal
 
-pub returns-in-Check-clause-said : goal.returns-in-Check-clause-said
-returns-in-Check-clause-said g c =
-    let p = program_of c.args.program.now in
-    c.say_all.ensures.said (outcome_of c.args.hosts.now.names c.args.command p)
-    (ap (λ (k : ScriptCommand). text_of_outcome (outcome_of c.args.hosts.now.names k p)) c.in-Check.is) (ap (λ (k : ScriptCommand). status_of_outcome (outcome_of c.args.hosts.now.names k p)) c.in-Check.is)
+pub returns-in-Run-clause-answered : goal.returns-in-Run-clause-answered
+returns-in-Run-clause-answered g c =
+    ran_answered c.args.hosts.now.names (program_of c.args.program) c.args.command c.in-Run.turns (passage g.W.Output g.W.Outside c.args.outside.now c.run_in_folder.new.outside) c.run_in_folder.result c.in-Run.is c.run_in_folder.ensures.answered
+
+pub returns-in-Run-clause-apart : goal.returns-in-Run-clause-apart
+returns-in-Run-clause-apart g c = λ none. absurd (run_has_folder c.args.command c.in-Run.turns c.in-Run.is none)

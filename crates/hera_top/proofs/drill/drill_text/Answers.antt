@@ -1,4 +1,4 @@
-use Rattle.std.proofs.Common.{◌≡◌, ◌≤◌, ◌∙◌, sym, ap, subst, List, ℕ, length, arith}
+use Rattle.std.proofs.Common.{◌≤◌, ◌∙◌, sym, ap, subst, List, ℕ, length, arith}
 use Rattle.hera_meaning.specs.Printed.{number_text}
 use Rattle.hera_syntax.specs.Tokens.{script_limit}
 use Rattle.hera_top.specs.Drill.{drill_start, drill_changes, drill_prints, drill_end, drill_text}

@@ -1,6 +1,6 @@
 use Rattle.std.proofs.Common.{◌≡◌, ◌++◌, drop}
 use Rattle.hera_store.specs.Standing.{database_of}
-use Rattle.hera_top.specs.Folder.{tables_text}
+use Rattle.hera_top.specs.Commands.{tables_text}
 use Rattle.hera_top.proofs.dumping.text_of_store.Given as goal
 
 -- with the relations to come, the text is whole

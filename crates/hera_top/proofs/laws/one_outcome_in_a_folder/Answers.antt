@@ -1,8 +1,9 @@
-use Rattle.hera_top.proofs.OneFolder.{one_outcome_in_a_folder}
+use Rattle.hera_outcome.specs.Passages.{start}
+use Rattle.hera_top.proofs.OneOutcome.{one_comes}
 use Rattle.hera_top.proofs.laws.one_outcome_in_a_folder.Goals as goal
 
 pub returns : goal.returns
-returns g c = λ hosts command script files before now later after first first_end second second_end a b.
-    one_outcome_in_a_folder c.a_script_has_one_answer.ensures.refusal c.a_script_has_one_answer.ensures.never_both c.a_script_has_one_answer.ensures.program c.one_thing_is_found.ensures
+returns g c = λ hosts command script files before now later after first second a b.
+    one_comes c.a_script_has_one_answer.ensures.refusal c.a_script_has_one_answer.ensures.never_both c.a_script_has_one_answer.ensures.program c.one_thing_is_found.ensures
     (λ v w bytes rels rels2 state state2 end end2 one two. c.a_half_has_one_catalogue_and_state.ensures.end v w bytes rels rels2 state state2 end end2 one two) (λ v bytes rels state half. c.a_half_has_one_version.ensures v bytes rels state half)
-    hosts command script files before now later after _ _ a b
+    hosts command script files before now later after (start g.W.Outside first) (start g.W.Outside second) a b

@@ -1,5 +1,6 @@
-use Rattle.hera_top.proofs.Outcomes.{told_outcome}
+use Rattle.hera_outcome.specs.Passages.{start}
+use Rattle.hera_top.proofs.Wholes.{told_outcome}
 use Rattle.hera_top.proofs.laws.told_outcome.Goals as goal
 
 pub returns : goal.returns
-returns c = told_outcome
+returns g c = λ hosts command script bytes left first outcome. told_outcome hosts command script bytes left (start g.W.Outside first) outcome

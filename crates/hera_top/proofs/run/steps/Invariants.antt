@@ -7,6 +7,7 @@ use Rattle.hera_machine.specs.Over.{state_over}
 use Rattle.std.specs.Io.KnownBytes.{Appends}
 use Rattle.hera_host.specs.Tables.{specs_of}
 use Rattle.hera_machine.specs.Descends.{left}
+use Rattle.hera_machine.specs.Counted.{AreCountsOver}
 use Rattle.hera_machine.proofs.Along.{IsAlong}
 use Rattle.hera_volume.specs.Time.{LeavesOnly}
 use Rattle.hera_volume.specs.declared.file_id.FileId.{FileId}
@@ -25,6 +26,7 @@ invariant-steps g l = record {
   count : l.number ≡ length done;
   does : (s : State) → after_all s l.levels ≡ state_over s done;
   of : list_all (is_delta_of l.base.catalogue) l.levels ≡ true;
+  counted : AreCountsOver (after_all l.base.state l.levels) l.machine l.counts;
   taken : l.machine.waits ≡ None;
   any_moment : g.W.Outside.told → LeavesOnly g.W.Outside.moment g.W.Outside.left_since l.initial.outside l.outside
       (IsRunImage l.code l.relations (specs_of l.hosts.names) l.base.state l.turns (g.W.Outside.disk l.initial.outside) (g.W.Output.emitted l.initial.outside));

@@ -1,41 +1,163 @@
-use Rattle.std.proofs.Common.{◌≡◌, ◌<◌, arith, length, ◌∙◌, ap, sym, subst, refl, Some, ℕ}
-use Rattle.hera_top.specs.declared.words.Command.TheVariants.{Script, Folder, Drill}
-use Rattle.hera_top.proofs.Answering.{same_folder_answers, one_folder}
-use Rattle.hera_top.specs.declared.words.Command.{Command}
-use Rattle.hera_top.specs.declared.words.ScriptCommand.TheVariants.{Eval}
-use Rattle.hera_top.specs.Drill.{drill_text, drill_turns}
-use Rattle.hera_top.specs.Passages.{passage}
-use Rattle.hera_top.specs.Said.{SaysOutcome}
-use Rattle.hera_top.proofs.Saying.{seen_first, seen_set, one_source, same_answers, numbered, keeps_device, says_device}
+use Rattle.std.proofs.Common.{◌≡◌, ◌+◌, ◌∙◌, length, ap, sym, subst, refl, Some, None, Option}
+use Rattle.hera_outcome.specs.Outcomes.{refused}
+use Rattle.hera_outcome.specs.Passages.{passage}
+use Rattle.hera_outcome.specs.declared.refusal.Refusal.TheVariants.{Usage}
+use Rattle.hera_words.specs.declared.command.Command.{Command}
+use Rattle.hera_words.specs.Words.{words_of, command_of, files_in, folder_in}
+use Rattle.hera_top.specs.Sources.{first_seen}
+use Rattle.hera_top.proofs.Answering.{concluded, keeps_both, same_command, no_folder_word, no_file_word}
+use Rattle.hera_top.proofs.Statuses.{no_usage, device_rose, output_rose, source_rose, device_later, output_later, usage_output_rose, usage_not_seven, told_output_later, usage_device_later}
 use Rattle.hera_top.proofs.top.hera.Goals as goal
 
--- The command of the clause is the one that was read; the rest is as the first source is.
-pub returns-in-Some-Script-clause-command : goal.returns-in-Some-Script-clause-command
-returns-in-Some-Script-clause-command g c = λ command is.
-    let some : 0 < length c.args.sources.now.items = one_source command _ _ is c.requires.sources in
-    numbered c.args.hosts.now.names command _ _ _ _ _ c.number.ensures
-    (same_answers c.args.hosts.now.names _ command _ _ _ _ _ _ (sym (c.in-Some-Script.is ∙ ap Some c.in-Some-Script.field-0-is) ∙ c.read_words.ensures ∙ is)
-    (seen_first g.S.Source.left g.S.Source.faults c.args.sources.now.items c.index_mut.result.now some c.index_mut.ensures.value)
-    (seen_set g.S.Source.left g.S.Source.faults c.args.sources.now.items c.answer.new.source some)
-    c.answer.ensures.answers)
+none_is_not_some : (command : Command) → None ≡ Some command → ⊥
+none_is_not_some command is = cc (is)
 
-pub returns-in-Some-Folder-clause-folder : goal.returns-in-Some-Folder-clause-folder
-returns-in-Some-Folder-clause-folder g c = λ command is.
-    same_folder_answers c.args.hosts.now.names _ command _ _ _ _ _ _ _ (one_folder _ command (sym (c.in-Some-Folder.is ∙ ap Some c.in-Some-Folder.field-0-is) ∙ c.read_words.ensures ∙ is)) refl refl c.number-in-Some-Folder.ensures
-    c.answer_in_folder.ensures.answers
+pub answer-ended-requires : goal.answer-ended-requires
+answer-ended-requires g c =
+    let read : command_of (words_of c.args.words.now.items) ≡ Some c.in-Some.command = ap (λ l. command_of (words_of l)) (sym c.as_slice.ensures.value) ∙ sym c.read_words.ensures.command ∙ c.in-Some.is in
+    record { sources = subst (λ (o : Option Command). length c.args.sources.now.items + (files_in o).0 ≡ (files_in o).1) read c.requires.sources }
 
-pub returns-in-Some-Script-clause-device_later : goal.returns-in-Some-Script-clause-device_later
-returns-in-Some-Script-clause-device_later g c = omega (arith, keeps_device _ _ _ _ _ _ c.answer.ensures.answers)
+pub returns-in-Some-clause-usage : goal.returns-in-Some-clause-usage
+returns-in-Some-clause-usage g c =
+    let read : command_of (words_of c.args.words.now.items) ≡ Some c.in-Some.command = ap (λ l. command_of (words_of l)) (sym c.as_slice.ensures.value) ∙ sym c.read_words.ensures.command ∙ c.in-Some.is in
+    let before = first_seen g.S.Source.left g.S.Source.faults c.args.sources.now.items in
+    let now = first_seen g.S.Source.left g.S.Source.faults c.answer-ended.new.sources.items in
+    let whole = concluded g.W.Output g.W.Outside c.args.outside.now c.answer-ended.new.outside c.conclude.new.outside c.args.hosts.now.names c.in-Some.command before now c.answer-ended.result c.conclude.result c.answer-ended.ensures.answered
+    c.conclude.ensures.refused c.conclude.ensures.number c.conclude.ensures.still in
+    let v = passage g.W.Output g.W.Outside c.args.outside.now c.conclude.new.outside in
+    λ is. absurd (none_is_not_some c.in-Some.command (sym is ∙ read))
 
-same_drill : (read count : ℕ) → Some (Drill read) ≡ Some (Drill count) → read ≡ count
-same_drill read count is = cc (is)
+pub returns-in-Some-clause-usage_only : goal.returns-in-Some-clause-usage_only
+returns-in-Some-clause-usage_only g c =
+    let read : command_of (words_of c.args.words.now.items) ≡ Some c.in-Some.command = ap (λ l. command_of (words_of l)) (sym c.as_slice.ensures.value) ∙ sym c.read_words.ensures.command ∙ c.in-Some.is in
+    let before = first_seen g.S.Source.left g.S.Source.faults c.args.sources.now.items in
+    let now = first_seen g.S.Source.left g.S.Source.faults c.answer-ended.new.sources.items in
+    let whole = concluded g.W.Output g.W.Outside c.args.outside.now c.answer-ended.new.outside c.conclude.new.outside c.args.hosts.now.names c.in-Some.command before now c.answer-ended.result c.conclude.result c.answer-ended.ensures.answered
+    c.conclude.ensures.refused c.conclude.ensures.number c.conclude.ensures.still in
+    let v = passage g.W.Output g.W.Outside c.args.outside.now c.conclude.new.outside in
+    λ is. absurd (no_usage c.args.hosts.now.names before now c.in-Some.command c.conclude.result v whole is)
 
-pub returns-in-Some-Drill-clause-drill : goal.returns-in-Some-Drill-clause-drill
-returns-in-Some-Drill-clause-drill g c = λ count is.
-    let same : c.in-Some-Drill.count ≡ count = same_drill _ count (sym (c.in-Some-Drill.is ∙ ap Some c.in-Some-Drill.field-0-is) ∙ c.read_words.ensures ∙ is) in
-    let seen = passage g.W.Outside.told g.W.Outside.disk g.W.Output.emitted g.W.Output.output_faults g.W.Outside.device_faults g.W.Outside.moment g.W.Outside.left_since c.args.outside.now c.drill.new.outside in
-    subst (λ (n : ℕ). SaysOutcome c.args.hosts.now.names (Eval drill_turns) (drill_text n) c.number-in-Some-Drill.result seen) same
-    (subst (λ (n : ℕ). SaysOutcome c.args.hosts.now.names (Eval drill_turns) (drill_text c.in-Some-Drill.count) n seen) (sym c.number-in-Some-Drill.ensures) c.drill.ensures.said)
+pub returns-in-Some-clause-answers : goal.returns-in-Some-clause-answers
+returns-in-Some-clause-answers g c =
+    let read : command_of (words_of c.args.words.now.items) ≡ Some c.in-Some.command = ap (λ l. command_of (words_of l)) (sym c.as_slice.ensures.value) ∙ sym c.read_words.ensures.command ∙ c.in-Some.is in
+    let before = first_seen g.S.Source.left g.S.Source.faults c.args.sources.now.items in
+    let now = first_seen g.S.Source.left g.S.Source.faults c.answer-ended.new.sources.items in
+    let whole = concluded g.W.Output g.W.Outside c.args.outside.now c.answer-ended.new.outside c.conclude.new.outside c.args.hosts.now.names c.in-Some.command before now c.answer-ended.result c.conclude.result c.answer-ended.ensures.answered
+    c.conclude.ensures.refused c.conclude.ensures.number c.conclude.ensures.still in
+    let v = passage g.W.Output g.W.Outside c.args.outside.now c.conclude.new.outside in
+    λ command is. same_command c.args.hosts.now.names c.in-Some.command command before now c.conclude.result v (sym read ∙ is) whole
 
-pub returns-in-Some-Drill-clause-device_later : goal.returns-in-Some-Drill-clause-device_later
-returns-in-Some-Drill-clause-device_later g c = omega (arith, says_device _ _ _ _ _ c.drill.ensures.said)
+pub returns-in-Some-clause-keeps : goal.returns-in-Some-clause-keeps
+returns-in-Some-clause-keeps g c =
+    let read : command_of (words_of c.args.words.now.items) ≡ Some c.in-Some.command = ap (λ l. command_of (words_of l)) (sym c.as_slice.ensures.value) ∙ sym c.read_words.ensures.command ∙ c.in-Some.is in
+    let before = first_seen g.S.Source.left g.S.Source.faults c.args.sources.now.items in
+    let now = first_seen g.S.Source.left g.S.Source.faults c.answer-ended.new.sources.items in
+    let whole = concluded g.W.Output g.W.Outside c.args.outside.now c.answer-ended.new.outside c.conclude.new.outside c.args.hosts.now.names c.in-Some.command before now c.answer-ended.result c.conclude.result c.answer-ended.ensures.answered
+    c.conclude.ensures.refused c.conclude.ensures.number c.conclude.ensures.still in
+    let v = passage g.W.Output g.W.Outside c.args.outside.now c.conclude.new.outside in
+    λ none. keeps_both g.W.Output g.W.Outside c.args.outside.now c.answer-ended.new.outside c.conclude.new.outside c.args.hosts.now.names c.in-Some.command before now c.answer-ended.result c.conclude.result c.answer-ended.ensures.answered
+    (c.answer-ended.ensures.apart (no_folder_word c.in-Some.command (ap folder_in (sym read) ∙ none))).keeps c.conclude.ensures.keeps
+
+pub returns-in-Some-clause-unread_sources : goal.returns-in-Some-clause-unread_sources
+returns-in-Some-clause-unread_sources g c =
+    let read : command_of (words_of c.args.words.now.items) ≡ Some c.in-Some.command = ap (λ l. command_of (words_of l)) (sym c.as_slice.ensures.value) ∙ sym c.read_words.ensures.command ∙ c.in-Some.is in
+    let before = first_seen g.S.Source.left g.S.Source.faults c.args.sources.now.items in
+    let now = first_seen g.S.Source.left g.S.Source.faults c.answer-ended.new.sources.items in
+    let whole = concluded g.W.Output g.W.Outside c.args.outside.now c.answer-ended.new.outside c.conclude.new.outside c.args.hosts.now.names c.in-Some.command before now c.answer-ended.result c.conclude.result c.answer-ended.ensures.answered
+    c.conclude.ensures.refused c.conclude.ensures.number c.conclude.ensures.still in
+    let v = passage g.W.Output g.W.Outside c.args.outside.now c.conclude.new.outside in
+    λ none. c.answer-ended.ensures.unread (no_file_word c.in-Some.command (ap files_in (sym read) ∙ none))
+
+pub returns-in-Some-clause-device : goal.returns-in-Some-clause-device
+returns-in-Some-clause-device g c =
+    let read : command_of (words_of c.args.words.now.items) ≡ Some c.in-Some.command = ap (λ l. command_of (words_of l)) (sym c.as_slice.ensures.value) ∙ sym c.read_words.ensures.command ∙ c.in-Some.is in
+    let before = first_seen g.S.Source.left g.S.Source.faults c.args.sources.now.items in
+    let now = first_seen g.S.Source.left g.S.Source.faults c.answer-ended.new.sources.items in
+    let whole = concluded g.W.Output g.W.Outside c.args.outside.now c.answer-ended.new.outside c.conclude.new.outside c.args.hosts.now.names c.in-Some.command before now c.answer-ended.result c.conclude.result c.answer-ended.ensures.answered
+    c.conclude.ensures.refused c.conclude.ensures.number c.conclude.ensures.still in
+    let v = passage g.W.Output g.W.Outside c.args.outside.now c.conclude.new.outside in
+    λ is. device_rose c.args.hosts.now.names before now c.in-Some.command c.conclude.result v whole is
+
+pub returns-in-Some-clause-device_only : goal.returns-in-Some-clause-device_only
+returns-in-Some-clause-device_only g c =
+    let read : command_of (words_of c.args.words.now.items) ≡ Some c.in-Some.command = ap (λ l. command_of (words_of l)) (sym c.as_slice.ensures.value) ∙ sym c.read_words.ensures.command ∙ c.in-Some.is in
+    let before = first_seen g.S.Source.left g.S.Source.faults c.args.sources.now.items in
+    let now = first_seen g.S.Source.left g.S.Source.faults c.answer-ended.new.sources.items in
+    let whole = concluded g.W.Output g.W.Outside c.args.outside.now c.answer-ended.new.outside c.conclude.new.outside c.args.hosts.now.names c.in-Some.command before now c.answer-ended.result c.conclude.result c.answer-ended.ensures.answered
+    c.conclude.ensures.refused c.conclude.ensures.number c.conclude.ensures.still in
+    let v = passage g.W.Output g.W.Outside c.args.outside.now c.conclude.new.outside in
+    λ is none. c.conclude.ensures.no_device (c.answer-ended.ensures.apart (no_folder_word c.in-Some.command (ap folder_in (sym read) ∙ none))).no_device is
+
+pub returns-in-Some-clause-unread : goal.returns-in-Some-clause-unread
+returns-in-Some-clause-unread g c =
+    let read : command_of (words_of c.args.words.now.items) ≡ Some c.in-Some.command = ap (λ l. command_of (words_of l)) (sym c.as_slice.ensures.value) ∙ sym c.read_words.ensures.command ∙ c.in-Some.is in
+    let before = first_seen g.S.Source.left g.S.Source.faults c.args.sources.now.items in
+    let now = first_seen g.S.Source.left g.S.Source.faults c.answer-ended.new.sources.items in
+    let whole = concluded g.W.Output g.W.Outside c.args.outside.now c.answer-ended.new.outside c.conclude.new.outside c.args.hosts.now.names c.in-Some.command before now c.answer-ended.result c.conclude.result c.answer-ended.ensures.answered
+    c.conclude.ensures.refused c.conclude.ensures.number c.conclude.ensures.still in
+    let v = passage g.W.Output g.W.Outside c.args.outside.now c.conclude.new.outside in
+    λ is. source_rose c.args.hosts.now.names before now c.in-Some.command c.conclude.result v whole is
+
+pub returns-in-Some-clause-output : goal.returns-in-Some-clause-output
+returns-in-Some-clause-output g c =
+    let read : command_of (words_of c.args.words.now.items) ≡ Some c.in-Some.command = ap (λ l. command_of (words_of l)) (sym c.as_slice.ensures.value) ∙ sym c.read_words.ensures.command ∙ c.in-Some.is in
+    let before = first_seen g.S.Source.left g.S.Source.faults c.args.sources.now.items in
+    let now = first_seen g.S.Source.left g.S.Source.faults c.answer-ended.new.sources.items in
+    let whole = concluded g.W.Output g.W.Outside c.args.outside.now c.answer-ended.new.outside c.conclude.new.outside c.args.hosts.now.names c.in-Some.command before now c.answer-ended.result c.conclude.result c.answer-ended.ensures.answered
+    c.conclude.ensures.refused c.conclude.ensures.number c.conclude.ensures.still in
+    let v = passage g.W.Output g.W.Outside c.args.outside.now c.conclude.new.outside in
+    λ is. output_rose c.args.hosts.now.names before now c.in-Some.command c.conclude.result v whole is
+
+pub returns-in-Some-clause-source_later : goal.returns-in-Some-clause-source_later
+returns-in-Some-clause-source_later g c =
+    let read : command_of (words_of c.args.words.now.items) ≡ Some c.in-Some.command = ap (λ l. command_of (words_of l)) (sym c.as_slice.ensures.value) ∙ sym c.read_words.ensures.command ∙ c.in-Some.is in
+    let before = first_seen g.S.Source.left g.S.Source.faults c.args.sources.now.items in
+    let now = first_seen g.S.Source.left g.S.Source.faults c.answer-ended.new.sources.items in
+    let whole = concluded g.W.Output g.W.Outside c.args.outside.now c.answer-ended.new.outside c.conclude.new.outside c.args.hosts.now.names c.in-Some.command before now c.answer-ended.result c.conclude.result c.answer-ended.ensures.answered
+    c.conclude.ensures.refused c.conclude.ensures.number c.conclude.ensures.still in
+    let v = passage g.W.Output g.W.Outside c.args.outside.now c.conclude.new.outside in
+    c.answer-ended.ensures.answered.later
+
+pub returns-in-Some-clause-output_later : goal.returns-in-Some-clause-output_later
+returns-in-Some-clause-output_later g c =
+    let read : command_of (words_of c.args.words.now.items) ≡ Some c.in-Some.command = ap (λ l. command_of (words_of l)) (sym c.as_slice.ensures.value) ∙ sym c.read_words.ensures.command ∙ c.in-Some.is in
+    let before = first_seen g.S.Source.left g.S.Source.faults c.args.sources.now.items in
+    let now = first_seen g.S.Source.left g.S.Source.faults c.answer-ended.new.sources.items in
+    let whole = concluded g.W.Output g.W.Outside c.args.outside.now c.answer-ended.new.outside c.conclude.new.outside c.args.hosts.now.names c.in-Some.command before now c.answer-ended.result c.conclude.result c.answer-ended.ensures.answered
+    c.conclude.ensures.refused c.conclude.ensures.number c.conclude.ensures.still in
+    let v = passage g.W.Output g.W.Outside c.args.outside.now c.conclude.new.outside in
+    output_later c.args.hosts.now.names before now c.in-Some.command c.conclude.result v whole
+
+pub returns-in-Some-clause-device_later : goal.returns-in-Some-clause-device_later
+returns-in-Some-clause-device_later g c =
+    let read : command_of (words_of c.args.words.now.items) ≡ Some c.in-Some.command = ap (λ l. command_of (words_of l)) (sym c.as_slice.ensures.value) ∙ sym c.read_words.ensures.command ∙ c.in-Some.is in
+    let before = first_seen g.S.Source.left g.S.Source.faults c.args.sources.now.items in
+    let now = first_seen g.S.Source.left g.S.Source.faults c.answer-ended.new.sources.items in
+    let whole = concluded g.W.Output g.W.Outside c.args.outside.now c.answer-ended.new.outside c.conclude.new.outside c.args.hosts.now.names c.in-Some.command before now c.answer-ended.result c.conclude.result c.answer-ended.ensures.answered
+    c.conclude.ensures.refused c.conclude.ensures.number c.conclude.ensures.still in
+    let v = passage g.W.Output g.W.Outside c.args.outside.now c.conclude.new.outside in
+    device_later c.args.hosts.now.names before now c.in-Some.command c.conclude.result v whole
+
+pub returns-in-None-clause-usage_only : goal.returns-in-None-clause-usage_only
+returns-in-None-clause-usage_only g c = λ is. (ap (λ l. command_of (words_of l)) (sym c.as_slice.ensures.value) ∙ sym c.read_words.ensures.command ∙ c.in-None.is)
+
+pub returns-in-None-clause-answers : goal.returns-in-None-clause-answers
+returns-in-None-clause-answers g c = λ command is. absurd (none_is_not_some command (sym (ap (λ l. command_of (words_of l)) (sym c.as_slice.ensures.value) ∙ sym c.read_words.ensures.command ∙ c.in-None.is) ∙ is))
+
+pub returns-in-None-clause-device : goal.returns-in-None-clause-device
+returns-in-None-clause-device g c = λ is. absurd (c.refuse.ensures.no_device is)
+
+pub returns-in-None-clause-device_only : goal.returns-in-None-clause-device_only
+returns-in-None-clause-device_only g c = λ is none. c.refuse.ensures.no_device is
+
+pub returns-in-None-clause-unread : goal.returns-in-None-clause-unread
+returns-in-None-clause-unread g c = λ is. absurd (usage_not_seven (refused Usage) c.refuse.result (passage g.W.Output g.W.Outside c.args.outside.now c.refuse.new.outside) refl c.refuse.ensures.told is)
+
+pub returns-in-None-clause-output : goal.returns-in-None-clause-output
+returns-in-None-clause-output g c = λ is. usage_output_rose (refused Usage) c.refuse.result (passage g.W.Output g.W.Outside c.args.outside.now c.refuse.new.outside) refl c.refuse.ensures.told is
+
+pub returns-in-None-clause-output_later : goal.returns-in-None-clause-output_later
+returns-in-None-clause-output_later g c = told_output_later (refused Usage) c.refuse.result (passage g.W.Output g.W.Outside c.args.outside.now c.refuse.new.outside) c.refuse.ensures.told
+
+pub returns-in-None-clause-device_later : goal.returns-in-None-clause-device_later
+returns-in-None-clause-device_later g c = usage_device_later (refused Usage) c.refuse.result (passage g.W.Output g.W.Outside c.args.outside.now c.refuse.new.outside) c.refuse.ensures.told

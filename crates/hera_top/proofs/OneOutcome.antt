@@ -1,0 +1,304 @@
+-- A command comes to one outcome for a script and what the files hold.
+use Rattle.std.proofs.Common.{◌≡◌, ◌≢◌, ◌≤◌, ◌<◌, ◌⊎◌, inl, inr, ℕ, Bool, true, false, List, [], length, Option, Some, refl, sym, ap, ◌∙◌, subst, arith}
+use Rattle.hera_meaning.specs.declared.schemas.RelDecl.{RelDecl}
+use Rattle.hera_meaning.specs.Deltas.{State}
+use Rattle.hera_meaning.specs.Run.{run_of}
+use Rattle.hera_meaning.specs.Trees.{Program_tree}
+use Rattle.hera_host.specs.Tables.{Host, specs_of}
+use Rattle.hera_rules.specs.Accepted.{Accepted}
+use Rattle.hera_rules.specs.Bound.{bound, Differs, differs_here, differs_later}
+use Rattle.hera_bind.specs.Having.{AllHas}
+use Rattle.hera_script.specs.declared.cause.Cause.{Cause}
+use Rattle.hera_script.specs.Refusing.{IsRefused}
+use Rattle.hera_syntax.specs.Tokens.{script_limit}
+use Rattle.hera_volume.specs.declared.file_id.FileId.{FileId}
+use Rattle.hera_volume.specs.declared.file_id.FileId.TheVariants.{Select}
+use Rattle.rel_format.specs.declared.version.Version.{Version}
+use Rattle.rel_format.specs.declared.version.Version.TheVariants.{One, Two}
+use Rattle.rel_format.specs.Journal.{IsHalf, half_limit}
+use Rattle.rel_format.specs.Versions.{format_of, version_in}
+use Rattle.commit_journal.specs.Halves.{IsHalfTo}
+use Rattle.hera_store.specs.Databases.{Database, half_named, Names, FilesFound, absent, spoilt, held, IsFound}
+use Rattle.hera_store.specs.Faults.{half_with}
+use Rattle.hera_outcome.specs.declared.refusal.Refusal.{Refusal}
+use Rattle.hera_outcome.specs.declared.refusal.Refusal.TheVariants.{Unread, Script, Damaged, Differing}
+use Rattle.hera_outcome.specs.Outcomes.{Outcome, refused, prints, renewed, too_long, carried, full}
+use Rattle.hera_outcome.specs.Passages.{Start}
+use Rattle.hera_run.specs.Folder.{IsThere, IsClosed, finds_none, finds_damage, IsReplaced, StartsAt, Overfills, IsStarting, IsOverfull, outcome_from, RunsTo, closed as run_closed, differs, overflows as run_overflows, runs as run_runs}
+use Rattle.hera_words.specs.declared.command.Command.{Command}
+use Rattle.hera_words.specs.declared.command.Command.TheVariants.{Check, List as list_command, Eval, Drill, Init, Run, Dump, Checkpoint}
+use Rattle.hera_words.specs.Words.{form_of}
+use Rattle.hera_top.specs.Commands.{Performs, checks, lists, evaluates, makes, runs, IsVacant, IsTaken, IsMade, is_made, is_taken, ComesToFor, refuses, performs, Finds, closed, dumps, renews, overflows, tables_text, ReadsScript, LooksAlone, IsRead, ComesTo, unread, reads, drills, looks}
+use Rattle.hera_top.specs.Drill.{drill_text, drill_turns}
+use Rattle.hera_top.specs.Sources.{Seen}
+use Rattle.hera_top.specs.Told.{BeginsWith}
+use Rattle.hera_top.proofs.Wholes.{told_outcome}
+
+-- files hold one thing
+abbrev pub OneFound : Type 0
+OneFound = (files : FileId → List ℕ) (x y : FilesFound) → IsFound files x → IsFound files y → x ≡ y
+
+-- a half has one last gate
+abbrev pub OneEnd : Type 0
+OneEnd = (v w : Version) (bytes : List ℕ) (rels rels2 : List RelDecl) (state state2 : State) (end end2 : ℕ) → IsHalfTo (format_of v) bytes rels state end → IsHalfTo (format_of w) bytes rels2 state2 end2 → end ≡ end2
+
+-- and one format
+abbrev pub OneVersion : Type 0
+OneVersion = (v : Version) (bytes : List ℕ) (rels : List RelDecl) (state : State) → IsHalf (format_of v) bytes rels state → version_in bytes ≡ v
+
+-- ---- the binding
+
+-- the first relation that a catalogue lacks is one
+differs_one : (catalogue own : List RelDecl) (a b : List ℕ) → Differs catalogue own a → Differs catalogue own b → a ≡ b
+differs_one catalogue _ _ _ (differs_here lacks) (differs_here also) = refl
+differs_one catalogue _ _ _ (differs_here lacks) (differs_later has rest) = absurd (lacks has.0 has.1 has.2 has.3 has.4)
+differs_one catalogue _ _ _ (differs_later has rest) (differs_here lacks) = absurd (lacks has.0 has.1 has.2 has.3 has.4)
+differs_one catalogue _ _ _ (differs_later has first) (differs_later also second) = differs_one catalogue _ _ _ first second
+
+-- a catalogue that has all lacks none
+lacks_none : (catalogue own : List RelDecl) (name : List ℕ) → Differs catalogue own name → AllHas catalogue own → ⊥
+lacks_none catalogue _ _ (differs_here lacks) given = let has = given.0 in lacks has.0 has.1 has.2 has.3 has.4
+lacks_none catalogue _ _ (differs_later has rest) given = lacks_none catalogue _ _ rest given.1
+
+-- ---- the place where the journal ends
+
+names_one : (bytes : List ℕ) (a b : FileId) → Names bytes a → Names bytes b → a ≡ b
+names_one bytes a b first second =
+    let same : first.0 ≡ second.0 = let e = sym first.1 ∙ second.1 in cc in
+    sym first.2 ∙ ap half_named same ∙ second.2
+
+never_both : OneVersion → (bytes : List ℕ) (rels rels2 : List RelDecl) (state state2 : State) → IsHalf (format_of One) bytes rels state → IsHalf (format_of Two) bytes rels2 state2 → ⊥
+never_both version bytes rels rels2 state state2 first second = let is : One ≡ Two = sym (version One bytes rels state first) ∙ version Two bytes rels2 state2 second in cc (is)
+
+module _ (one : OneEnd) (version : OneVersion) (files : FileId → List ℕ) (db : Database) where
+  gate_from : (gate next : ℕ) (first : StartsAt files db gate) → IsHalfTo (format_of Two) (files first.half) db.catalogue db.state next ⊎ IsReplaced (files first.half) db next → gate ≡ next
+  gate_from gate next first second = by first.starts second
+    where
+      by : IsHalfTo (format_of Two) (files first.half) db.catalogue db.state gate ⊎ IsReplaced (files first.half) db gate → IsHalfTo (format_of Two) (files first.half) db.catalogue db.state next ⊎ IsReplaced (files first.half) db next → gate ≡ next
+      by (inl a) (inl b) = one Two Two (files first.half) db.catalogue db.catalogue db.state db.state gate next a b
+      by (inl a) (inr b) = absurd (never_both version (files first.half) db.catalogue db.catalogue db.state db.state b.old a.half)
+      by (inr a) (inl b) = absurd (never_both version (files first.half) db.catalogue db.catalogue db.state db.state a.old b.half)
+      by (inr a) (inr b) = omega (arith, a.place, b.place)
+
+  gate_same : (gate next : ℕ) → StartsAt files db gate → StartsAt files db next → gate ≡ next
+  gate_same gate next first second =
+      let half : second.half ≡ first.half = names_one (files Select) second.half first.half second.named first.named in
+      gate_from gate next first (subst (λ (f : FileId). IsHalfTo (format_of Two) (files f) db.catalogue db.state next ⊎ IsReplaced (files f) db next) half second.starts)
+
+  -- a half that has no room for its database is none behind whose gate a run's records stand
+  full_from : (gate : ℕ) (first : StartsAt files db gate) → IsHalf (format_of One) (files first.half) db.catalogue db.state → half_limit < length (half_with db) → ⊥
+  full_from gate first old past = by first.starts
+    where
+      by : IsHalfTo (format_of Two) (files first.half) db.catalogue db.state gate ⊎ IsReplaced (files first.half) db gate → ⊥
+      by (inl a) = never_both version (files first.half) db.catalogue db.catalogue db.state db.state old a.half
+      by (inr a) = omega (arith, a.fits, past)
+
+  full_or_starts : (gate : ℕ) → Overfills files db → StartsAt files db gate → ⊥
+  full_or_starts gate over starts =
+      let half : over.half ≡ starts.half = names_one (files Select) over.half starts.half over.named starts.named in
+      full_from gate starts (subst (λ (f : FileId). IsHalf (format_of One) (files f) db.catalogue db.state) half over.old) over.past
+
+-- ---- scripts
+
+abbrev pub OneRefusal : Type 0
+OneRefusal = (hosts : List Host) (script : List ℕ) (c d : Cause) (a b : ℕ) → IsRefused hosts script c a → IsRefused hosts script d b → (c ≡ d) × (a ≡ b)
+
+abbrev pub NeverBoth : Type 0
+NeverBoth = (hosts : List Host) (script : List ℕ) (p : Program_tree) (c : Cause) (a : ℕ) → length script ≤ script_limit → Accepted script hosts p → IsRefused hosts script c a → ⊥
+
+abbrev pub OneProgram : Type 0
+OneProgram = (hosts : List Host) (script : List ℕ) (p q : Program_tree) → Accepted script hosts p → Accepted script hosts q → p ≡ q
+
+same_refusal : (c d : Cause) (a b : ℕ) → (c ≡ d) × (a ≡ b) → refused (Script c a) ≡ refused (Script d b)
+same_refusal c d a b (cause, at) = ap (λ (x : Cause). refused (Script x a)) cause ∙ ap (λ (n : ℕ). refused (Script d n)) at
+
+-- what is done with a program decides
+module _ (one : OneRefusal) (never : NeverBoth) (program : OneProgram) (hosts : List Host) (command : Command) (script : List ℕ) (s t : Start)
+    (done : (p : Program_tree) (a b : Outcome) → Performs hosts p s command a → Performs hosts p t command b → a ≡ b) where
+  pub one_for : (a b : Outcome) → ComesToFor hosts script s command a → ComesToFor hosts script t command b → a ≡ b
+  one_for _ _ (refuses {cause = c} {at = m} x) (refuses {cause = d} {at = n} y) = same_refusal c d m n (one hosts script c d m n x y)
+  one_for _ _ (refuses {cause = c} {at = m} x) (performs {p} short acc did) = absurd (never hosts script p c m short acc x)
+  one_for _ _ (performs {p} short acc did) (refuses {cause = c} {at = m} x) = absurd (never hosts script p c m short acc x)
+  one_for a b (performs {p} short acc did) (performs {p = q} also other too) =
+      done p a b did (subst (λ (r : Program_tree). Performs hosts r t command b) (sym (program hosts script p q acc other)) too)
+
+no_folder : (b : Bool) → b ≡ true → b ≡ false → ⊥
+no_folder b some none = (let bad : true ≡ false = sym some ∙ none in cc (bad))
+
+-- a command without a folder
+done_apart : (hosts : List Host) (p : Program_tree) (s t : Start) (command : Command) → (form_of command).folder ≡ false → (a b : Outcome) → Performs hosts p s command a → Performs hosts p t command b → a ≡ b
+done_apart hosts p s t _ none _ _ checks checks = refl
+done_apart hosts p s t _ none _ _ lists lists = refl
+done_apart hosts p s t _ none _ _ evaluates evaluates = refl
+done_apart hosts p s t _ none _ _ (makes x) (makes y) = absurd (no_folder true refl none)
+done_apart hosts p s t _ none _ _ (runs x) (runs y) = absurd (no_folder true refl none)
+
+pub one_apart : OneRefusal → NeverBoth → OneProgram → (hosts : List Host) (command : Command) (script : List ℕ) (s t : Start) (a b : Outcome) → (form_of command).folder ≡ false
+    → ComesToFor hosts script s command a → ComesToFor hosts script t command b → a ≡ b
+one_apart one never program hosts command script s t a b none x y = one_for one never program hosts command script s t (λ p. done_apart hosts p s t command none) a b x y
+
+-- ---- folders
+
+module _ (one : OneFound) (end : OneEnd) (version : OneVersion) (files : FileId → List ℕ) (s t : Start) (told : s.told) (also : t.told) (first : (f : FileId) → (s.disks f).bytes ≡ files f) (second : (f : FileId) → (t.disks f).bytes ≡ files f) where
+  abbrev read_first : (λ (f : FileId). (s.disks f).bytes) ≡ files
+  read_first = λ i f. first f i
+
+  abbrev read_second : (λ (f : FileId). (t.disks f).bytes) ≡ files
+  read_second = λ i f. second f i
+
+  both : (x y : FilesFound) → IsThere s x → IsThere t y → x ≡ y
+  both x y here there = one files x y (subst (λ (g : FileId → List ℕ). IsFound g x) read_first (here told)) (subst (λ (g : FileId → List ℕ). IsFound g y) read_second (there also))
+
+  same_db : (db other : Database) → IsThere s (held db) → IsThere t (held other) → db ≡ other
+  same_db db other x y = let is = both (held db) (held other) x y in cc (is)
+
+  same_damage : (f g : FileId) (a b : ℕ) → spoilt f a ≡ spoilt g b → refused (Damaged f a) ≡ refused (Damaged g b)
+  same_damage f g a b is =
+      let file : f ≡ g = cc (is) in
+      let place : a ≡ b = cc (is) in
+      ap (λ (h : FileId). refused (Damaged h a)) file ∙ ap (λ (n : ℕ). refused (Damaged g n)) place
+
+  one_closed : (a b : Refusal) → IsClosed s a → IsClosed t b → refused a ≡ refused b
+  one_closed _ _ (finds_none x) (finds_none y) = refl
+  one_closed _ _ (finds_none x) (finds_damage {file = f} {at = n} y) = let is = both absent (spoilt f n) x y in absurd (cc (is))
+  one_closed _ _ (finds_damage {file = f} {at = n} x) (finds_none y) = let is = both (spoilt f n) absent x y in absurd (cc (is))
+  one_closed _ _ (finds_damage {file = f} {at = n} x) (finds_damage {file = g} {at = m} y) = same_damage f g n m (both (spoilt f n) (spoilt g m) x y)
+
+  closed_or_held : (r : Refusal) (db : Database) → IsClosed s r → IsThere t (held db) → ⊥
+  closed_or_held _ db (finds_none x) y = let is = both absent (held db) x y in cc (is)
+  closed_or_held _ db (finds_damage {file = f} {at = n} x) y = let is = both (spoilt f n) (held db) x y in cc (is)
+
+  held_or_closed : (db : Database) (r : Refusal) → IsThere s (held db) → IsClosed t r → ⊥
+  held_or_closed db _ x (finds_none y) = let is = both (held db) absent x y in cc (is)
+  held_or_closed db _ x (finds_damage {file = f} {at = n} y) = let is = both (held db) (spoilt f n) x y in cc (is)
+
+  starts_first : (db : Database) (gate : ℕ) → IsStarting s db gate → StartsAt files db gate
+  starts_first db gate starts = subst (λ (g : FileId → List ℕ). StartsAt g db gate) read_first (starts told)
+
+  starts_second : (db : Database) (gate : ℕ) → IsStarting t db gate → StartsAt files db gate
+  starts_second db gate starts = subst (λ (g : FileId → List ℕ). StartsAt g db gate) read_second (starts also)
+
+  full_first : (db : Database) → IsOverfull s db → Overfills files db
+  full_first db over = subst (λ (g : FileId → List ℕ). Overfills g db) read_first (over told)
+
+  full_second : (db : Database) → IsOverfull t db → Overfills files db
+  full_second db over = subst (λ (g : FileId → List ℕ). Overfills g db) read_second (over also)
+
+  module _ (hosts : List Host) (turns : ℕ) (p : Program_tree) where
+    same_run : (db other : Database) (gate next : ℕ) → db ≡ other → gate ≡ next
+        → outcome_from db gate (run_of (bound p db.catalogue) db.state (specs_of hosts) turns) ≡ outcome_from other next (run_of (bound p other.catalogue) other.state (specs_of hosts) turns)
+    same_run db other gate next same place =
+        ap (λ (x : Database). outcome_from x gate (run_of (bound p x.catalogue) x.state (specs_of hosts) turns)) same
+        ∙ ap (λ (n : ℕ). outcome_from other n (run_of (bound p other.catalogue) other.state (specs_of hosts) turns)) place
+
+    one_run : (a b : Outcome) → RunsTo hosts turns p s a → RunsTo hosts turns p t b → a ≡ b
+    one_run _ _ (run_closed {refusal = r} x) (run_closed {refusal = q} y) = one_closed r q x y
+    one_run _ _ (run_closed {refusal = r} x) (differs {db = db} y bad) = absurd (closed_or_held r db x y)
+    one_run _ _ (run_closed {refusal = r} x) (run_overflows {db = db} y o h) = absurd (closed_or_held r db x y)
+    one_run _ _ (run_closed {refusal = r} x) (run_runs {db = db} y e h) = absurd (closed_or_held r db x y)
+    one_run _ _ (differs {db = db} x bad) (run_closed {refusal = r} y) = absurd (held_or_closed db r x y)
+    one_run _ _ (differs {db = db} {name = m} x bad) (differs {db = other} {name = n} y worse) =
+        ap (λ (l : List ℕ). refused (Differing l)) (differs_one db.catalogue p.relations m n bad (subst (λ (d : Database). Differs d.catalogue p.relations n) (sym (same_db db other x y)) worse))
+    one_run _ _ (differs {db = db} {name = m} x bad) (run_overflows {db = other} y o h) =
+        absurd (lacks_none db.catalogue p.relations m bad (subst (λ (d : Database). AllHas d.catalogue p.relations) (sym (same_db db other x y)) h))
+    one_run _ _ (differs {db = db} {name = m} x bad) (run_runs {db = other} y e h) =
+        absurd (lacks_none db.catalogue p.relations m bad (subst (λ (d : Database). AllHas d.catalogue p.relations) (sym (same_db db other x y)) h))
+    one_run _ _ (run_overflows {db = db} x o h) (run_closed {refusal = r} y) = absurd (held_or_closed db r x y)
+    one_run _ _ (run_overflows {db = db} x o h) (differs {db = other} {name = m} y bad) =
+        absurd (lacks_none other.catalogue p.relations m bad (subst (λ (d : Database). AllHas d.catalogue p.relations) (same_db db other x y) h))
+    one_run _ _ (run_overflows {db = db} x o h) (run_overflows {db = other} y q g) = ap (λ (d : Database). carried d [] full) (same_db db other x y)
+    one_run _ _ (run_overflows {db = db} x o h) (run_runs {db = other} {gate = m} y f g) =
+        absurd (full_or_starts end version files db m (full_first db o) (subst (λ (d : Database). StartsAt files d m) (sym (same_db db other x y)) (starts_second other m f)))
+    one_run _ _ (run_runs {db = db} x e h) (run_closed {refusal = r} y) = absurd (held_or_closed db r x y)
+    one_run _ _ (run_runs {db = db} x e h) (differs {db = other} {name = m} y bad) =
+        absurd (lacks_none other.catalogue p.relations m bad (subst (λ (d : Database). AllHas d.catalogue p.relations) (same_db db other x y) h))
+    one_run _ _ (run_runs {db = db} {gate = n} x e h) (run_overflows {db = other} y q g) =
+        absurd (full_or_starts end version files other n (full_second other q) (subst (λ (d : Database). StartsAt files d n) (same_db db other x y) (starts_first db n e)))
+    one_run _ _ (run_runs {db = db} {gate = n} x e h) (run_runs {db = other} {gate = m} y f g) =
+        let same = same_db db other x y in
+        same_run db other n m same (gate_same end version files db n m (starts_first db n e) (subst (λ (d : Database). StartsAt files d m) (sym same) (starts_second other m f)))
+
+  vacant_or_taken : IsVacant s → IsTaken t → ⊥
+  vacant_or_taken vacant taken = taken also (second Select ∙ sym (first Select) ∙ vacant told)
+
+  taken_or_vacant : IsTaken s → IsVacant t → ⊥
+  taken_or_vacant taken vacant = taken told (first Select ∙ sym (second Select) ∙ vacant also)
+
+  one_made : (rels : List RelDecl) (a b : Outcome) → IsMade rels s a → IsMade rels t b → a ≡ b
+  one_made rels _ _ (is_made x) (is_made y) = refl
+  one_made rels _ _ (is_made x) (is_taken y) = absurd (vacant_or_taken x y)
+  one_made rels _ _ (is_taken x) (is_made y) = absurd (taken_or_vacant x y)
+  one_made rels _ _ (is_taken x) (is_taken y) = refl
+
+  one_done : (hosts : List Host) (command : Command) (p : Program_tree) (a b : Outcome) → Performs hosts p s command a → Performs hosts p t command b → a ≡ b
+  one_done hosts _ p _ _ checks checks = refl
+  one_done hosts _ p _ _ lists lists = refl
+  one_done hosts _ p _ _ evaluates evaluates = refl
+  one_done hosts _ p _ _ (makes {outcome = a} x) (makes {outcome = b} y) = one_made p.relations a b x y
+  one_done hosts _ p _ _ (runs {turns} {outcome = a} x) (runs {outcome = b} y) = one_run hosts turns p a b x y
+
+  fits_or_not : (db other : Database) → db ≡ other → length (half_with db) ≤ half_limit → half_limit < length (half_with other) → ⊥
+  fits_or_not db other same short long =
+      let here : half_limit < length (half_with db) = subst (λ (d : Database). half_limit < length (half_with d)) (sym same) long in
+      omega arith
+
+  one_found : (command : Command) (a b : Outcome) → Finds s command a → Finds t command b → a ≡ b
+  one_found command _ _ (closed {refusal = r} x) (closed {refusal = q} y) = one_closed r q x y
+  one_found _ _ _ (closed {refusal = r} x) (dumps {db = db} y) = absurd (closed_or_held r db x y)
+  one_found _ _ _ (closed {refusal = r} x) (renews {db = db} y short) = absurd (closed_or_held r db x y)
+  one_found _ _ _ (closed {refusal = r} x) (overflows {db = db} y long) = absurd (closed_or_held r db x y)
+  one_found _ _ _ (dumps {db = db} x) (closed {refusal = r} y) = absurd (held_or_closed db r x y)
+  one_found _ _ _ (dumps {db = db} x) (dumps {db = other} y) = ap (λ (d : Database). prints (tables_text d.catalogue d.state)) (same_db db other x y)
+  one_found _ _ _ (renews {db = db} x short) (closed {refusal = r} y) = absurd (held_or_closed db r x y)
+  one_found _ _ _ (renews {db = db} x short) (renews {db = other} y too) = ap renewed (same_db db other x y)
+  one_found _ _ _ (renews {db = db} x short) (overflows {db = other} y long) = absurd (fits_or_not db other (same_db db other x y) short long)
+  one_found _ _ _ (overflows {db = db} x long) (closed {refusal = r} y) = absurd (held_or_closed db r x y)
+  one_found _ _ _ (overflows {db = db} x long) (renews {db = other} y short) = absurd (fits_or_not other db (sym (same_db db other x y)) short long)
+  one_found _ _ _ (overflows {db = db} x long) (overflows {db = other} y too) = ap too_long (same_db db other x y)
+
+-- ---- commands
+
+reads_or_looks : (command : Command) → ReadsScript command → LooksAlone command → ⊥
+reads_or_looks Check reads_one alone = alone
+reads_or_looks list_command reads_one alone = alone
+reads_or_looks (Eval turns) reads_one alone = alone
+reads_or_looks (Drill rows) reads_one alone = alone
+reads_or_looks Init reads_one alone = alone
+reads_or_looks (Run turns) reads_one alone = alone
+reads_or_looks Dump reads_one alone = reads_one
+reads_or_looks Checkpoint reads_one alone = reads_one
+
+drill_reads : (command : Command) (rows : ℕ) → command ≡ Drill rows → ReadsScript command → ⊥
+drill_reads command rows is reads_one = subst ReadsScript is reads_one
+
+drill_looks : (command : Command) (rows : ℕ) → command ≡ Drill rows → LooksAlone command → ⊥
+drill_looks command rows is alone = subst LooksAlone is alone
+
+whole_for : (hosts : List Host) (command : Command) (script bytes : List ℕ) (before now : Seen) (s : Start) (o : Outcome) → before.left ≡ Some script → IsRead before.left now.left bytes → ComesToFor hosts bytes s command o → ComesToFor hosts script s command o
+whole_for hosts command script bytes before now s o is read came = told_outcome hosts command script bytes now.left s o (subst (λ (l : Option (List ℕ)). IsRead l now.left bytes) is read) came
+
+pub one_comes : OneRefusal → NeverBoth → OneProgram → OneFound → OneEnd → OneVersion
+    → (hosts : List Host) (command : Command) (script : List ℕ) (files : FileId → List ℕ) (before now later after : Seen) (s t : Start) (a b : Outcome)
+    → BeginsWith command script files before s → BeginsWith command script files later t → ComesTo hosts before now s command a → ComesTo hosts later after t command b
+    → a ≢ refused Unread → b ≢ refused Unread → a ≡ b
+one_comes one never program found end version hosts command script files before now later after s t _ b x y (unread reads_one is) second not_a not_b = absurd (not_a refl)
+one_comes one never program found end version hosts command script files before now later after s t a _ x y (reads reads_one bytes read still came) (unread also is) not_a not_b = absurd (not_b refl)
+one_comes one never program found end version hosts command script files before now later after s t a b x y (reads reads_one bytes read still came) (reads also others seen kept too) not_a not_b =
+    one_for one never program hosts command script s t (one_done found end version files s t x.files_told y.files_told x.reads y.reads hosts command) a b
+    (whole_for hosts command script bytes before now s a (x.script_told reads_one) read came) (whole_for hosts command script others later after t b (y.script_told also) seen too)
+one_comes one never program found end version hosts command script files before now later after s t a b x y (reads reads_one bytes read still came) (drills {rows} is too) not_a not_b = absurd (drill_reads command rows is reads_one)
+one_comes one never program found end version hosts command script files before now later after s t a b x y (reads reads_one bytes read still came) (looks alone too) not_a not_b = absurd (reads_or_looks command reads_one alone)
+one_comes one never program found end version hosts command script files before now later after s t a _ x y (drills {rows} is came) (unread also gone) not_a not_b = absurd (not_b refl)
+one_comes one never program found end version hosts command script files before now later after s t a b x y (drills {rows} is came) (reads also others seen kept too) not_a not_b = absurd (drill_reads command rows is also)
+one_comes one never program found end version hosts command script files before now later after s t a b x y (drills {rows} is came) (drills {rows = n} same too) not_a not_b =
+    let rows_same : rows ≡ n = drill_rows rows n (sym is ∙ same) in
+    one_apart one never program hosts (Eval drill_turns) (drill_text n) s t a b refl (subst (λ (k : ℕ). ComesToFor hosts (drill_text k) s (Eval drill_turns) a) rows_same came) too
+  where
+    drill_rows : (m k : ℕ) → Drill m ≡ Drill k → m ≡ k
+    drill_rows m k e = cc (e)
+one_comes one never program found end version hosts command script files before now later after s t a b x y (drills {rows} is came) (looks alone too) not_a not_b = absurd (drill_looks command rows is alone)
+one_comes one never program found end version hosts command script files before now later after s t a _ x y (looks alone came) (unread also gone) not_a not_b = absurd (not_b refl)
+one_comes one never program found end version hosts command script files before now later after s t a b x y (looks alone came) (reads also others seen kept too) not_a not_b = absurd (reads_or_looks command also alone)
+one_comes one never program found end version hosts command script files before now later after s t a b x y (looks alone came) (drills {rows} is too) not_a not_b = absurd (drill_looks command rows is alone)
+one_comes one never program found end version hosts command script files before now later after s t a b x y (looks alone came) (looks too_alone too) not_a not_b =
+    one_found found end version files s t x.files_told y.files_told x.reads y.reads command a b came too

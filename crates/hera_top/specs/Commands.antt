@@ -1,0 +1,138 @@
+-- What a command comes to, and how it answers.
+use Rattle.std.specs.Prelude.{◌≡◌, ◌≢◌, ◌≤◌, ◌<◌, ◌⊎◌, ◌++◌, ℕ, List, [], ◌∷◌, length, codes, Option, Result, Err}
+use Rattle.std.specs.Io.KnownBytes.{Consumes, IsAtEnd}
+use Rattle.hera_causes.specs.Causes.{Rose}
+use Rattle.hera_meaning.specs.declared.schemas.RelDecl.{RelDecl}
+use Rattle.hera_meaning.specs.Deltas.{State}
+use Rattle.hera_meaning.specs.Printed.{decl_text, table_text}
+use Rattle.hera_meaning.specs.Run.{run_of}
+use Rattle.hera_meaning.specs.Trees.{Program_tree}
+use Rattle.hera_code.specs.Scheme.{code_of}
+use Rattle.hera_code.specs.Listing.{listing_of}
+use Rattle.hera_host.specs.Tables.{Host, specs_of}
+use Rattle.hera_rules.specs.Accepted.{Accepted}
+use Rattle.rel_format.specs.Journal.{half_limit}
+use Rattle.rel_pages.specs.Stored.{empty_state}
+use Rattle.hera_script.specs.declared.cause.Cause.{Cause}
+use Rattle.hera_script.specs.Refusing.{IsRefused}
+use Rattle.hera_syntax.specs.Tokens.{script_limit}
+use Rattle.hera_store.specs.Databases.{Database, held}
+use Rattle.hera_store.specs.Faults.{half_with}
+use Rattle.hera_volume.specs.declared.file_id.FileId.TheVariants.{Select}
+use Rattle.hera_outcome.specs.declared.answer.Ending.{Ending}
+use Rattle.hera_outcome.specs.declared.answer.Stop.{Stop}
+use Rattle.hera_outcome.specs.declared.answer.Stop.TheVariants.{Refused, Device}
+use Rattle.hera_outcome.specs.declared.refusal.Refusal.{Refusal}
+use Rattle.hera_outcome.specs.declared.refusal.Refusal.TheVariants.{Unread, Script, Exists}
+use Rattle.hera_outcome.specs.Outcomes.{Outcome, refused, prints, ran, made, renewed, too_long}
+use Rattle.hera_outcome.specs.Passages.{Passage, Start, start_of, KeepsFiles}
+use Rattle.hera_outcome.specs.Told.{IsTold, IsGivenUp, Answered}
+use Rattle.hera_run.specs.Folder.{IsThere, IsClosed, RunsTo}
+use Rattle.hera_words.specs.declared.command.Command.{Command}
+use Rattle.hera_words.specs.declared.command.Command.TheVariants.{Check, List as list_command, Eval, Drill, Init, Run, Dump, Checkpoint}
+use Rattle.hera_top.specs.Drill.{drill_text, drill_turns}
+use Rattle.hera_top.specs.Sources.{Seen}
+
+-- ---- with a program
+
+-- `select` was empty, or was not
+abbrev pub IsVacant : Start → Type 0
+IsVacant v = v.told → (v.disks Select).bytes ≡ []
+
+abbrev pub IsTaken : Start → Type 0
+IsTaken v = v.told → (v.disks Select).bytes ≢ []
+
+-- the database of these relations is made where there was none
+pub data IsMade (rels : List RelDecl) (v : Start) : Outcome → Type 0 where
+  is_made : IsVacant v → IsMade rels v (made rels)
+  is_taken : IsTaken v → IsMade rels v (refused Exists)
+
+-- what a command does with an accepted script's program: `check` says that it is accepted, `list` lists its code, `eval`
+-- runs it on its relations without rows, `init` makes its database, and `run` runs it on the database in a folder
+pub data Performs (hosts : List Host) (p : Program_tree) (v : Start) : Command → Outcome → Type 0 where
+  checks : Performs hosts p v Check (prints (codes "accepted\n"))
+  lists : Performs hosts p v list_command (prints (listing_of (code_of p)))
+  evaluates : {turns : ℕ} → Performs hosts p v (Eval turns) (ran (run_of p (empty_state p.relations) (specs_of hosts) turns))
+  makes : {outcome : Outcome} → IsMade p.relations v outcome → Performs hosts p v Init outcome
+  runs : {turns : ℕ} {outcome : Outcome} → RunsTo hosts turns p v outcome → Performs hosts p v (Run turns) outcome
+
+-- the outcome of a command for a script that may call these hosts
+pub data ComesToFor (hosts : List Host) (script : List ℕ) (v : Start) (command : Command) : Outcome → Type 0 where
+  refuses : {cause : Cause} {at : ℕ} → IsRefused hosts script cause at → ComesToFor hosts script v command (refused (Script cause at))
+  performs : {p : Program_tree} {outcome : Outcome} → length script ≤ script_limit → Accepted script hosts p → Performs hosts p v command outcome → ComesToFor hosts script v command outcome
+
+-- ---- without
+
+-- for each relation its declaration and its rows
+abbrev pub tables_text : List RelDecl → State → List ℕ
+tables_text [] s = []
+tables_text (d ∷ rels) [] = []
+tables_text (d ∷ rels) (rows ∷ s) = decl_text d ++ table_text d.schema rows ++ tables_text rels s
+
+-- what a command comes to that looks at a folder alone
+pub data Finds (v : Start) : Command → Outcome → Type 0 where
+  closed : {command : Command} {refusal : Refusal} → IsClosed v refusal → Finds v command (refused refusal)
+  dumps : {db : Database} → IsThere v (held db) → Finds v Dump (prints (tables_text db.catalogue db.state))
+  renews : {db : Database} → IsThere v (held db) → length (half_with db) ≤ half_limit → Finds v Checkpoint (renewed db)
+  overflows : {db : Database} → IsThere v (held db) → half_limit < length (half_with db) → Finds v Checkpoint (too_long db)
+
+-- ---- with a source
+
+-- a command that reads a script from its source
+abbrev pub ReadsScript : Command → Type 0
+ReadsScript Check = Unit {0}
+ReadsScript list_command = Unit {0}
+ReadsScript (Eval turns) = Unit {0}
+ReadsScript (Drill rows) = ⊥
+ReadsScript Init = Unit {0}
+ReadsScript (Run turns) = Unit {0}
+ReadsScript Dump = ⊥
+ReadsScript Checkpoint = ⊥
+
+-- a command that looks at a folder alone
+abbrev pub LooksAlone : Command → Type 0
+LooksAlone Check = ⊥
+LooksAlone list_command = ⊥
+LooksAlone (Eval turns) = ⊥
+LooksAlone (Drill rows) = ⊥
+LooksAlone Init = ⊥
+LooksAlone (Run turns) = ⊥
+LooksAlone Dump = Unit {0}
+LooksAlone Checkpoint = Unit {0}
+
+-- these bytes came from the source: all that was left, or more than the limit
+pub record IsRead (left_before left_now : Option (List ℕ)) (script : List ℕ) : Type 0 where
+  pub consumed : Consumes left_before left_now script
+  pub ended : IsAtEnd left_now ⊎ (script_limit < length script)
+
+-- the source failed before more than the limit came
+pub record IsUnread (before now : Seen) : Type 0 where
+  pub script : List ℕ
+  pub consumed : Consumes before.left now.left script
+  pub short : length script ≤ script_limit
+  pub rose : Rose before.faults now.faults
+
+-- what a command comes to, the script before the folder; the drill's script is its own
+pub data ComesTo (hosts : List Host) (before now : Seen) (v : Start) (command : Command) : Outcome → Type 0 where
+  unread : ReadsScript command → IsUnread before now → ComesTo hosts before now v command (refused Unread)
+  reads : {outcome : Outcome} → ReadsScript command → (script : List ℕ) → IsRead before.left now.left script → now.faults ≡ before.faults → ComesToFor hosts script v command outcome
+      → ComesTo hosts before now v command outcome
+  drills : {rows : ℕ} {outcome : Outcome} → command ≡ Drill rows → ComesToFor hosts (drill_text rows) v (Eval drill_turns) outcome → ComesTo hosts before now v command outcome
+  looks : {outcome : Outcome} → LooksAlone command → Finds v command outcome → ComesTo hosts before now v command outcome
+
+-- How a command answers: its outcome was told; or before it was known a call on a file failed, or there was no memory, and
+-- nothing was done that shows.
+pub data Answers (hosts : List Host) (command : Command) (before now : Seen) (status : ℕ) (v : Passage) : Type 0 where
+  tells : {outcome : Outcome} → ComesTo hosts before now (start_of v) command outcome → IsTold outcome status v → Answers hosts command before now status v
+  fails : now.faults ≡ before.faults → IsGivenUp status v → Answers hosts command before now status v
+
+-- the same of an answer whose refusal is still to be told; no fault of the source was counted but one that is refused
+pub record IsAnswered (hosts : List Host) (command : Command) (before now : Seen) (answer : Result Ending Stop) (v : Passage) : Type 0 where
+  pub answered : Answered (ComesTo hosts before now (start_of v) command) answer v
+  pub still : (now.faults ≡ before.faults) ⊎ ((answer ≡ Err (Refused Unread)) × Rose before.faults now.faults)
+  pub later : before.faults ≤ now.faults
+
+-- a command without a folder: no call on a file was made that shows, and none is told
+pub record IsApart (answer : Result Ending Stop) (v : Passage) : Type 0 where
+  pub keeps : KeepsFiles v
+  pub no_device : answer ≢ Err Device

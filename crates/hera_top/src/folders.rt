@@ -1,0 +1,47 @@
+//! The commands that look at a folder alone.
+ghost use Rattle.hera_outcome.specs.Passages.{passage, start};
+ghost use Rattle.hera_outcome.specs.Told.{Answered};
+ghost use Rattle.hera_top.specs.Commands.{Finds};
+ghost use Rattle.hera_words.specs.declared.command.Command.{Command};
+
+use crate::dumping::text_of_store;
+use hera_outcome::{Ending, Stop, tell};
+use hera_run::open_folder;
+use hera_store::CheckFault;
+use hera_volume::Outside;
+use hera_words::Command;
+use rel_format::HALF_LIMIT;
+use std::alloc::Global;
+
+/// Prints every relation of the database in the folder.
+pub(crate) fn dump<W: Outside>(alloc: Global, outside: &mut W) -> Result<Ending, Stop>
+    ensures answered { Answered (Finds (start W.Outside.own outside.old) Command.Dump) result (passage W.Output W.Outside.own outside.old outside.new) }
+{
+    match open_folder(alloc, outside) {
+        Ok(store) => {
+            let text = text_of_store(alloc, &store);
+            drop(store);
+            match text {
+                Ok(text) => tell(outside, &text),
+                Err(_) => Err(Stop::Memory),
+            }
+        }
+        Err(stop) => Err(stop),
+    }
+}
+
+/// Writes the other half of the database in the folder anew and selects it.
+pub(crate) fn checkpoint<W: Outside>(alloc: Global, outside: &mut W) -> Result<Ending, Stop>
+    ensures answered { Answered (Finds (start W.Outside.own outside.old) Command.Checkpoint) result (passage W.Output W.Outside.own outside.old outside.new) }
+{
+    match open_folder(alloc, outside) {
+        Ok(store) => match store.checkpoint(outside, HALF_LIMIT) {
+            Ok(()) => tell(outside, b"checkpointed\n"),
+            Err(CheckFault::Full { .. }) => Err(Stop::Full),
+            Err(CheckFault::Device) => Err(Stop::Device),
+            Err(CheckFault::Memory) => Err(Stop::Memory),
+            Err(CheckFault::Closed) => unreachable!(),
+        },
+        Err(stop) => Err(stop),
+    }
+}

@@ -1,0 +1,79 @@
+-- What the words of the command line ask for.
+use Rattle.std.specs.Prelude.{ℕ, ◌+◌, ◌==◌, Bool, true, false, cond, List, [], ◌∷◌, Option, Some, None, String, string_bytes, bytes_eq, map, option_map, zero, suc, length, codes, if◌then◌else◌}
+use Rattle.std.specs.Option.{option_flatten}
+use Rattle.std.specs.declared.alloc.Global.{Global}
+use Rattle.hera_words.specs.declared.command.Command.{Command}
+use Rattle.hera_words.specs.declared.command.Command.TheVariants.{Check, List as list_command, Eval, Drill, Init, Run, Dump, Checkpoint}
+use Rattle.hera_words.specs.declared.form.Form.{Form}
+use Rattle.hera_words.specs.declared.form.Number.{Number}
+use Rattle.hera_words.specs.declared.form.Number.TheVariants.{Absent, Turns, Rows}
+use Rattle.hera_words.specs.Numbers.{width_of, number_in}
+
+-- the bytes of each word
+abbrev pub words_of : List (String Global) → List (List ℕ)
+words_of words = map string_bytes words
+
+-- ---- the table
+
+-- the command of a name, with this number where it has one
+abbrev pub command_named : (name : List ℕ) (number : ℕ) → Option Command
+command_named name n =
+    if bytes_eq name (codes "check") then Some Check else (if bytes_eq name (codes "list") then Some list_command else (
+    if bytes_eq name (codes "eval") then Some (Eval n) else (if bytes_eq name (codes "drill") then Some (Drill n) else (
+    if bytes_eq name (codes "init") then Some Init else (if bytes_eq name (codes "run") then Some (Run n) else (
+    if bytes_eq name (codes "dump") then Some Dump else (if bytes_eq name (codes "checkpoint") then Some Checkpoint else None)))))))
+
+abbrev form : (folder : Bool) (number : Number) (files : ℕ) → Form
+form folder number files = record { folder = folder; number = number; files = files }
+
+-- the words behind its name
+abbrev pub form_of : Command → Form
+form_of Check = form false Absent 1
+form_of list_command = form false Absent 1
+form_of (Eval turns) = form false Turns 1
+form_of (Drill rows) = form false Rows 0
+form_of Init = form true Absent 1
+form_of (Run turns) = form true Turns 1
+form_of Dump = form true Absent 0
+form_of Checkpoint = form true Absent 0
+
+-- ---- the words
+
+-- where the number stands, and the first file, behind the name
+abbrev pub number_place : Form → ℕ
+number_place f = cond f.folder 1 0
+
+abbrev pub files_place : Form → ℕ
+files_place f = number_place f + width_of f.number
+
+-- the word at a place, empty past the last
+abbrev pub word_at : ℕ → List (List ℕ) → List ℕ
+word_at i [] = []
+word_at zero (word ∷ words) = word
+word_at (suc i) (word ∷ words) = word_at i words
+
+-- a command that has so many words behind its name
+abbrev pub with_words : ℕ → Option Command → Option Command
+with_words count None = None
+with_words count (Some command) = if count == files_place (form_of command) + (form_of command).files then Some command else None
+
+-- the command of a name and the number that its word gives, where it has so many words
+abbrev pub command_by : Option Command → (name : List ℕ) → (words : List (List ℕ)) → Option Command
+command_by None name words = None
+command_by (Some command) name words =
+    with_words (length words) (option_flatten (option_map (command_named name) (number_in (form_of command).number (word_at (number_place (form_of command)) words))))
+
+-- the command of the words, where they are a listed form
+abbrev pub command_of : List (List ℕ) → Option Command
+command_of [] = None
+command_of (name ∷ words) = command_by (command_named name 0) name words
+
+-- the places of the FILE words, from the first to behind the last
+abbrev pub files_in : Option Command → ℕ × ℕ
+files_in None = (0, 0)
+files_in (Some command) = if (form_of command).files == 0 then (0, 0) else (1 + files_place (form_of command), 1 + files_place (form_of command) + (form_of command).files)
+
+-- the place of the DIR word
+abbrev pub folder_in : Option Command → Option ℕ
+folder_in None = None
+folder_in (Some command) = cond (form_of command).folder (Some 1) None

@@ -1,0 +1,69 @@
+ghost use Rattle.std.specs.Prelude.{◌≡◌};
+ghost use Rattle.hera_words.specs.Words.{command_named, form_of};
+
+use crate::form::{Form, Number};
+
+/// What the words of the command line ask for.
+#[derive(Clone, Copy, PartialEq, Eq, Debug)]
+pub enum Command {
+    /// Says whether a script is accepted.
+    Check,
+    /// Lists the code of a script.
+    List,
+    /// Runs a script on an empty database with at most so many turns.
+    Eval(u64),
+    /// Runs the drill over so many rows, from 1 to 1000.
+    Drill(u64),
+    /// Makes the database of a script's relations, without rows.
+    Init,
+    /// Runs a script on the database in a folder with at most so many turns.
+    Run(u64),
+    /// Prints every relation of the database in a folder.
+    Dump,
+    /// Writes the other half of the folder anew and selects it.
+    Checkpoint,
+}
+
+impl Command {
+    /// The command of a name, with this number where it has one.
+    pub(crate) fn named(name: &str, number: u64) -> Option<Command>
+        ensures { result ≡ command_named name.now number }
+    {
+        match name {
+            "check" => Some(Command::Check),
+            "list" => Some(Command::List),
+            "eval" => Some(Command::Eval(number)),
+            "drill" => Some(Command::Drill(number)),
+            "init" => Some(Command::Init),
+            "run" => Some(Command::Run(number)),
+            "dump" => Some(Command::Dump),
+            "checkpoint" => Some(Command::Checkpoint),
+            _ => None,
+        }
+    }
+
+    /// The words behind its name.
+    pub(crate) fn form(self) -> Form
+        ensures { result ≡ form_of self }
+    {
+        match self {
+            Command::Check | Command::List => form(false, Number::Absent, 1),
+            Command::Eval(_) => form(false, Number::Turns, 1),
+            Command::Drill(_) => form(false, Number::Rows, 0),
+            Command::Init => form(true, Number::Absent, 1),
+            Command::Run(_) => form(true, Number::Turns, 1),
+            Command::Dump | Command::Checkpoint => form(true, Number::Absent, 0),
+        }
+    }
+}
+
+/// The form with these words.
+fn form(folder: bool, number: Number, files: usize) -> Form
+    ensures { result ≡ record { folder = folder; number = number; files = files } }
+{
+    Form {
+        folder,
+        number,
+        files,
+    }
+}
