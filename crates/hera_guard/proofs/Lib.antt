@@ -1,0 +1,7 @@
+mod Firsts
+mod Fields
+mod Added
+mod Quiet
+mod Walking
+mod Known
+mod Worked
