@@ -1,0 +1,5 @@
+pub mod Seats
+pub mod Standing
+pub mod Tasks
+pub mod Looms
+pub mod Rotas
