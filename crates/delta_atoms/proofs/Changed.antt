@@ -257,7 +257,7 @@ ascending_news xs ys up = ascending_filter _ ys up
 sign_at-news : (xs ys : List Atom) (k : Row) → IsAscending (keys_of ys) → sign_at (news xs ys) k ≡ new_sign (sign_at xs k) (sign_at ys k)
 sign_at-news xs ys k up = sign_at-filter (λ q s. not (gives (sign_at xs q) s)) ys k up
 
-sign_at-joint : (xs ys : List Atom) (k : Row) → IsAscending (keys_of xs) → sign_at (joint_atoms xs ys) k ≡ first_of (sign_at ys k) (keep (λ s. not (is_some (sign_at ys k))) (sign_at xs k))
+pub sign_at-joint : (xs ys : List Atom) (k : Row) → IsAscending (keys_of xs) → sign_at (joint_atoms xs ys) k ≡ first_of (sign_at ys k) (keep (λ s. not (is_some (sign_at ys k))) (sign_at xs k))
 sign_at-joint xs ys k up =
     sign_at-in_order (ys ++ unnamed xs ys) k
     ∙ sign_at-append ys (unnamed xs ys) k

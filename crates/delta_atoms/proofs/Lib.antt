@@ -7,3 +7,4 @@ pub mod Nexts
 pub mod Changed
 pub mod Looks
 pub mod Bulks
+pub mod Single

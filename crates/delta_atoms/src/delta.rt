@@ -259,9 +259,7 @@ impl Delta {
         match &mut self.form {
             Form::Fail(_) => Ok(()),
             Form::Empty(_) => {
-                let mut kept = PackedAtoms::new(self.alloc);
-                kept.put_over(second)?;
-                *self = Delta::of(self.alloc, kept)?;
+                *self = second.copy()?;
                 Ok(())
             }
             Form::Atoms(kept) => kept.put_over(second),
@@ -281,9 +279,7 @@ impl Delta {
         match &mut self.form {
             Form::Fail(_) => Ok(()),
             Form::Empty(_) => {
-                let mut kept = PackedAtoms::new(self.alloc);
-                kept.put_under(first)?;
-                *self = Delta::of(self.alloc, kept)?;
+                *self = first.copy()?;
                 Ok(())
             }
             Form::Atoms(kept) => kept.put_under(first),

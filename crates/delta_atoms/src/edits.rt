@@ -1,5 +1,5 @@
 //! Changes of the parts of a delta, by the atoms of another.
-ghost use Rattle.std.specs.Prelude.{◌≡◌, false, cond, [], ◌∷◌, ◌++◌, IfOk, OnOk, OnErr};
+ghost use Rattle.std.specs.Prelude.{◌≡◌, false, cond, [], ◌∷◌, ◌++◌, IfOk, OnOk, OnErr, IfSome};
 ghost use Rattle.hera_meaning.specs.Deltas.{atoms, is_fail, IsDelta, keys_of, joint_atoms, key_of, unnamed};
 ghost use Rattle.hera_sets.specs.Rows.{IsAscending, holds};
 ghost use Rattle.delta_atoms.specs.Atoms.{atom_of, atoms_in, sign_at, with_last};
@@ -31,15 +31,58 @@ pub(crate) fn push_last(
     Ok(())
 }
 
-/// Puts the second delta over the atoms of the parts. Without memory the atoms are as before.
-///
-/// All rows are put in first, and then the same rows taken out where they stand with the other
-/// sign, which takes no memory. Where a row can't be put in, those put in are taken out again.
+/// Puts the second delta over the atoms of the parts. Without memory the atoms are as before. One atom takes no list of its
+/// own.
 pub(crate) fn put_over(
     parts: &mut Vec<DeltaPart>,
     alloc: Global,
     second: &Delta,
 ) -> Result<(), AllocError>
+    requires { ArePacked parts.old.items }
+    ensures packed { ArePacked parts.new.items }
+    ensures ok { OnOk result (atoms_of parts.new.items ≡ joint_atoms (atoms_of parts.old.items) (atoms_in second.now)) }
+    ensures err { OnErr result (atoms_of parts.new.items ≡ atoms_of parts.old.items) }
+{
+    match only_atom(second) {
+        Some(atom) => put_one_over(parts, alloc, atom),
+        None => put_all_over(parts, alloc, second),
+    }
+}
+
+/// The atom of a delta that has no other.
+fn only_atom(delta: &Delta) -> Option<AtomRef<'_>>
+    ensures { IfSome result (λ atom. atoms_in delta.now ≡ atom_in atom ∷ []) }
+{
+    if delta.is_fail() || delta.count() != 1 {
+        return None;
+    }
+    delta.above(None)
+}
+
+/// Puts one atom over those of the parts. Without memory the atoms are as before.
+fn put_one_over(
+    parts: &mut Vec<DeltaPart>,
+    alloc: Global,
+    atom: AtomRef<'_>,
+) -> Result<(), AllocError>
+    requires { ArePacked parts.old.items }
+    ensures packed { ArePacked parts.new.items }
+    ensures ok { OnOk result (atoms_of parts.new.items ≡ joint_atoms (atoms_of parts.old.items) (atom_in atom.entry ∷ [])) }
+    ensures err { OnErr result (atoms_of parts.new.items ≡ atoms_of parts.old.items) }
+{
+    if has(parts, atom) {
+        return Ok(());
+    }
+    put_row(parts, alloc, atom.sign, atom.rel, atom.row)?;
+    take_row(parts, turned(true, atom.sign), atom.rel, atom.row);
+    Ok(())
+}
+
+/// Puts the second delta over the atoms of the parts. Without memory the atoms are as before.
+///
+/// All rows are put in first, and then the same rows taken out where they stand with the other
+/// sign, which takes no memory. Where a row can't be put in, those put in are taken out again.
+fn put_all_over(parts: &mut Vec<DeltaPart>, alloc: Global, second: &Delta) -> Result<(), AllocError>
     requires { ArePacked parts.old.items }
     ensures packed { ArePacked parts.new.items }
     ensures ok { OnOk result (atoms_of parts.new.items ≡ joint_atoms (atoms_of parts.old.items) (atoms_in second.now)) }

@@ -5,7 +5,7 @@ use Rattle.delta_atoms.specs.declared.parts.DeltaPart.{DeltaPart}
 use Rattle.delta_atoms.specs.Parts.{atoms_of}
 use Rattle.delta_atoms.specs.Edits.{PutsAll, PutsSome, TakesAll}
 use Rattle.delta_atoms.proofs.Looks.{atoms_up}
-use Rattle.delta_atoms.proofs.Changed.{same_atoms_of, same_packed, under_packed, under_atoms, under_undone}
+use Rattle.delta_atoms.proofs.Changed.{same_atoms_of, under_packed, under_atoms, under_undone}
 use Rattle.delta_atoms.proofs.edits.put_under.Goals as goal
 
 pub returns-in-Ok-clause-ok : goal.returns-in-Ok-clause-ok

@@ -6,7 +6,7 @@ use Rattle.delta_atoms.specs.Parts.{atoms_of}
 use Rattle.delta_atoms.specs.Edits.{PutsAll, PutsSome, TakesAll, news}
 use Rattle.delta_atoms.proofs.Looks.{atoms_up}
 use Rattle.delta_atoms.proofs.Changed.{same_atoms_of, over_atoms, undone}
-use Rattle.delta_atoms.proofs.edits.put_over.Goals as goal
+use Rattle.delta_atoms.proofs.edits.put_all_over.Goals as goal
 
 pub returns-in-Ok-clause-ok : goal.returns-in-Ok-clause-ok
 returns-in-Ok-clause-ok c =
