@@ -17,7 +17,7 @@ use delta_atoms::Delta;
 use hera_meaning::{RelDecl, RelId, Schema};
 use std::alloc::{AllocError, Global};
 use std::marker::Model;
-use when_overlay::{Change, Hyp, Layers, Stored, View, change_of};
+use when_overlay::{Change, IndexedHyp, Layers, Stored, View, change_of};
 
 /// The deltas under which a machine reads: the pending delta, and upon it those of `when`. None is `fail`.
 ///
@@ -180,7 +180,7 @@ impl<'c> Changes<'c> {
 
     /// The rows of a relation after the commits, the pending delta and the layers up to this one. Where
     /// there is no layer of this number, they are those after the pending delta. It takes no memory.
-    pub fn rel<'a>(&'a self, stored: &'a Stored<'a>, rel: RelId, tip: usize) -> Hyp<'a>
+    pub fn rel<'a>(&'a self, stored: &'a Stored<'a>, rel: RelId, tip: usize) -> IndexedHyp<'a>
         requires { rel.0 < length stored.now.catalogue }
         ensures { slice_get (seen_at stored.now.state self.now.layers tip) rel.0 ≡ Some result }
     {
@@ -190,11 +190,11 @@ impl<'c> Changes<'c> {
             layers: &self.layers,
             tip: Some(self.there(tip)),
         };
-        view.rel(rel)
+        view.indexed(rel)
     }
 
     /// The rows of a relation after the commits and the pending delta. It takes no memory.
-    pub(crate) fn pending_rel<'a>(&'a self, stored: &'a Stored<'a>, rel: RelId) -> Hyp<'a>
+    pub(crate) fn pending_rel<'a>(&'a self, stored: &'a Stored<'a>, rel: RelId) -> IndexedHyp<'a>
         requires { rel.0 < length stored.now.catalogue }
         ensures { slice_get (apply_of stored.now.state (pending_of self.now.layers)) rel.0 ≡ Some result }
     {

@@ -6,12 +6,12 @@ ghost use Rattle.hera_sets.specs.Rows.{is_past};
 
 use hera_rows::RowSet;
 use std::alloc::{AllocError, Global};
-use when_overlay::{Hyp, ViewMark};
+use when_overlay::{IndexedHyp, ViewMark};
 
 /// The rows past the bound, as a set. No bound lets every row pass.
 pub(crate) fn collect_past(
     alloc: Global,
-    rows: &Hyp<'_>,
+    rows: &IndexedHyp<'_>,
     bound: Option<&[u8]>,
 ) -> Result<RowSet, AllocError>
     ensures { IfOk result (λ set. set ≡ filter (is_past (option_copied bound.entry)) rows.now) }
@@ -23,7 +23,11 @@ pub(crate) fn collect_past(
 }
 
 /// The rows past the bound, as a set, sought one by one.
-fn collect_behind(alloc: Global, rows: &Hyp<'_>, bound: Option<&[u8]>) -> Result<RowSet, AllocError>
+fn collect_behind(
+    alloc: Global,
+    rows: &IndexedHyp<'_>,
+    bound: Option<&[u8]>,
+) -> Result<RowSet, AllocError>
     ensures { IfOk result (λ set. set ≡ filter (is_past (option_copied bound.entry)) rows.now) }
 {
     let mut set = RowSet::new(alloc);

@@ -6,15 +6,14 @@ ghost use Rattle.hera_meaning.specs.Rows.{is_row};
 use crate::kinds::have_same_kinds;
 use hera_meaning::Schema;
 use hera_rows::{RowMark, Sorted};
-use rel_pages::PageRel;
 use std::marker::Model;
-use when_overlay::Hyp;
+use when_overlay::IndexedHyp;
 
 /// The rows of a relation that is named, as it is under a layer, and a schema of which all of them are known to
 /// be, where one is known.
 #[derive(Drop)]
 pub struct Sight<'a> {
-    rows: Hyp<'a>,
+    rows: IndexedHyp<'a>,
     schema: Option<&'a Schema>,
 }
 
@@ -32,7 +31,7 @@ impl<'a> Model for Sight<'a> {
 
 impl<'a> Sight<'a> {
     /// These rows, which are all of the schema, where one is given.
-    pub(crate) fn new(rows: Hyp<'a>, schema: Option<&'a Schema>) -> Sight<'a>
+    pub(crate) fn new(rows: IndexedHyp<'a>, schema: Option<&'a Schema>) -> Sight<'a>
         requires { IfSome schema (λ schema. list_all (is_row schema.now) rows ≡ true) }
         ensures { result ≡ rows.entry }
     {
@@ -55,7 +54,7 @@ impl<'a> Sight<'a> {
         ensures { result ≡ self.now }
     {
         Sight {
-            rows: again(&self.rows),
+            rows: self.rows.again(),
             schema: self.schema,
         }
     }
@@ -86,22 +85,5 @@ impl<'a> Sorted for Sight<'a> {
 
     fn has(&self, row: &[u8]) -> bool {
         self.rows.has(row)
-    }
-}
-
-/// The same rows.
-fn again<'a>(view: &Hyp<'a>) -> Hyp<'a>
-    ensures { result ≡ view.now }
-{
-    Hyp {
-        pages: PageRel {
-            schema: view.pages.schema,
-            pages: view.pages.pages,
-            page: view.pages.page,
-        },
-        commits: view.commits,
-        layers: view.layers,
-        tip: view.tip,
-        rel: view.rel,
     }
 }

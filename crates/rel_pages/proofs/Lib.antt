@@ -10,3 +10,5 @@ pub mod Evens
 pub mod Nears
 pub mod Counts
 pub mod Leadings
+pub mod Beginnings
+pub mod Gathered

@@ -4,3 +4,4 @@ pub mod Rels
 pub mod Parts
 pub mod Halves
 pub mod Looks
+pub mod Starts

@@ -1,5 +1,7 @@
 //! The rows of each relation of a catalogue, in the bytes of a half.
-ghost use Rattle.std.specs.Prelude.{◌≡◌, ◌<◌, ◌≤◌, length, slice_get, replicate, Some, IfOk};
+ghost use Rattle.std.specs.Prelude.{◌≡◌, ◌<◌, ◌≤◌, ◌⊎◌, [], length, slice_get, replicate, Some, IfOk, Vec};
+ghost use Rattle.std.specs.Global.{Global};
+ghost use Rattle.rel_pages.specs.declared.starts.RowStart.{RowStart};
 ghost use Rattle.hera_meaning.specs.Deltas.{IsState};
 ghost use Rattle.rel_format.specs.Pages.{format_two, half_of, pages_of};
 ghost use Rattle.rel_format.specs.Versions.{version_in};
@@ -7,8 +9,10 @@ ghost use Rattle.rel_pages.specs.Stored.{empty_state};
 ghost use Rattle.rel_pages.specs.Halves.{HalfIs};
 
 use crate::half::parts_of;
+use crate::indexed::IndexedRel;
 use crate::page_rel::PageRel;
 use crate::parts::RelationPages;
+use crate::starts::{RowStart, all_starts};
 use hera_meaning::RelId;
 use hera_row::Catalogue;
 use rel_format::{HALF_LIMIT, PageFault, Version, header_bytes, rest_at};
@@ -23,6 +27,8 @@ pub struct Base {
     catalogue: Catalogue,
     bytes: Vec<u8>,
     parts: Vec<RelationPages>,
+    /// Where rows begin, a list for each relation.
+    starts: Vec<Vec<RowStart>>,
     journal: usize,
 }
 
@@ -30,12 +36,13 @@ impl Model for Base {
     ghost use Rattle.rel_format.specs.Versions.{format_of};
     ghost use Rattle.rel_pages.specs.Stored.{Stored};
     ghost use Rattle.rel_pages.specs.Parts.{state_of, IsBase};
+    ghost use Rattle.rel_pages.specs.Starts.{AreStarts};
 
     ghost Value = { Stored };
 
     ghost view = { λ b. record { version = b.version; catalogue = b.catalogue; state = state_of (format_of b.version).page b.catalogue b.parts.items b.bytes.items; bytes = b.bytes.items; journal = b.journal } };
 
-    ghost invariant = { λ b. IsBase (format_of b.version) b.catalogue b.parts.items b.bytes.items b.journal };
+    ghost invariant = { λ b. IsBase (format_of b.version) b.catalogue b.parts.items b.bytes.items b.journal × AreStarts (format_of b.version).page b.catalogue b.parts.items b.bytes.items b.starts.items };
 }
 
 /// Reads a half of either format up to its first gate. `Damaged` tells the length of the longest good prefix, or
@@ -47,14 +54,20 @@ pub fn read_half(alloc: Global, bytes: Vec<u8>) -> Result<Base, PageFault>
         return Err(PageFault::Damaged { at: HALF_LIMIT });
     }
     let version = Version::of(&bytes);
-    let ((catalogue, parts), journal) = parts_of(alloc, version.magic(), version.page(), &bytes)?;
-    Ok(Base {
-        version,
-        catalogue,
-        bytes,
-        parts,
-        journal,
-    })
+    let page = version.page();
+    let mut read = Vec::new(alloc);
+    let ((catalogue, parts), journal) = parts_of(alloc, version.magic(), page, &bytes, &mut read)?;
+    match all_starts(alloc, page, &catalogue, &parts, &bytes, &read) {
+        Ok(starts) => Ok(Base {
+            version,
+            catalogue,
+            bytes,
+            parts,
+            starts,
+            journal,
+        }),
+        Err(_) => Err(PageFault::Memory),
+    }
 }
 
 impl Base {
@@ -80,6 +93,7 @@ impl Base {
             catalogue,
             bytes,
             parts,
+            starts: Vec::new(alloc),
             journal,
         })
     }
@@ -129,6 +143,32 @@ impl Base {
             },
             None => unreachable!(),
         }
+    }
+
+    /// The same rows as `rel` gives, in which a search walks few of them. It takes no memory.
+    pub fn indexed(&self, rel: RelId) -> IndexedRel<'_>
+        requires { rel.0 < length self.now.catalogue }
+        ensures { slice_get self.now.state rel.0 ≡ Some result }
+    {
+        let Some(part) = self.parts.get(rel.0 as usize) else {
+            unreachable!()
+        };
+        IndexedRel {
+            schema: &self.catalogue.decl(rel).schema,
+            pages: rest_at(&self.bytes, part.at).split_at(part.len).0,
+            page: self.version.page(),
+            starts: starts_at(&self.starts, rel),
+        }
+    }
+}
+
+/// The list of a relation, or none.
+fn starts_at(lists: &[Vec<RowStart>], rel: RelId) -> &[RowStart]
+    ensures { (result.now ≡ []) ⊎ ((starts : Vec RowStart Global) × (slice_get lists.now rel.0 ≡ Some starts) × (result.now ≡ starts.items)) }
+{
+    match lists.get(rel.0 as usize) {
+        Some(starts) => starts.as_slice(),
+        None => &[],
     }
 }
 

@@ -4,14 +4,17 @@
 mod base;
 mod fields;
 mod half;
+mod indexed;
 mod leading;
 mod near;
 mod page_rel;
 mod pages;
 mod parts;
 mod place;
+mod starts;
 
 pub use base::{Base, read_half};
+pub use indexed::IndexedRel;
 pub use page_rel::PageRel;
 pub use place::{Near, Place};
 pub use rel_format::PageFault;
@@ -213,6 +216,36 @@ mod tests {
             for page in [0, 1, 2, usize::MAX] {
                 let found = rows.above_near(Some(&row), Place { page, row: 7 });
                 assert_eq!(rt; found.row, near.row);
+            }
+        }
+        assert!(rt; near.row.is_none());
+        Ok(())
+    }
+
+    #[test]
+    fn rows_are_found_from_where_some_begin(rt: HostRuntime) -> Result<(), Fail> {
+        let base = two_pages_of_texts(rt.alloc())?;
+        assert_eq!(rt; base.catalogue().len(), 1);
+        let rows = base.rel(RelId(0));
+        let indexed = base.indexed(RelId(0)).again();
+        assert_eq!(rt; indexed.len(), 50);
+        assert!(rt; !indexed.is_empty());
+        assert_eq!(rt; indexed.above(None), rows.above(None));
+        for last in 32..84 {
+            let row = text(rt.alloc(), last)?;
+            assert_eq!(rt; indexed.has(&row), rows.has(&row));
+            assert_eq!(rt; indexed.above(Some(&row)), rows.above(Some(&row)));
+        }
+        let mut near = indexed.above_near(None, Place::start());
+        for last in 33..83 {
+            let row = text(rt.alloc(), last)?;
+            assert_eq!(rt; near.row, Some(row.as_slice()));
+            near = indexed.above_near(Some(&row), near.place);
+            for page in [0, 1, 2, 3, usize::MAX] {
+                for number in [0, 31, 32, 40, usize::MAX] {
+                    let place = Place { page, row: number };
+                    assert_eq!(rt; indexed.above_near(Some(&row), place).row, near.row);
+                }
             }
         }
         assert!(rt; near.row.is_none());

@@ -55,7 +55,7 @@ impl<'a> PageRel<'a> {
 }
 
 /// The rows past this one are looked for, or any.
-fn past(bound: Option<&[u8]>) -> Bound<'_>
+pub(crate) fn past(bound: Option<&[u8]>) -> Bound<'_>
     ensures { passes result ≡ is_past (option_copied bound.entry) }
 {
     match bound {
@@ -65,7 +65,7 @@ fn past(bound: Option<&[u8]>) -> Bound<'_>
 }
 
 /// The first row that is looked for: beside the place, or else by a search.
-fn first_near<'r>(
+pub(crate) fn first_near<'r>(
     schema: &Schema,
     pages: &'r [u8],
     page: usize,

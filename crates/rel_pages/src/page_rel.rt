@@ -160,7 +160,7 @@ pub(crate) fn leading_at<'r>(
 }
 
 /// The first row that is looked for on the pages from the number `before` on, which are given, of so many.
-fn first_in_pages<'r>(
+pub(crate) fn first_in_pages<'r>(
     schema: &Schema,
     pages: &'r [u8],
     page: usize,
@@ -195,7 +195,7 @@ fn first_in_pages<'r>(
 }
 
 /// How many rows so many pages have, by their heads. The number fits, since each row has a byte.
-fn count_in_pages(schema: &Schema, pages: &[u8], page: usize, count: usize) -> usize
+pub(crate) fn count_in_pages(schema: &Schema, pages: &[u8], page: usize, count: usize) -> usize
     requires { ArePagesOf schema.now page count pages.now }
     ensures { result ≡ length (pages_rows schema.now page count pages.now) }
 {
@@ -320,7 +320,7 @@ pub(crate) fn row_count(page: &[u8]) -> usize
 
 /// The first row that is looked for of those from the number `before` on, which are given, of so many on the
 /// page of this number.
-fn first_of<'r>(
+pub(crate) fn first_of<'r>(
     schema: &Schema,
     bytes: &'r [u8],
     before: usize,
@@ -356,7 +356,7 @@ fn first_of<'r>(
 }
 
 /// The first row, and the bytes behind it.
-fn first_row<'r>(schema: &Schema, bytes: &'r [u8]) -> (&'r [u8], &'r [u8])
+pub(crate) fn first_row<'r>(schema: &Schema, bytes: &'r [u8]) -> (&'r [u8], &'r [u8])
     requires { is_some (row_len_of schema.now bytes.now) ≡ true }
     ensures row { row_len_of schema.now bytes.entry.now ≡ Some (length result.0.now) }
     ensures bytes { result.0.now ++ result.1.now ≡ bytes.entry.now }

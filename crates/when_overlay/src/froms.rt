@@ -15,10 +15,10 @@ use delta_atoms::Delta;
 use hera_meaning::{RelId, Sign};
 use hera_rows::RowSet;
 use hera_sets::is_same;
-use rel_pages::{PageRel, Place};
+use rel_pages::{IndexedRel, Place};
 
 /// Whether the row stands in the pages, and about where: it is looked for beside the place first.
-fn stands_near(pages: &PageRel<'_>, row: &[u8], place: Place) -> (bool, Place)
+fn stands_near(pages: &IndexedRel<'_>, row: &[u8], place: Place) -> (bool, Place)
     ensures found { result.0 ≡ holds pages.now row.now }
     ensures ordered { IsAscending pages.now }
 {
@@ -31,7 +31,7 @@ fn stands_near(pages: &PageRel<'_>, row: &[u8], place: Place) -> (bool, Place)
 
 /// Whether the row is there, and about where it stands in the pages.
 fn has_near(
-    pages: &PageRel<'_>,
+    pages: &IndexedRel<'_>,
     commits: &[Delta],
     layers: &Layers,
     tip: Option<usize>,
@@ -53,7 +53,7 @@ fn has_near(
 /// The first row from the bound on of those that are there: the bound, or else the first one past it, which is looked
 /// for where the bound would stand.
 fn not_below_met<'s>(
-    pages: &'s PageRel<'_>,
+    pages: &IndexedRel<'s>,
     commits: &'s [Delta],
     layers: &'s Layers,
     tip: Option<usize>,
@@ -94,7 +94,7 @@ fn not_below_alone<'s>(rows: &'s RowSet, bound: &[u8], mark: ViewMark) -> SeenRo
 
 /// The first row from the bound on that is there, and about where it stands: there it is looked for first.
 pub(crate) fn not_below_near<'s>(
-    pages: &'s PageRel<'_>,
+    pages: &IndexedRel<'s>,
     commits: &'s [Delta],
     layers: &'s Layers,
     tip: Option<usize>,

@@ -8,6 +8,7 @@
 
 mod counts;
 mod froms;
+mod indexed;
 mod layers;
 mod marks;
 mod seeks;
@@ -16,6 +17,7 @@ mod stored;
 mod views;
 
 pub use counts::{Change, change_of};
+pub use indexed::IndexedHyp;
 pub use layers::Layers;
 pub use marks::{SeenRow, ViewMark};
 pub use stored::Stored;
@@ -80,7 +82,7 @@ mod tests {
             layers,
             tip: Some(layers.len() - 1),
         };
-        Ok(view.rel(RelId(0)).collect(alloc)?)
+        Ok(view.indexed(RelId(0)).again().collect(alloc)?)
     }
 
     /// How many rows R has after the layers up to the newest one.
@@ -92,7 +94,7 @@ mod tests {
             layers,
             tip: Some(layers.len() - 1),
         };
-        view.rel(RelId(0)).count()
+        view.indexed(RelId(0)).count()
     }
 
     #[test]

@@ -16,7 +16,7 @@ use delta_atoms::Delta;
 use hera_meaning::{RelId, Sign};
 use hera_rows::{RowSet, Sorted};
 use hera_sets::{is_below, is_same};
-use rel_pages::{Near, PageRel, Place};
+use rel_pages::{IndexedRel, Near, Place};
 
 /// The lesser of two rows, where a row stands before none.
 fn lesser<'s>(x: Option<&'s [u8]>, y: Option<&'s [u8]>) -> Option<&'s [u8]>
@@ -103,7 +103,7 @@ pub(crate) fn named_above<'s>(
 /// The first row past the bound of those that stand in the pages or that a commit or a layer puts in, and
 /// about where it stands in the pages.
 fn met_near<'s>(
-    pages: &'s PageRel<'_>,
+    pages: &IndexedRel<'s>,
     commits: &'s [Delta],
     layers: &'s Layers,
     tip: Option<usize>,
@@ -198,7 +198,7 @@ struct Met<'s> {
 
 /// The first row past the bound of those that are met, where there are no layers.
 fn met_without<'s>(
-    pages: &'s PageRel<'_>,
+    pages: &IndexedRel<'s>,
     commits: &'s [Delta],
     layers: &'s Layers,
     rel: RelId,
@@ -224,7 +224,7 @@ fn met_without<'s>(
 /// The first row past the bound of those that are met, where this layer is the newest: one of those that it
 /// puts in, which is there, or one met below it.
 fn met_under<'s>(
-    pages: &'s PageRel<'_>,
+    pages: &IndexedRel<'s>,
     commits: &'s [Delta],
     layers: &'s Layers,
     i: usize,
@@ -261,7 +261,7 @@ fn met_under<'s>(
 
 /// The first row past the bound of those that are met, and whether it is there.
 fn met_next<'s>(
-    pages: &'s PageRel<'_>,
+    pages: &IndexedRel<'s>,
     commits: &'s [Delta],
     layers: &'s Layers,
     tip: Option<usize>,
@@ -283,7 +283,7 @@ fn met_next<'s>(
 /// The first row past the bound of those that are there, found among those that are met: what was met and taken
 /// out again is passed over.
 pub(crate) fn above_met<'s>(
-    pages: &'s PageRel<'_>,
+    pages: &IndexedRel<'s>,
     commits: &'s [Delta],
     layers: &'s Layers,
     tip: Option<usize>,
@@ -311,7 +311,7 @@ pub(crate) fn above_met<'s>(
 }
 
 /// Whether nothing stands in the pages, and nothing is below a layer with this parent.
-fn is_bare(pages: &PageRel<'_>, commits: &[Delta], parent: Option<usize>) -> bool
+fn is_bare(pages: &IndexedRel<'_>, commits: &[Delta], parent: Option<usize>) -> bool
     ensures pages { result ≡ true → pages.now ≡ [] }
     ensures commits { result ≡ true → commits.now ≡ [] }
     ensures parent { result ≡ true → parent ≡ None }
@@ -322,7 +322,7 @@ fn is_bare(pages: &PageRel<'_>, commits: &[Delta], parent: Option<usize>) -> boo
 /// The rows that the layer at the tip puts in, where these are all that are there: nothing stands in the pages, and
 /// no delta is below.
 pub(crate) fn put_in_alone<'s>(
-    pages: &PageRel<'_>,
+    pages: &IndexedRel<'_>,
     commits: &[Delta],
     layers: &'s Layers,
     tip: Option<usize>,
@@ -356,7 +356,7 @@ fn above_alone<'s>(rows: &'s RowSet, bound: Option<&[u8]>, mark: ViewMark) -> Se
 
 /// The first row past the bound that is there, and about where it stands: there it is looked for first.
 pub(crate) fn above_near<'s>(
-    pages: &'s PageRel<'_>,
+    pages: &IndexedRel<'s>,
     commits: &'s [Delta],
     layers: &'s Layers,
     tip: Option<usize>,

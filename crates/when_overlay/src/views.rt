@@ -6,6 +6,7 @@ ghost use Rattle.hera_sets.specs.Rows.{is_past, IsAscending, holds};
 ghost use Rattle.when_overlay.specs.Changed.{after_all, rows_after};
 ghost use Rattle.when_overlay.specs.Layered.{IsTip, path};
 
+use crate::indexed::IndexedHyp;
 use crate::{Layers, SeenRow, ViewMark, counts, froms, seeks};
 use delta_atoms::Delta;
 use hera_meaning::RelId;
@@ -33,6 +34,21 @@ impl<'a> View<'a> {
     {
         Hyp {
             pages: self.base.rel(rel),
+            commits: self.commits,
+            layers: self.layers,
+            tip: self.tip,
+            rel,
+        }
+    }
+
+    /// The same rows as `rel` gives, in which a search walks few of the pages' rows. It takes no memory.
+    pub fn indexed(&self, rel: RelId) -> IndexedHyp<'a>
+        requires tip { IsTip self.now.layers.now.layers self.now.tip }
+        requires there { rel.0 < length self.now.base.now.catalogue }
+        ensures { slice_get (after_all self.now.base.now.state (self.now.commits.now ++ path self.now.layers.now.layers self.now.tip)) rel.0 ≡ Some result }
+    {
+        IndexedHyp {
+            pages: self.base.indexed(rel),
             commits: self.commits,
             layers: self.layers,
             tip: self.tip,
@@ -84,7 +100,7 @@ impl<'a> Sorted for Hyp<'a> {
 
     fn not_below<'s>(&'s self, bound: &'s [u8], mark: &mut hera_rows::RowMark) -> Option<&'s [u8]> {
         let found = froms::not_below_near(
-            &self.pages,
+            &self.pages.indexed(),
             self.commits,
             self.layers,
             self.tip,
@@ -117,7 +133,7 @@ impl<'a> Hyp<'a> {
         ensures ordered { IsAscending self.now }
     {
         seeks::above_near(
-            &self.pages,
+            &self.pages.indexed(),
             self.commits,
             self.layers,
             self.tip,
@@ -131,27 +147,19 @@ impl<'a> Hyp<'a> {
     pub fn collect(&self, alloc: Global) -> Result<RowSet, AllocError>
         ensures { IfOk result (λ rows. rows ≡ self.now) }
     {
-        match seeks::put_in_alone(&self.pages, self.commits, self.layers, self.tip, self.rel) {
-            Some(rows) => rows.copy(),
-            None => self.collect_met(alloc),
-        }
+        self.indexed().collect(alloc)
     }
 
-    /// A set of its own with the same rows, which are sought one by one.
-    fn collect_met(&self, alloc: Global) -> Result<RowSet, AllocError>
-        ensures { IfOk result (λ rows. rows ≡ self.now) }
+    /// The same rows, of which none is told where it begins.
+    fn indexed(&self) -> IndexedHyp<'a>
+        ensures { result ≡ self.now }
     {
-        let mut set = RowSet::new(alloc);
-        let mut last: Option<&[u8]> = None;
-        let mut mark = ViewMark::start();
-        loop {
-            let next = self.above_near(last, mark);
-            let Some(row) = next.row else {
-                return Ok(set);
-            };
-            set.push_last(row)?;
-            last = Some(row);
-            mark = next.mark;
+        IndexedHyp {
+            pages: self.pages.indexed(),
+            commits: self.commits,
+            layers: self.layers,
+            tip: self.tip,
+            rel: self.rel,
         }
     }
 

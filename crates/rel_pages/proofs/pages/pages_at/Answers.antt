@@ -16,6 +16,7 @@ loop-init c = record {
   few = λ i. let z : get_or c.in_ok-lens.lens.items i 0 ≤ 0 = subst (λ xs. get_or xs i 0 ≤ 0) (sym c.in_ok-lens.ensures.ok) (get_none c.len.result i) in omega (arith, z);
   size = ap length c.in_ok-lens.ensures.ok ∙ length-replicate c.len.result 0 ∙ c.len.ensures.count;
   last = tt;
+  starts = c.requires.starts;
   read = λ f p r. subst (PagesOn f c.args.bytes.now c.args.page (c.args.at + 4) c.args.rels.now None c.in_ok-lens.lens.items) (omega arith) (counted f c.args.bytes.now c.args.page c.args.at c.args.rels.now c.in_ok-lens.lens.items c.in-Some.count c.len.result c.in-Some.ensures.value c.in_ok-lens.ensures.ok c.len.ensures.count r);
 }
 
@@ -38,6 +39,7 @@ loop-preserved c = record {
       (small_set c.loop.lens.items c.in_ok-end.end.rel i (get_or c.loop.lens.items c.in_ok-end.end.rel 0 + c.args.page) c.in_ok-end.behind (λ k. let low = c.loop.invariant.few k in omega (arith, low, place)) (omega (arith, old, place)));
   size = ap length c.add_page.ensures ∙ length-set c.loop.lens.items c.in_ok-end.end.rel _ ∙ c.loop.invariant.size;
   last = c.in_ok-end.ensures.used;
+  starts = c.in_ok-end.ensures.starts;
   read = λ f p r.
       let left = c.in-Some.count - (c.loop.counter + 1) in
       let on = left_one f c.args.bytes.now c.args.page c.loop.at c.args.rels.now (option_map told c.loop.last) c.loop.lens.items c.in-Some.count c.loop.counter c.loop-test.true (c.loop.invariant.read f p r) in

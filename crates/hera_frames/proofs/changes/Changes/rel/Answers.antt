@@ -19,4 +19,4 @@ returns c =
     ∙ ap (λ (x : State). slice_get (seen_at x c.args.self.now.layers c.there.result) c.args.rel.0) same
     ∙ ap (λ (r : Branches). slice_get (seen_at (after_all s commits) r.layers c.there.result) c.args.rel.0) (sym c.self.view_is)
     ∙ ap (λ t. slice_get t c.args.rel.0) (sym (read_state s commits ls c.there.result c.self.invariant.0 valid within))
-    ∙ c.rel.ensures
+    ∙ c.indexed.ensures

@@ -9,30 +9,30 @@ use Rattle.rel_pages.proofs.base.Base.rel.Goals as goal
 
 pub rest_at-requires : goal.rest_at-requires
 rest_at-requires c =
-    let here = rel_part (format_of c.self.inside.version) c.self.inside.catalogue c.self.inside.parts.items c.deref.result.now c.self.inside.bytes.items c.self.inside.journal c.args.rel.0 c.decl.result.now c.in-Some.part.now c.self.invariant c.decl.ensures.decl c.deref.ensures.value c.in-Some.ensures.lookup.0 c.in-Some.ensures.lookup.1 in
+    let here = rel_part (format_of c.self.inside.version) c.self.inside.catalogue c.self.inside.parts.items c.deref.result.now c.self.inside.bytes.items c.self.inside.journal c.args.rel.0 c.decl.result.now c.in-Some.part.now c.self.invariant.0 c.decl.ensures.decl c.deref.ensures.value c.in-Some.ensures.lookup.0 c.in-Some.ensures.lookup.1 in
     let same = ap (λ (x : List ℕ). length x) c.deref-in-Some.ensures.value in
     omega (arith, here.within, same)
 
 pub split_at-requires : goal.split_at-requires
 split_at-requires c =
-    let here = rel_part (format_of c.self.inside.version) c.self.inside.catalogue c.self.inside.parts.items c.deref.result.now c.self.inside.bytes.items c.self.inside.journal c.args.rel.0 c.decl.result.now c.in-Some.part.now c.self.invariant c.decl.ensures.decl c.deref.ensures.value c.in-Some.ensures.lookup.0 c.in-Some.ensures.lookup.1 in
+    let here = rel_part (format_of c.self.inside.version) c.self.inside.catalogue c.self.inside.parts.items c.deref.result.now c.self.inside.bytes.items c.self.inside.journal c.args.rel.0 c.decl.result.now c.in-Some.part.now c.self.invariant.0 c.decl.ensures.decl c.deref.ensures.value c.in-Some.ensures.lookup.0 c.in-Some.ensures.lookup.1 in
     let same = ap (λ (x : List ℕ). length x) c.deref-in-Some.ensures.value in
     let rest = ap (λ (x : List ℕ). length x) c.rest_at.ensures in
     omega (arith, here.within, same, rest, length-drop c.in-Some.part.now.at c.deref-in-Some.result.now)
 
 pub unreachable-requires : goal.unreachable-requires
 unreachable-requires c =
-    no_rel (format_of c.self.inside.version) c.self.inside.catalogue c.args.self.now.catalogue c.self.inside.parts.items c.deref.result.now c.self.inside.bytes.items c.self.inside.journal c.args.rel.0 c.self.invariant c.requires (ap (λ (b : Stored). b.catalogue) c.self.view_is) c.deref.ensures.value c.in-None.ensures.lookup.0
+    no_rel (format_of c.self.inside.version) c.self.inside.catalogue c.args.self.now.catalogue c.self.inside.parts.items c.deref.result.now c.self.inside.bytes.items c.self.inside.journal c.args.rel.0 c.self.invariant.0 c.requires (ap (λ (b : Stored). b.catalogue) c.self.view_is) c.deref.ensures.value c.in-None.ensures.lookup.0
 
 pub invariant_of-result : goal.invariant_of-result
 invariant_of-result c =
-    let here = rel_part (format_of c.self.inside.version) c.self.inside.catalogue c.self.inside.parts.items c.deref.result.now c.self.inside.bytes.items c.self.inside.journal c.args.rel.0 c.decl.result.now c.in-Some.part.now c.self.invariant c.decl.ensures.decl c.deref.ensures.value c.in-Some.ensures.lookup.0 c.in-Some.ensures.lookup.1 in
+    let here = rel_part (format_of c.self.inside.version) c.self.inside.catalogue c.self.inside.parts.items c.deref.result.now c.self.inside.bytes.items c.self.inside.journal c.args.rel.0 c.decl.result.now c.in-Some.part.now c.self.invariant.0 c.decl.ensures.decl c.deref.ensures.value c.in-Some.ensures.lookup.0 c.in-Some.ensures.lookup.1 in
     subst (IsPaged c.decl.result.now.schema c.page.result) (sym (c.split_at.ensures.front ∙ ap (take c.in-Some.part.now.len) (c.rest_at.ensures ∙ ap (drop c.in-Some.part.now.at) c.deref-in-Some.ensures.value)))
     (subst (λ (n : ℕ). IsPaged c.decl.result.now.schema n (part_bytes c.self.inside.bytes.items c.in-Some.part.now)) (sym c.page.ensures) here.paged)
 
 pub returns : goal.returns
 returns c =
-    let here = rel_part (format_of c.self.inside.version) c.self.inside.catalogue c.self.inside.parts.items c.deref.result.now c.self.inside.bytes.items c.self.inside.journal c.args.rel.0 c.decl.result.now c.in-Some.part.now c.self.invariant c.decl.ensures.decl c.deref.ensures.value c.in-Some.ensures.lookup.0 c.in-Some.ensures.lookup.1 in
+    let here = rel_part (format_of c.self.inside.version) c.self.inside.catalogue c.self.inside.parts.items c.deref.result.now c.self.inside.bytes.items c.self.inside.journal c.args.rel.0 c.decl.result.now c.in-Some.part.now c.self.invariant.0 c.decl.ensures.decl c.deref.ensures.value c.in-Some.ensures.lookup.0 c.in-Some.ensures.lookup.1 in
     ap (λ (b : Stored). slice_get b.state c.args.rel.0) (sym c.self.view_is) ∙ here.rows_are
     ∙ ap (λ (n : ℕ). Some (rows_in c.decl.result.now.schema n (part_bytes c.self.inside.bytes.items c.in-Some.part.now))) (sym c.page.ensures)
     ∙ ap (λ (x : List ℕ). Some (rows_in c.decl.result.now.schema c.page.result x)) (sym (c.split_at.ensures.front ∙ ap (take c.in-Some.part.now.len) (c.rest_at.ensures ∙ ap (drop c.in-Some.part.now.at) c.deref-in-Some.ensures.value)))

@@ -2,7 +2,7 @@ use Rattle.std.proofs.Common.{◌≡◌, ◌++◌, length}
 use Rattle.std.specs.List.{filter}
 use Rattle.std.specs.Option.{option_copied}
 use Rattle.hera_sets.specs.Rows.{is_past}
-use Rattle.when_overlay.proofs.views.Hyp.collect_met.Given as goal
+use Rattle.when_overlay.proofs.indexed.IndexedHyp.collect_met.Given as goal
 
 -- the rows done, and those past the last one, are all rows
 abbrev pub invariant-loop-row : goal.invariant-loop-row

@@ -1,7 +1,7 @@
 use Rattle.std.proofs.Common.{◌∙◌, ap, sym}
 use Rattle.std.specs.Option.{option_copied}
 use Rattle.hera_sets.proofs.Lists.{filter_past_none, walk_step, walk_push, walk_end, walk_falls}
-use Rattle.when_overlay.proofs.views.Hyp.collect_met.Goals as goal
+use Rattle.when_overlay.proofs.indexed.IndexedHyp.collect_met.Goals as goal
 
 pub loop-row-init : goal.loop-row-init
 loop-row-init c = rw c.new-set.ensures (filter_past_none c.args.self.now)
