@@ -1,5 +1,5 @@
 -- A database made: both halves, and then `select`. And a half rewritten and then selected.
-use Rattle.std.proofs.Common.{◌≡◌, ◌≢◌, ℕ, List, [], ◌∷◌, Option, refl, sym, ap, subst, ◌∙◌}
+use Rattle.std.proofs.Common.{◌≡◌, ◌≢◌, ℕ, List, [], ◌∷◌, Option, inl, inr, ⊎_elim, refl, sym, ap, subst, ◌∙◌}
 use Rattle.hera_volume.specs.Disk.{Disk, IsSettled, after_write}
 use Rattle.hera_volume.specs.Time.{Image, IsImageIn, IsImageBut, LeavesOnly}
 use Rattle.hera_volume.specs.declared.file_id.FileId.{FileId}
@@ -8,8 +8,8 @@ use Rattle.hera_volume.proofs.Moments.{leaves-on, leaves-weaker}
 use Rattle.rel_format.specs.Versions.{IsHalfOf}
 use Rattle.hera_store.specs.Databases.{Database, Names}
 use Rattle.hera_store.specs.Standing.{other_half}
-use Rattle.hera_store.specs.Moments.{IsStill, IsNoneOr}
-use Rattle.hera_store.proofs.Selections.{still_none, none_or_made, still_there, still_either, not_select}
+use Rattle.hera_store.specs.Moments.{IsStill, IsEither, IsNoneOr}
+use Rattle.hera_store.proofs.Selections.{still_none, none_or_made, still_there, one_of_both, not_select}
 
 -- a file that stays as it was
 pub settled_still : (before now : FileId → Disk) (f : FileId) → now f ≡ before f → IsSettled (before f) → IsSettled (now f)
@@ -44,19 +44,27 @@ module _ {D : Type 0} (disk : D → FileId → Disk) (emitted : D → Option (Li
   made_selected c byte bytes half first same settled vacant settled_left settled_right left right run =
       leaves-on moment left_since first run (λ i image. none_or_made (disk b) (emitted a) (emitted b) db same settled byte bytes i vacant settled_left settled_right left right half image)
 
-  -- ---- a database is moved to the other half
+-- ---- the other half is written and selected
 
-  pub other_written : (which : FileId) → ((f : FileId) → IsSettled (disk a f)) → Names (disk a Select).bytes (other_half which) → IsHalfOf (disk a (other_half which)).bytes db.catalogue db.state
-      → LeavesOnly moment left_since a b (IsImageBut (disk a) (emitted a) which) → LeavesOnly moment left_since a b (IsStill db (emitted a))
+module _ {D : Type 0} (disk : D → FileId → Disk) (emitted : D → Option (List ℕ)) (moment : D → ℕ) (left_since : D → ℕ → Image → Type 0) (before after : Database) (a b : D) where
+  -- while the half is written, the former database is found
+  former : (c : Image) → IsStill before (emitted a) c → IsEither before after (emitted a) c
+  former c still = record { found = inl still.found; emitted = still.emitted }
+
+  pub other_written : (which : FileId) → ((f : FileId) → IsSettled (disk a f)) → Names (disk a Select).bytes (other_half which) → IsHalfOf (disk a (other_half which)).bytes before.catalogue before.state
+      → LeavesOnly moment left_since a b (IsImageBut (disk a) (emitted a) which) → LeavesOnly moment left_since a b (IsEither before after (emitted a))
   other_written Select settled named half run = absurd (not_select Select (disk a Select).bytes named refl)
-  other_written Left settled named half run = leaves-weaker moment left_since run (λ i image. still_there (disk a) (emitted a) (emitted a) db refl (settled Select) Right Left (disk a Right).bytes i named (λ e. cc) (λ e. cc) (settled Right) refl half image)
-  other_written Right settled named half run = leaves-weaker moment left_since run (λ i image. still_there (disk a) (emitted a) (emitted a) db refl (settled Select) Left Right (disk a Left).bytes i named (λ e. cc) (λ e. cc) (settled Left) refl half image)
+  other_written Left settled named half run = leaves-weaker moment left_since run (λ i image. former i (still_there (disk a) (emitted a) (emitted a) before refl (settled Select) Right Left (disk a Right).bytes i named (λ e. cc) (λ e. cc) (settled Right) refl half image))
+  other_written Right settled named half run = leaves-weaker moment left_since run (λ i image. former i (still_there (disk a) (emitted a) (emitted a) before refl (settled Select) Left Right (disk a Left).bytes i named (λ e. cc) (λ e. cc) (settled Left) refl half image))
 
-  pub other_selected : (c : D) (which : FileId) (byte : ℕ) → LeavesOnly moment left_since a b (IsStill db (emitted a)) → emitted b ≡ emitted a → ((f : FileId) → IsSettled (disk b f)) → Names (disk b Select).bytes (other_half which)
-      → IsHalfOf (disk b (other_half which)).bytes db.catalogue db.state → IsHalfOf (disk b which).bytes db.catalogue db.state
-      → LeavesOnly moment left_since b c (IsImageIn (disk b) (emitted b) Select (after_write (disk b Select) 0 (byte ∷ []))) → LeavesOnly moment left_since a c (IsStill db (emitted a))
-  other_selected c Select byte first same settled named former half run = absurd (not_select Select (disk b Select).bytes named refl)
-  other_selected c Left byte first same settled named former half run =
-      leaves-on moment left_since first run (λ i image. still_either (disk b) (emitted a) (emitted b) db same (settled Select) byte named.0 (disk b Left).bytes (disk b Right).bytes i named.1 (settled Left) (settled Right) refl refl half former image)
-  other_selected c Right byte first same settled named former half run =
-      leaves-on moment left_since first run (λ i image. still_either (disk b) (emitted a) (emitted b) db same (settled Select) byte named.0 (disk b Left).bytes (disk b Right).bytes i named.1 (settled Left) (settled Right) refl refl former half image)
+  swapped : (c : Image) → IsEither after before (emitted a) c → IsEither before after (emitted a) c
+  swapped c either = record { found = ⊎_elim (λ h. inr h) (λ h. inl h) either.found; emitted = either.emitted }
+
+  pub other_selected : (c : D) (which : FileId) (byte : ℕ) → LeavesOnly moment left_since a b (IsEither before after (emitted a)) → emitted b ≡ emitted a → ((f : FileId) → IsSettled (disk b f)) → Names (disk b Select).bytes (other_half which)
+      → IsHalfOf (disk b (other_half which)).bytes before.catalogue before.state → IsHalfOf (disk b which).bytes after.catalogue after.state
+      → LeavesOnly moment left_since b c (IsImageIn (disk b) (emitted b) Select (after_write (disk b Select) 0 (byte ∷ []))) → LeavesOnly moment left_since a c (IsEither before after (emitted a))
+  other_selected c Select byte first same settled named left right run = absurd (not_select Select (disk b Select).bytes named refl)
+  other_selected c Left byte first same settled named old new run =
+      leaves-on moment left_since first run (λ i image. swapped i (one_of_both (disk b) (emitted a) (emitted b) same (settled Select) after before byte named.0 (disk b Left).bytes (disk b Right).bytes i named.1 (settled Left) (settled Right) refl refl new old image))
+  other_selected c Right byte first same settled named old new run =
+      leaves-on moment left_since first run (λ i image. one_of_both (disk b) (emitted a) (emitted b) same (settled Select) before after byte named.0 (disk b Left).bytes (disk b Right).bytes i named.1 (settled Left) (settled Right) refl refl old new image)

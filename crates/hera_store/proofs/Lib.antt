@@ -8,3 +8,5 @@ pub mod Printings
 pub mod Renewals
 pub mod Founds
 pub mod Readings
+pub mod Synced
+pub mod Widenings

@@ -1,16 +1,15 @@
 -- What a read gives at the end of a call.
-use Rattle.std.proofs.Common.{◌≡◌, ◌⊎◌, ◌≤◌, ◌∙◌, ℕ, List, [], Option, inl, inr, refl, sym, subst}
-use Rattle.hera_meaning.specs.Deltas.{Delta}
+use Rattle.std.proofs.Common.{◌≡◌, ◌⊎◌, ◌≤◌, ◌∙◌, ℕ, List, [], Option, inl, sym, subst}
 use Rattle.rel_format.specs.Versions.{IsHalfOf}
 use Rattle.hera_volume.specs.Disk.{Disk, IsImage, IsSettled}
 use Rattle.hera_volume.specs.Time.{Image, IsImageOf, LeavesOnly}
 use Rattle.hera_volume.specs.declared.file_id.FileId.{FileId}
 use Rattle.hera_volume.specs.declared.file_id.FileId.TheVariants.{Select}
 use Rattle.hera_volume.proofs.Images.{image-settled}
-use Rattle.hera_volume.proofs.Moments.{leaves-none, leaves-on, leaves-weaker, read_image, is_as_read, read-among}
+use Rattle.hera_volume.proofs.Moments.{read_image, is_as_read, read-among}
 use Rattle.hera_store.specs.Databases.{Database, Holds, half_named}
-use Rattle.hera_store.specs.Standing.{Standing, StandsFor, database_of, database_after}
-use Rattle.hera_store.specs.Moments.{IsStill, IsEither, IsNoneOr, IsUntouched, LeavesOnceSynced}
+use Rattle.hera_store.specs.Standing.{Standing, StandsFor, database_of}
+use Rattle.hera_store.specs.Moments.{IsStill, IsEither, IsNoneOr}
 use Rattle.hera_store.proofs.Commits.{stands_holds}
 
 -- settled files hold after a crash what they hold as they read
@@ -27,10 +26,10 @@ module _ {D : Type 0} (told : Type 0) (disk : D → FileId → Disk) (emitted : 
     (as_read : (a : D) (f : FileId) → told → IsImage (disk a f) (disk a f).bytes)
     (only_now : (a : D) (c : Image) → told → left_since a (moment a) c → IsImageOf (disk a) (emitted a) c)
     (counts_now : (a : D) (t : ℕ) (c : Image) → told → t ≤ moment a → IsImageOf (disk a) (emitted a) c → left_since a t c) (t : told) (a b : D) where
-  -- at the end of a commit
-  pub read_either : (store : Standing) (delta : Delta) → StandsFor (disk a) store → LeavesOnly moment left_since a b (IsEither (database_of store) (database_after store delta) (emitted a))
-      → Holds (λ f. (disk b f).bytes) (database_of store) ⊎ Holds (λ f. (disk b f).bytes) (database_after store delta)
-  read_either store delta stands run =
+  -- at the end of a commit, or of a widening
+  pub read_either : (store : Standing) (after : Database) → StandsFor (disk a) store → LeavesOnly moment left_since a b (IsEither (database_of store) after (emitted a))
+      → Holds (λ f. (disk b f).bytes) (database_of store) ⊎ Holds (λ f. (disk b f).bytes) after
+  read_either store after stands run =
       (read-among told disk emitted moment left_since as_read only_now counts_now t run
       (λ c image. record { found = inl (holds_still (disk a) (database_of store) c.files stands.settled (stands_holds (disk a) store stands) image.files); emitted = image.emitted })
       (read_image (disk b) (emitted b)) (is_as_read (disk b) (emitted b))).found
@@ -48,30 +47,3 @@ module _ {D : Type 0} (told : Type 0) (disk : D → FileId → Disk) (emitted : 
       (read-among told disk emitted moment left_since as_read only_now counts_now t run
       (λ c image. record { found = inl (image-settled (disk a Select) (c.files Select) settled (image.files Select) ∙ vacant); emitted = image.emitted })
       (read_image (disk b) (emitted b)) (is_as_read (disk b) (emitted b))).found
-
-module _ {D : Type 0} (disk : D → FileId → Disk) (emitted : D → Option (List ℕ)) (moment : D → ℕ) (left_since : D → ℕ → Image → Type 0) where
-  -- files that are the same have the same images
-  images_same : (a b : D) → ((f : FileId) → disk b f ≡ disk a f) → emitted b ≡ emitted a → (c : Image) → IsImageOf (disk a) (emitted a) c → IsImageOf (disk b) (emitted b) c
-  images_same a b files same c image = subst (λ (e : Option (List ℕ)). IsImageOf (disk b) e c) (sym same) (record { files = λ f. subst (λ (d : Disk). IsImage d (c.files f)) (sym (files f)) (image.files f); emitted = image.emitted })
-
-  -- an opening that ends with its syncs
-  pub synced_only : (a b : D) → IsUntouched disk emitted moment left_since a b → LeavesOnceSynced disk emitted moment left_since a b (IsImageOf (disk b) (emitted b))
-  synced_only a b untouched = record { between = b; before = untouched; settled = inl refl; behind = leaves-none moment left_since b _ }
-
-  -- one that reads on from there
-  pub synced_and_read : (a b c : D) → IsUntouched disk emitted moment left_since a b → ((f : FileId) → IsSettled (disk b f)) → ((f : FileId) → disk c f ≡ disk b f) → emitted c ≡ emitted b
-      → LeavesOnly moment left_since b c (IsImageOf (disk b) (emitted b)) → LeavesOnceSynced disk emitted moment left_since a c (IsImageOf (disk c) (emitted c))
-  synced_and_read a b c untouched settled files same run = record {
-    between = b;
-    before = untouched;
-    settled = inr settled;
-    behind = leaves-weaker moment left_since run (images_same b c files same);
-  }
-
-  -- one that reads twice
-  pub synced_and_read_on : (a b c d : D) → IsUntouched disk emitted moment left_since a b → ((f : FileId) → IsSettled (disk b f)) → ((f : FileId) → disk c f ≡ disk b f) → emitted c ≡ emitted b
-      → LeavesOnly moment left_since b c (IsImageOf (disk b) (emitted b)) → ((f : FileId) → disk d f ≡ disk c f) → emitted d ≡ emitted c → LeavesOnly moment left_since c d (IsImageOf (disk c) (emitted c))
-      → LeavesOnceSynced disk emitted moment left_since a d (IsImageOf (disk d) (emitted d))
-  synced_and_read_on a b c d untouched settled files same run later_files later_same later =
-      synced_and_read a b d untouched settled (λ f. later_files f ∙ files f) (later_same ∙ same)
-      (leaves-on moment left_since run later (λ i image. images_same c b (λ f. sym (files f)) (sym same) i image))

@@ -9,11 +9,15 @@ use Rattle.rel_format.specs.declared.version.Version.TheVariants.{Two}
 use Rattle.rel_format.specs.Journal.{half_limit}
 use Rattle.half_laws.proofs.Halves.{half_of_is}
 use Rattle.hera_volume.specs.Disk.{Disk}
-use Rattle.hera_store.specs.Databases.{half_named, Names, Holds}
+use Rattle.hera_store.specs.Databases.{Database, half_named, Names, Holds}
 use Rattle.hera_store.specs.Standing.{Standing, AreOver, database_of, other_half, select_byte}
 use Rattle.hera_store.proofs.Selections.{not_select}
 use Rattle.hera_store.specs.Faults.{half_with}
+use Rattle.hera_store.specs.Widened.{widened}
+use Rattle.hera_meaning.specs.declared.schemas.RelDecl.{RelDecl}
+use Rattle.hera_meaning.specs.Wider.{Wider}
 use Rattle.hera_meaning.proofs.CommitLaws.{state_after_all}
+use Rattle.hera_meaning.proofs.WiderLaws.{wide_state}
 
 pub other_twice : (half : FileId) → other_half (other_half half) ≡ half
 other_twice Select = refl
@@ -42,11 +46,20 @@ pub other_selected : (store : Standing) (select now : List ℕ) → Names select
 other_selected store select now named is = (select_byte (other_half store.half), is, byte_names (other_half store.half) (other_named store.half (not_select store.half select named)))
 
 -- what the files hold once the other half is selected
-pub switched_holds : (store : Standing) (select : List ℕ) (now : FileId → Disk) → Names select store.half → (now Select).bytes ≡ select_byte (other_half store.half) ∷ []
-    → IsHalfOf (now (other_half store.half)).bytes store.base.catalogue (after_all store.base.state store.commits) → Holds (λ f. (now f).bytes) (database_of store)
-switched_holds store select now named selects half = record {
+pub switched_holds : (store : Standing) (db : Database) (select : List ℕ) (now : FileId → Disk) → Names select store.half → (now Select).bytes ≡ select_byte (other_half store.half) ∷ []
+    → IsHalfOf (now (other_half store.half)).bytes db.catalogue db.state → Holds (λ f. (now f).bytes) db
+switched_holds store db select now named selects half = record {
   byte = select_byte (other_half store.half);
   selects = selects;
-  half = subst (λ (f : FileId). IsHalfOf (now f).bytes store.base.catalogue (after_all store.base.state store.commits))
+  half = subst (λ (f : FileId). IsHalfOf (now f).bytes db.catalogue db.state)
       (sym (byte_names (other_half store.half) (other_named store.half (not_select store.half select named)))) half;
 }
+
+-- the widened database as it is printed
+pub widened_is : (store : Standing) (rels : List RelDecl) (bytes : List ℕ) → AreOver store.base store.commits → IsCatalogue rels → Wider store.base.catalogue rels
+    → length (half_with (widened (database_of store) rels)) ≤ half_limit → bytes ≡ half_with (widened (database_of store) rels) → IsHalfOf bytes rels (widened (database_of store) rels).state
+widened_is store rels bytes over catalogue wider short is =
+    let state = after_all store.base.state store.commits in
+    let valid = state_after_all store.base.catalogue store.base.state store.commits over.state over.proper in
+    let wide = wide_state store.base.catalogue rels state catalogue.distinct wider valid in
+    subst (λ (l : List ℕ). IsHalfOf l rels (widened (database_of store) rels).state) (sym is) (Two, (half_of_is rels (widened (database_of store) rels).state catalogue wide short).half)

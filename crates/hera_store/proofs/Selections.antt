@@ -1,5 +1,5 @@
 -- What a crash leaves while a half or `select` is written.
-use Rattle.std.proofs.Common.{◌≡◌, ◌≢◌, ◌≤◌, ◌⊎◌, inl, inr, ◌==◌, ℕ, Bool, true, false, cond, List, [], ◌∷◌, Option, Some, length, refl, sym, ap, subst, ◌∙◌, arith}
+use Rattle.std.proofs.Common.{◌≡◌, ◌≢◌, ◌≤◌, ◌⊎◌, inl, inr, ⊎_elim, ◌==◌, ℕ, Bool, true, false, cond, List, [], ◌∷◌, Option, Some, length, refl, sym, ap, subst, ◌∙◌, arith}
 use Rattle.std.specs.Io.KnownBytes.{Keeps}
 use Rattle.hera_volume.specs.Disk.{Disk, IsImage, IsSettled, after_write}
 use Rattle.hera_volume.specs.Time.{Image, IsImageIn, IsImageBut}
@@ -8,7 +8,7 @@ use Rattle.hera_volume.specs.declared.file_id.FileId.TheVariants.{Select, Left, 
 use Rattle.hera_volume.proofs.Images.{image-settled}
 use Rattle.rel_format.specs.Versions.{IsHalfOf}
 use Rattle.hera_store.specs.Databases.{Database, half_named, Names, Holds}
-use Rattle.hera_store.specs.Moments.{IsStill, IsNoneOr}
+use Rattle.hera_store.specs.Moments.{IsStill, IsEither, IsNoneOr}
 
 -- ---- the halves that are named
 
@@ -85,12 +85,17 @@ module _ (disks : FileId → Disk) (so_far since : Option (List ℕ)) (db : Data
         emitted = told_emitted c image.emitted;
       }
 
-  -- while the byte of `select` is written, both halves having the database
-  pub still_either : (byte old : ℕ) (left right : List ℕ) (c : Image) → (disks Select).bytes ≡ old ∷ [] → IsSettled (disks Left) → IsSettled (disks Right) → (disks Left).bytes ≡ left → (disks Right).bytes ≡ right
-      → IsHalfOf left db.catalogue db.state → IsHalfOf right db.catalogue db.state → IsImageIn disks since Select (after_write (disks Select) 0 (byte ∷ [])) c → IsStill db so_far c
-  still_either byte old left right c is settled_left settled_right left_is right_is half_left half_right image = record {
+-- two databases that are one
+pub either_same : (db : Database) (so_far : Option (List ℕ)) (c : Image) → IsEither db db so_far c → IsStill db so_far c
+either_same db so_far c either = record { found = ⊎_elim (λ h. h) (λ h. h) either.found; emitted = either.emitted }
+
+module _ (disks : FileId → Disk) (so_far since : Option (List ℕ)) (since_is : since ≡ so_far) (settled : IsSettled (disks Select)) (in_left in_right : Database) where
+  -- while the byte of `select` is written, each half having a database
+  pub one_of_both : (byte old : ℕ) (left right : List ℕ) (c : Image) → (disks Select).bytes ≡ old ∷ [] → IsSettled (disks Left) → IsSettled (disks Right) → (disks Left).bytes ≡ left → (disks Right).bytes ≡ right
+      → IsHalfOf left in_left.catalogue in_left.state → IsHalfOf right in_right.catalogue in_right.state → IsImageIn disks since Select (after_write (disks Select) 0 (byte ∷ [])) c → IsEither in_left in_right so_far c
+  one_of_both byte old left right c is settled_left settled_right left_is right_is half_left half_right image = record {
     found = by (short_list (c.files Select) (omega (arith, image.file.no_longer, settled.ceiling, size)));
-    emitted = told_emitted c image.emitted;
+    emitted = subst (λ (e : Option (List ℕ)). Keeps e (Some c.emitted)) since_is image.emitted;
   }
     where
       size : length (disks Select).bytes ≡ 1
@@ -102,9 +107,11 @@ module _ (disks : FileId → Disk) (so_far since : Option (List ℕ)) (db : Data
       there : c.files Right ≡ right
       there = left_as disks c Right right settled_right right_is (image.others Right (λ e. cc))
 
-      halves : (b : ℕ) → IsHalfOf (c.files (half_named b)) db.catalogue db.state
-      halves b = named_by (λ f. IsHalfOf (c.files f) db.catalogue db.state) b (subst (λ (l : List ℕ). IsHalfOf l db.catalogue db.state) (sym here) half_left) (subst (λ (l : List ℕ). IsHalfOf l db.catalogue db.state) (sym there) half_right)
+      halves : (b : ℕ) → IsHalfOf (c.files (half_named b)) in_left.catalogue in_left.state ⊎ IsHalfOf (c.files (half_named b)) in_right.catalogue in_right.state
+      halves b = named_by (λ f. IsHalfOf (c.files f) in_left.catalogue in_left.state ⊎ IsHalfOf (c.files f) in_right.catalogue in_right.state) b
+          (inl (subst (λ (l : List ℕ). IsHalfOf l in_left.catalogue in_left.state) (sym here) half_left))
+          (inr (subst (λ (l : List ℕ). IsHalfOf l in_right.catalogue in_right.state) (sym there) half_right))
 
-      by : (c.files Select ≡ []) ⊎ ((b : ℕ) × (c.files Select ≡ b ∷ [])) → Holds c.files db
+      by : (c.files Select ≡ []) ⊎ ((b : ℕ) × (c.files Select ≡ b ∷ [])) → Holds c.files in_left ⊎ Holds c.files in_right
       by (inl e) = absurd (omega (arith, ap length e, size, image.file.no_shorter, settled.floor))
-      by (inr x) = record { byte = x.0; selects = x.1; half = halves x.0 }
+      by (inr x) = ⊎_elim (λ half. inl (record { byte = x.0; selects = x.1; half = half })) (λ half. inr (record { byte = x.0; selects = x.1; half = half })) (halves x.0)

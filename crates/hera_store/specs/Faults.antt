@@ -1,5 +1,5 @@
 -- What the refusals of the store say.
-use Rattle.std.specs.Prelude.{◌≡◌, ◌≤◌, ◌<◌, ◌⊎◌, ◌+◌, ◌*◌, ℕ, List, length}
+use Rattle.std.specs.Prelude.{◌≡◌, ◌≤◌, ◌<◌, ◌⊎◌, ◌+◌, ◌*◌, ℕ, List, length, Some}
 use Rattle.hera_meaning.specs.Deltas.{Atom, Delta}
 use Rattle.delta_atoms.specs.Atoms.{atoms_in}
 use Rattle.commit_journal.specs.Prepare.{need_of}
@@ -7,12 +7,17 @@ use Rattle.rel_format.specs.declared.version.TheConstants.{PAGE_TWO}
 use Rattle.rel_format.specs.Pages.{format_two, header_of, page_count, half_of}
 use Rattle.half_writer.specs.declared.pages.HalfFault.{HalfFault}
 use Rattle.half_writer.specs.declared.pages.HalfFault.TheVariants.{Full as HalfFull, Memory as HalfMemory}
+use Rattle.hera_meaning.specs.declared.schemas.RelDecl.{RelDecl}
+use Rattle.hera_meaning.specs.Wider.{Wider, first_narrowed}
 use Rattle.hera_store.specs.Databases.{Database}
 use Rattle.hera_store.specs.Standing.{Standing}
 use Rattle.hera_store.specs.declared.faults.CommitFault.{CommitFault}
 use Rattle.hera_store.specs.declared.faults.CommitFault.TheVariants.{Full, Device, Memory, Closed}
+use Rattle.hera_store.specs.Widened.{widened}
 use Rattle.hera_store.specs.declared.faults.CheckFault.{CheckFault}
 use Rattle.hera_store.specs.declared.faults.CheckFault.TheVariants.{Full as CheckFull, Device as CheckDevice, Memory as CheckMemory, Closed as CheckClosed}
+use Rattle.hera_store.specs.declared.faults.WidenFault.{WidenFault}
+use Rattle.hera_store.specs.declared.faults.WidenFault.TheVariants.{Closed as WidenClosed, Narrows as WidenNarrows, Full as WidenFull, Memory as WidenMemory, Device as WidenDevice}
 
 -- the place behind the gate that comes behind the delta's record
 abbrev pub commit_need : Standing → Delta → ℕ
@@ -63,3 +68,40 @@ IsCheckRefusal db limit (CheckFull need most) = IsFirstNeed db limit need × (mo
 IsCheckRefusal db limit CheckDevice = length (half_with db) ≤ limit
 IsCheckRefusal db limit CheckMemory = Unit {0}
 IsCheckRefusal db limit CheckClosed = Unit {0}
+
+-- a writer's refusal
+abbrev pub widen_fault : HalfFault → WidenFault
+widen_fault (HalfFull need limit) = WidenFull need limit
+widen_fault HalfMemory = WidenMemory
+
+-- the want of room or of memory of a database that is widened already
+abbrev pub IsWidePrintRefusal : Database → ℕ → WidenFault → Type 0
+IsWidePrintRefusal db limit (WidenNarrows relation) = ⊥
+IsWidePrintRefusal db limit (WidenFull need most) = IsFirstNeed db limit need × (most ≡ limit) × (limit < length (half_with db))
+IsWidePrintRefusal db limit WidenMemory = Unit {0}
+IsWidePrintRefusal db limit WidenDevice = ⊥
+IsWidePrintRefusal db limit WidenClosed = ⊥
+
+-- `Narrows` tells the first relation of the old catalogue that the new one narrows
+abbrev pub IsNarrowing : List RelDecl → List RelDecl → WidenFault → Type 0
+IsNarrowing old new (WidenNarrows relation) = first_narrowed old new ≡ Some relation
+IsNarrowing old new (WidenFull need most) = ⊥
+IsNarrowing old new WidenMemory = Unit {0}
+IsNarrowing old new WidenDevice = ⊥
+IsNarrowing old new WidenClosed = ⊥
+
+-- both, before the device is asked
+abbrev pub IsWideningRefusal : Database → List RelDecl → ℕ → WidenFault → Type 0
+IsWideningRefusal db rels limit (WidenNarrows relation) = first_narrowed db.catalogue rels ≡ Some relation
+IsWideningRefusal db rels limit (WidenFull need most) = Wider db.catalogue rels × IsFirstNeed (widened db rels) limit need × (most ≡ limit) × (limit < length (half_with (widened db rels)))
+IsWideningRefusal db rels limit WidenMemory = Unit {0}
+IsWideningRefusal db rels limit WidenDevice = ⊥
+IsWideningRefusal db rels limit WidenClosed = ⊥
+
+-- the device is asked only for a wider database whose half is within the limit
+abbrev pub IsWidenRefusal : Database → List RelDecl → ℕ → WidenFault → Type 0
+IsWidenRefusal db rels limit (WidenNarrows relation) = first_narrowed db.catalogue rels ≡ Some relation
+IsWidenRefusal db rels limit (WidenFull need most) = Wider db.catalogue rels × IsFirstNeed (widened db rels) limit need × (most ≡ limit) × (limit < length (half_with (widened db rels)))
+IsWidenRefusal db rels limit WidenMemory = Unit {0}
+IsWidenRefusal db rels limit WidenDevice = Wider db.catalogue rels × (length (half_with (widened db rels)) ≤ limit)
+IsWidenRefusal db rels limit WidenClosed = Unit {0}

@@ -1,5 +1,5 @@
 -- What a crash leaves at the moments of a call.
-use Rattle.std.specs.Prelude.{◌≡◌, ◌⊎◌, ℕ, List, [], Option, Some}
+use Rattle.std.specs.Prelude.{◌≡◌, ◌⊎◌, ◌≤◌, ℕ, List, [], Option, Some}
 use Rattle.std.specs.Io.KnownBytes.{Keeps}
 use Rattle.hera_volume.specs.Disk.{Disk, IsSettled, Within}
 use Rattle.hera_volume.specs.Time.{Image, IsImageOf, LeavesOnly}
@@ -29,17 +29,28 @@ pub record IsUntouched {D : Type 0} (disk : D → FileId → Disk) (emitted : D 
   pub same : emitted new ≡ emitted old
   pub any_moment : LeavesOnly moment left_since old new (IsImageOf (disk old) (emitted old))
 
--- Up to a moment between, nothing is touched, and either the call ends there, or `select` is settled from there on
--- and a crash leaves only what has P.
-pub record LeavesOnceSettled {D : Type 0} (disk : D → FileId → Disk) (emitted : D → Option (List ℕ)) (moment : D → ℕ) (left_since : D → ℕ → Image → Type 0) (old new : D) (P : Image → Type 0) : Type 0 where
-  pub between : D
-  pub before : IsUntouched disk emitted moment left_since old between
-  pub settled : (between ≡ new) ⊎ IsSettled (disk between Select)
-  pub behind : LeavesOnly moment left_since between new P
+-- Each file was synced in this call. What a crash might have left since the last of these syncs, it may leave now:
+-- nothing comes back of what it might have left before.
+pub record LeavesOnceSynced {D : Type 0} (disk : D → FileId → Disk) (emitted : D → Option (List ℕ)) (moment : D → ℕ) (left_since : D → ℕ → Image → Type 0) (synced_at : D → FileId → ℕ) (old new : D) : Type 0 where
+  pub anew : (f : FileId) → moment old ≤ synced_at new f
+  pub past : (f : FileId) → synced_at new f ≤ moment new
+  pub since : (last : FileId) (c : Image) → ((f : FileId) → synced_at new f ≤ synced_at new last) → left_since new (synced_at new last) c → IsImageOf (disk new) (emitted new) c
 
--- The same with all files settled from the moment between on.
-pub record LeavesOnceSynced {D : Type 0} (disk : D → FileId → Disk) (emitted : D → Option (List ℕ)) (moment : D → ℕ) (left_since : D → ℕ → Image → Type 0) (old new : D) (P : Image → Type 0) : Type 0 where
+-- The same of `select` alone, from its sync on.
+pub record LeavesOnceNamed {D : Type 0} (disk : D → FileId → Disk) (emitted : D → Option (List ℕ)) (moment : D → ℕ) (left_since : D → ℕ → Image → Type 0) (synced_at : D → FileId → ℕ) (old new : D) : Type 0 where
+  pub anew : moment old ≤ synced_at new Select
+  pub past : synced_at new Select ≤ moment new
+  pub since : (c : Image) → left_since new (synced_at new Select) c → IsImageOf (disk new) (emitted new) c
+
+-- This file was not synced since.
+abbrev pub IsUnsynced : {D : Type 0} → (D → FileId → ℕ) → D → D → FileId → Type 0
+IsUnsynced synced_at old new f = synced_at new f ≡ synced_at old f
+
+-- Up to a moment between, nothing is touched but for syncs, among them that of `select`. From that sync up to there a
+-- crash leaves what it may leave there, and from there on only what has P.
+pub record LeavesOnceSettled {D : Type 0} (disk : D → FileId → Disk) (emitted : D → Option (List ℕ)) (moment : D → ℕ) (left_since : D → ℕ → Image → Type 0) (synced_at : D → FileId → ℕ) (old new : D) (P : Image → Type 0) : Type 0 where
   pub between : D
   pub before : IsUntouched disk emitted moment left_since old between
-  pub settled : (between ≡ new) ⊎ ((f : FileId) → IsSettled (disk between f))
+  pub settled : IsSettled (disk between Select)
+  pub named : LeavesOnceNamed disk emitted moment left_since synced_at old between
   pub behind : LeavesOnly moment left_since between new P

@@ -1,6 +1,8 @@
 //! Why a call on a database is refused.
 
+use hera_meaning::Name;
 use hera_volume::FileId;
+use std::fmt;
 use thiserror::Error;
 
 /// Why no database is made.
@@ -66,4 +68,38 @@ pub enum CheckFault {
     /// An earlier commit of the store answered `Device`.
     #[error("the store is closed")]
     Closed,
+}
+
+/// Why a database is not widened. The causes are tested in this order, but for memory, which is wanted at more places.
+#[derive(Drop, Error)]
+pub enum WidenFault {
+    /// An earlier commit of the store answered `Device`.
+    #[error("the store is closed")]
+    Closed,
+    /// The new catalogue has no relation of this name, or its schema does not begin with the old one: the first such
+    /// relation of the stored catalogue.
+    #[error("a relation is narrowed")]
+    Narrows { relation: Name },
+    /// The half has more bytes than the limit: `need` where pages were added up to the first past it.
+    #[error("the half is full")]
+    Full { need: u128, limit: u64 },
+    /// No memory for the rows, for the bytes of the half, or for the name of a relation.
+    #[error("out of memory")]
+    Memory,
+    /// A call on a file failed.
+    #[error("the device failed")]
+    Device,
+}
+
+// A name has no `Debug`, so the fault shows its kind alone.
+impl fmt::Debug for WidenFault {
+    fn fmt<W: fmt::Write>(&self, f: &mut fmt::Formatter<W>) -> fmt::Result {
+        match self {
+            WidenFault::Closed => f.write_str("Closed"),
+            WidenFault::Narrows { relation: _ } => f.write_str("Narrows"),
+            WidenFault::Full { need: _, limit: _ } => f.write_str("Full"),
+            WidenFault::Memory => f.write_str("Memory"),
+            WidenFault::Device => f.write_str("Device"),
+        }
+    }
 }

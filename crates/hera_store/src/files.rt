@@ -1,12 +1,12 @@
 //! Calls on the files of a folder.
-ghost use Rattle.std.specs.Prelude.{◌≡◌, ◌≢◌, ◌∷◌, [], OnOk, IfOk};
+ghost use Rattle.std.specs.Prelude.{◌≡◌, ◌≢◌, ◌∷◌, [], OnOk, OnErr, IfOk};
 ghost use Rattle.hera_causes.specs.Causes.{HasCause};
 ghost use Rattle.hera_volume.specs.Disk.{IsSettled, after_write, after_sync};
 ghost use Rattle.hera_volume.specs.Time.{IsImageIn, LeavesOnly};
 ghost use Rattle.hera_volume.specs.declared.file_id.FileId.{FileId};
 ghost use Rattle.hera_volume.specs.declared.file_id.FileId.TheVariants.{Select, Left, Right};
 ghost use Rattle.hera_store.specs.Standing.{select_byte};
-ghost use Rattle.hera_store.specs.Moments.{IsUntouched};
+ghost use Rattle.hera_store.specs.Moments.{IsUntouched, IsUnsynced, LeavesOnceSynced};
 
 use hera_causes::Failed;
 use hera_volume::{FileId, Outside, write_and_sync};
@@ -16,6 +16,9 @@ pub(crate) fn sync_file<W: Outside>(outside: &mut W, file: FileId) -> Result<(),
     ensures settled { W.told → OnOk result (IsSettled (W.disk outside.new file)) }
     ensures others { W.told → (f : FileId) → f ≢ file → W.disk outside.new f ≡ W.disk outside.old f }
     ensures untouched { W.told → IsUntouched W.disk W.emitted W.moment W.left_since outside.old outside.new }
+    ensures synced_now { W.told → OnOk result (W.synced_at outside.new file ≡ W.moment outside.new) }
+    ensures not_synced { W.told → OnErr result (IsUnsynced W.synced_at outside.old outside.new file) }
+    ensures other_syncs { W.told → (f : FileId) → f ≢ file → IsUnsynced W.synced_at outside.old outside.new f }
     ensures emitted { W.emitted outside.new ≡ W.emitted outside.old }
     ensures output { W.output_faults outside.new ≡ W.output_faults outside.old }
     ensures cause { HasCause (W.device_faults outside.old) (W.device_faults outside.new) result }
@@ -27,6 +30,8 @@ pub(crate) fn sync_file<W: Outside>(outside: &mut W, file: FileId) -> Result<(),
 pub(crate) fn sync_files<W: Outside>(outside: &mut W) -> Result<(), Failed>
     ensures settled { W.told → OnOk result ((f : FileId) → IsSettled (W.disk outside.new f)) }
     ensures untouched { W.told → IsUntouched W.disk W.emitted W.moment W.left_since outside.old outside.new }
+    ensures moments { W.told → OnOk result (LeavesOnceSynced W.disk W.emitted W.moment W.left_since W.synced_at outside.old outside.new) }
+    ensures not_synced { W.told → OnErr result (IsUnsynced W.synced_at outside.old outside.new Right) }
     ensures emitted { W.emitted outside.new ≡ W.emitted outside.old }
     ensures output { W.output_faults outside.new ≡ W.output_faults outside.old }
     ensures cause { HasCause (W.device_faults outside.old) (W.device_faults outside.new) result }

@@ -1,4 +1,4 @@
-//! The database in a folder: made, opened, committed to and checkpointed, each all or nothing at
+//! The database in a folder: made, opened, committed to, checkpointed and widened, each all or nothing at
 //! every moment.
 #![tactic(auto)]
 
@@ -12,8 +12,9 @@ mod store;
 mod switching;
 #[cfg(test)]
 mod tests;
+mod widening;
 
-pub use faults::{CheckFault, CommitFault, InitFault, OpenFault};
+pub use faults::{CheckFault, CommitFault, InitFault, OpenFault, WidenFault};
 pub use making::init_store;
 pub use opening::open_store;
 pub use store::Store;

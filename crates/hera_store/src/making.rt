@@ -9,7 +9,7 @@ ghost use Rattle.rel_format.specs.Versions.{IsHalfOf};
 ghost use Rattle.rel_pages.specs.Stored.{empty_state};
 ghost use Rattle.hera_store.specs.Databases.{Database, empty_database, Holds};
 ghost use Rattle.hera_store.specs.Faults.{half_with};
-ghost use Rattle.hera_store.specs.Moments.{IsNoneOr, IsUntouched, LeavesOnceSettled};
+ghost use Rattle.hera_store.specs.Moments.{IsNoneOr, IsUntouched, IsUnsynced, LeavesOnceNamed, LeavesOnceSettled};
 
 use crate::InitFault;
 use crate::files::{select_half, sync_file};
@@ -59,9 +59,18 @@ pub fn init_store<W: Outside>(
     // Where there is a database, or no memory, nothing is touched.
     ensures occupied { W.told → (W.disk outside.old Select).bytes ≢ [] → IsUntouched W.disk W.emitted W.moment W.left_since outside.old outside.new }
     ensures memory { W.told → result ≡ Err InitFault.Memory → IsUntouched W.disk W.emitted W.moment W.left_since outside.old outside.new }
-    // Once `select` is synced, no database is found or the empty one.
-    ensures any_moment { W.told → (W.disk outside.old Select).bytes ≡ [] →
-        LeavesOnceSettled W.disk W.emitted W.moment W.left_since outside.old outside.new (IsNoneOr (empty_database catalogue.now) (W.emitted outside.old)) }
+    // Where it ends without a call that failed, `select` is synced: from then on a crash leaves what it may leave at the end,
+    // where there is a database or no memory, and else no database is found or the empty one.
+    ensures named { W.told → (result ≡ Err InitFault.Exists) ⊎ (result ≡ Err InitFault.Memory) → LeavesOnceNamed W.disk W.emitted W.moment W.left_since W.synced_at outside.old outside.new }
+    ensures any_moment { W.told → (W.disk outside.old Select).bytes ≡ [] → result ≢ Err InitFault.Device →
+        LeavesOnceSettled W.disk W.emitted W.moment W.left_since W.synced_at outside.old outside.new (IsNoneOr (empty_database catalogue.now) (W.emitted outside.old)) }
+    // Where a call failed, the same holds, or nothing is touched and `select` was not synced.
+    ensures failing { W.told → (W.disk outside.old Select).bytes ≡ [] → result ≡ Err InitFault.Device →
+        LeavesOnceSettled W.disk W.emitted W.moment W.left_since W.synced_at outside.old outside.new (IsNoneOr (empty_database catalogue.now) (W.emitted outside.old))
+        ⊎ (IsUntouched W.disk W.emitted W.moment W.left_since outside.old outside.new × IsUnsynced W.synced_at outside.old outside.new Select) }
+    // Where one failed and there is a database, its images are those of a settled `select` too, or that was not synced.
+    ensures stopped { W.told → (W.disk outside.old Select).bytes ≢ [] → result ≡ Err InitFault.Device →
+        LeavesOnceNamed W.disk W.emitted W.moment W.left_since W.synced_at outside.old outside.new ⊎ IsUnsynced W.synced_at outside.old outside.new Select }
     // The same is found of the files as they read, at every answer.
     ensures reads { W.told → (W.disk outside.old Select).bytes ≡ [] →
         ((W.disk outside.new Select).bytes ≡ []) ⊎ Holds (λ f. (W.disk outside.new f).bytes) (empty_database catalogue.now) }
@@ -83,6 +92,9 @@ fn find_none<W: Outside>(outside: &mut W) -> Result<(), InitFault>
     ensures exists { W.told → result ≡ Err InitFault.Exists → (W.disk outside.old Select).bytes ≢ [] }
     ensures settled { W.told → OnOk result (IsSettled (W.disk outside.new Select)) }
     ensures untouched { W.told → IsUntouched W.disk W.emitted W.moment W.left_since outside.old outside.new }
+    ensures named { W.told → result ≢ Err InitFault.Device → IsSettled (W.disk outside.new Select) × LeavesOnceNamed W.disk W.emitted W.moment W.left_since W.synced_at outside.old outside.new }
+    ensures failing { W.told → result ≡ Err InitFault.Device →
+        (IsSettled (W.disk outside.new Select) × LeavesOnceNamed W.disk W.emitted W.moment W.left_since W.synced_at outside.old outside.new) ⊎ IsUnsynced W.synced_at outside.old outside.new Select }
     ensures memory { result ≢ Err InitFault.Memory }
     ensures emitted { W.emitted outside.new ≡ W.emitted outside.old }
     ensures output { W.output_faults outside.new ≡ W.output_faults outside.old }

@@ -1,5 +1,5 @@
 //! Databases opened.
-ghost use Rattle.std.specs.Prelude.{◌≡◌, ◌≢◌, ◌≤◌, ◌<◌, [], ℕ, List, false, Err, IfOk, length, All};
+ghost use Rattle.std.specs.Prelude.{◌≡◌, ◌≢◌, ◌≤◌, ◌<◌, ◌⊎◌, [], ℕ, List, false, Err, IfOk, length, All};
 ghost use Rattle.hera_meaning.specs.Commits.{after_all, IsCommitOf, IsSmashOf};
 ghost use Rattle.hera_causes.specs.Causes.{Rose};
 ghost use Rattle.hera_meaning.specs.declared.schemas.RelDecl.{RelDecl};
@@ -14,7 +14,7 @@ ghost use Rattle.rel_pages.specs.Halves.{IsPages};
 ghost use Rattle.commit_journal.specs.Halves.{HasPages, IsHalfTo, IsDamageOfHalf};
 ghost use Rattle.hera_store.specs.Databases.{IsFound, absent, spoilt, held, half_named, Names, IsDamagedHalf};
 ghost use Rattle.hera_store.specs.Standing.{StandsFor, AreAsGood, database_of};
-ghost use Rattle.hera_store.specs.Moments.{LeavesOnceSynced};
+ghost use Rattle.hera_store.specs.Moments.{LeavesOnceSynced, IsUnsynced};
 
 use crate::files::sync_files;
 use crate::{OpenFault, Store};
@@ -67,8 +67,10 @@ pub fn open_store<W: Outside>(alloc: Global, outside: &mut W) -> Result<Store, O
     ensures reads { W.told → (f : FileId) → (W.disk outside.new f).bytes ≡ (W.disk outside.old f).bytes }
     ensures within { W.told → (f : FileId) → Within (W.disk outside.new f) (W.disk outside.old f) }
     ensures any_moment { W.told → LeavesOnly W.moment W.left_since outside.old outside.new (IsImageOf (W.disk outside.old) (W.emitted outside.old)) }
-    // From the end of the syncs on a crash leaves what a crash at the end may leave.
-    ensures moments { W.told → LeavesOnceSynced W.disk W.emitted W.moment W.left_since outside.old outside.new (IsImageOf (W.disk outside.new) (W.emitted outside.new)) }
+    // From the last sync on a crash leaves what it may leave at the end. Where a call failed, this holds, or a file was not synced.
+    ensures moments { W.told → result ≢ Err OpenFault.Device → LeavesOnceSynced W.disk W.emitted W.moment W.left_since W.synced_at outside.old outside.new }
+    ensures failing { W.told → result ≡ Err OpenFault.Device →
+        LeavesOnceSynced W.disk W.emitted W.moment W.left_since W.synced_at outside.old outside.new ⊎ ((f : FileId) × IsUnsynced W.synced_at outside.old outside.new f) }
     ensures emitted { W.emitted outside.new ≡ W.emitted outside.old }
     ensures output { W.output_faults outside.new ≡ W.output_faults outside.old }
     ensures device { result ≡ Err OpenFault.Device → Rose (W.device_faults outside.old) (W.device_faults outside.new) }
@@ -88,6 +90,7 @@ fn find_half<W: Outside>(outside: &mut W) -> Result<FileId, OpenFault>
     ensures damaged { W.told → (file : FileId) (at : ℕ) → result ≡ Err (OpenFault.Damaged file at) → (1 < length (W.disk outside.old Select).bytes) × (file ≡ Select) × (at ≡ 1) }
     ensures files { W.told → (f : FileId) → W.disk outside.new f ≡ W.disk outside.old f }
     ensures any_moment { W.told → LeavesOnly W.moment W.left_since outside.old outside.new (IsImageOf (W.disk outside.old) (W.emitted outside.old)) }
+    ensures syncs { W.told → (f : FileId) → W.synced_at outside.new f ≡ W.synced_at outside.old f }
     ensures emitted { W.emitted outside.new ≡ W.emitted outside.old }
     ensures output { W.output_faults outside.new ≡ W.output_faults outside.old }
     ensures device { result ≡ Err OpenFault.Device → Rose (W.device_faults outside.old) (W.device_faults outside.new) }
@@ -127,6 +130,7 @@ fn read_file<W: Outside>(alloc: Global, outside: &mut W, half: FileId) -> Result
     ensures damaged { W.told → (file : FileId) (at : ℕ) → result ≡ Err (OpenFault.Damaged file at) → (half_limit < length (W.disk outside.old half).bytes) × (file ≡ half) × (at ≡ half_limit) }
     ensures files { W.told → (f : FileId) → W.disk outside.new f ≡ W.disk outside.old f }
     ensures any_moment { W.told → LeavesOnly W.moment W.left_since outside.old outside.new (IsImageOf (W.disk outside.old) (W.emitted outside.old)) }
+    ensures syncs { W.told → (f : FileId) → W.synced_at outside.new f ≡ W.synced_at outside.old f }
     ensures emitted { W.emitted outside.new ≡ W.emitted outside.old }
     ensures output { W.output_faults outside.new ≡ W.output_faults outside.old }
     ensures device { result ≡ Err OpenFault.Device → Rose (W.device_faults outside.old) (W.device_faults outside.new) }

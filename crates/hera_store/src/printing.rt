@@ -62,7 +62,7 @@ pub(crate) fn half_bytes(
     };
     let mut writer = HalfWriter::new(alloc, base.catalogue(), limit)?;
     for number in 0..base.catalogue().len() as u16 {
-        writer.add(&view.rel(RelId(number)))?;
+        writer.add(&view.indexed(RelId(number)))?;
     }
     Ok(writer.finish()?)
 }

@@ -1,6 +1,7 @@
 //! Stores: databases that are open.
 ghost use Rattle.std.specs.Prelude.{◌≡◌, ◌≢◌, ◌≤◌, ◌⊎◌, ◌++◌, [], ◌∷◌, false, true, Some, Err, OnOk, OnErr, IfOk, IfErr, IfSome, ◌+◌, take, length, All};
 ghost use Rattle.hera_meaning.specs.Commits.{IsCommitOf};
+ghost use Rattle.hera_meaning.specs.Wider.{Wider};
 ghost use Rattle.hera_causes.specs.Causes.{Rose};
 ghost use Rattle.hera_meaning.specs.Deltas.{is_fail, IsDelta, IsDeltaOf, IsState};
 ghost use Rattle.delta_atoms.specs.Atoms.{atoms_in};
@@ -14,14 +15,17 @@ ghost use Rattle.commit_journal.specs.Gate.{IsWith};
 ghost use Rattle.commit_journal.specs.Prepare.{need_of};
 ghost use Rattle.hera_store.specs.Databases.{Holds};
 ghost use Rattle.hera_store.specs.Standing.{StandsFor, AreOver, database_of, database_after, end_with, other_half, select_byte};
-ghost use Rattle.hera_store.specs.Faults.{IsRecordRefusal, IsCommitRefusal, IsCheckRefusal, commit_need, half_with};
+ghost use Rattle.hera_store.specs.Faults.{IsRecordRefusal, IsCommitRefusal, IsCheckRefusal, IsWidenRefusal, commit_need, half_with};
+ghost use Rattle.hera_store.specs.Widened.{widened};
 ghost use Rattle.hera_store.specs.Moments.{IsEither, IsStill};
 
 use crate::printing::half_bytes;
 use crate::switching::switch_to;
-use crate::{CheckFault, CommitFault};
+use crate::widening::widened_bytes;
+use crate::{CheckFault, CommitFault, WidenFault};
 use commit_journal::{PrepareFault, Prepared, prepare, seal};
 use delta_atoms::Delta;
+use hera_row::Catalogue;
 use hera_volume::{FileId, Outside};
 use rel_pages::Base;
 use std::alloc::{AllocError, Global};
@@ -208,6 +212,55 @@ impl Store {
         match switch_to(outside, other_half(self.half), &bytes) {
             Ok(()) => Ok(()),
             Err(_) => Err(CheckFault::Device),
+        }
+    }
+
+    /// Writes the other half with all that is stored in its pages, widened to the relations of this
+    /// catalogue, and selects it.
+    ///
+    /// The store has to be closed or to stand for the outside, and is used up. `Narrows` tells the first
+    /// stored relation that the catalogue does not keep. `Full` comes only for a catalogue that keeps all,
+    /// exactly where the half has more bytes than the limit. Where it answers anything else than Ok and
+    /// `Device`, no call on a file was made.
+    pub fn widen<W: Outside>(
+        self,
+        outside: &mut W,
+        catalogue: &Catalogue,
+        limit: u64,
+    ) -> Result<(), WidenFault>
+        requires stands { W.told → self.closed ≡ false → StandsFor (W.disk outside.old) self }
+        requires limit { limit ≤ half_limit }
+        // The files: the other half is selected, and is printed anew; the former one stays.
+        ensures settled { W.told → OnOk result ((f : FileId) → IsSettled (W.disk outside.new f)) }
+        ensures selects { W.told → OnOk result ((W.disk outside.new Select).bytes ≡ select_byte (other_half self.half) ∷ []) }
+        ensures renewed { W.told → OnOk result ((W.disk outside.new (other_half self.half)).bytes ≡ half_with (widened (database_of self) catalogue.now)) }
+        ensures holds { W.told → OnOk result (Holds (λ f. (W.disk outside.new f).bytes) (widened (database_of self) catalogue.now)) }
+        ensures former { W.told → W.disk outside.new self.half ≡ W.disk outside.old self.half }
+        // Why it is refused.
+        ensures closed { result ≡ Err WidenFault.Closed → self.closed ≡ true }
+        ensures stays_closed { self.closed ≡ true → result ≡ Err WidenFault.Closed }
+        ensures wider { OnOk result (Wider self.base.catalogue catalogue.now) }
+        ensures fits { OnOk result (length (half_with (widened (database_of self) catalogue.now)) ≤ limit) }
+        ensures refusal { IfErr result (IsWidenRefusal (database_of self) catalogue.now limit) }
+        ensures untouched { OnErr result (result ≢ Err WidenFault.Device → outside.new ≡ outside.old) }
+        // At each moment the database is the one before or the widened one.
+        ensures any_moment { W.told → self.closed ≡ false → LeavesOnly W.moment W.left_since outside.old outside.new
+            (IsEither (database_of self) (widened (database_of self) catalogue.now) (W.emitted outside.old)) }
+        // That is what the files hold as they read too, at every answer.
+        ensures reads { W.told → self.closed ≡ false → Holds (λ f. (W.disk outside.new f).bytes) (database_of self) ⊎ Holds (λ f. (W.disk outside.new f).bytes) (widened (database_of self) catalogue.now) }
+        ensures emitted { W.emitted outside.new ≡ W.emitted outside.old }
+        ensures output { W.output_faults outside.new ≡ W.output_faults outside.old }
+        ensures device { result ≡ Err WidenFault.Device → Rose (W.device_faults outside.old) (W.device_faults outside.new) }
+        ensures device_later { W.device_faults outside.old ≤ W.device_faults outside.new }
+        ensures device_still { result ≢ Err WidenFault.Device → W.device_faults outside.new ≡ W.device_faults outside.old }
+    {
+        if self.closed {
+            return Err(WidenFault::Closed);
+        }
+        let bytes = widened_bytes(self.alloc, &self.base, &self.commits, catalogue, limit)?;
+        match switch_to(outside, other_half(self.half), &bytes) {
+            Ok(()) => Ok(()),
+            Err(_) => Err(WidenFault::Device),
         }
     }
 }

@@ -8,7 +8,7 @@ ghost use Rattle.hera_volume.specs.declared.file_id.FileId.TheVariants.{Select};
 ghost use Rattle.rel_format.specs.Versions.{IsHalfOf};
 ghost use Rattle.hera_store.specs.Databases.{Database, Names};
 ghost use Rattle.hera_store.specs.Standing.{other_half, select_byte};
-ghost use Rattle.hera_store.specs.Moments.{IsStill};
+ghost use Rattle.hera_store.specs.Moments.{IsEither};
 
 use crate::files::select_half;
 use hera_causes::Failed;
@@ -26,9 +26,9 @@ pub(crate) fn switch_to<W: Outside>(
     ensures selects { W.told → OnOk result ((W.disk outside.new Select).bytes ≡ select_byte half ∷ []) }
     ensures written { W.told → OnOk result ((W.disk outside.new half).bytes ≡ bytes.now) }
     ensures former { W.told → W.disk outside.new (other_half half) ≡ W.disk outside.old (other_half half) }
-    // A database that both halves hold is found at each moment.
-    ensures any_moment { W.told → (db : Database) → IsHalfOf (W.disk outside.old (other_half half)).bytes db.catalogue db.state → IsHalfOf bytes.now db.catalogue db.state →
-        LeavesOnly W.moment W.left_since outside.old outside.new (IsStill db (W.emitted outside.old)) }
+    // The database of the former half is found at each moment, or that of the new one.
+    ensures any_moment { W.told → (before after : Database) → IsHalfOf (W.disk outside.old (other_half half)).bytes before.catalogue before.state → IsHalfOf bytes.now after.catalogue after.state →
+        LeavesOnly W.moment W.left_since outside.old outside.new (IsEither before after (W.emitted outside.old)) }
     ensures emitted { W.emitted outside.new ≡ W.emitted outside.old }
     ensures output { W.output_faults outside.new ≡ W.output_faults outside.old }
     ensures cause { HasCause (W.device_faults outside.old) (W.device_faults outside.new) result }

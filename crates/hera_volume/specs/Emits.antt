@@ -9,14 +9,14 @@ use Rattle.hera_volume.specs.Time.{Image, IsImageOf, EmitsOnly}
 use Rattle.hera_volume.specs.declared.file_id.FileId.{FileId}
 
 module _ {D : Type 0} (told : Type 0) (disk : D → FileId → Disk) (emitted : D → Option (List ℕ)) (moment : D → ℕ) (left_since : D → ℕ → Image → Type 0)
-    (device_faults output_faults : D → ℕ) where
+    (synced_at : D → FileId → ℕ) (device_faults output_faults : D → ℕ) where
   abbrev Emits : D → D → List ℕ → ℕ → Type 0
-  Emits a b piece n = EmitsOnly told disk emitted moment left_since device_faults output_faults a b piece n
+  Emits a b piece n = EmitsOnly told disk emitted moment left_since synced_at device_faults output_faults a b piece n
 
   -- where what might be left since the present moment is what is left now, which counts since each earlier moment
   pub EmitsOnly-none : ((a : D) (c : Image) → told → left_since a (moment a) c → IsImageOf (disk a) (emitted a) c)
       → ((a : D) (t : ℕ) (c : Image) → told → t ≤ moment a → IsImageOf (disk a) (emitted a) c → left_since a t c)
-      → (a : D) (piece : List ℕ) → EmitsOnly told disk emitted moment left_since device_faults output_faults a a piece 0
+      → (a : D) (piece : List ℕ) → EmitsOnly told disk emitted moment left_since synced_at device_faults output_faults a a piece 0
   EmitsOnly-none only_now counts_now a piece = record {
     bytes = Appends-nil (emitted a);
     files = λ t f. refl;
@@ -26,13 +26,14 @@ module _ {D : Type 0} (told : Type 0) (disk : D → FileId → Disk) (emitted : 
       before = λ u c le left. left;
       after = λ u c le left. counts_now a u c t le (only_now a c t left);
     };
+    syncs = λ t f. refl;
     device = refl;
     output = omega arith;
   }
 
-  pub EmitsOnly-on : (a b c : D) (piece : List ℕ) (n m : ℕ) → EmitsOnly told disk emitted moment left_since device_faults output_faults a b piece n
-      → EmitsOnly told disk emitted moment left_since device_faults output_faults b c (drop n piece) m
-      → EmitsOnly told disk emitted moment left_since device_faults output_faults a c piece (n + m)
+  pub EmitsOnly-on : (a b c : D) (piece : List ℕ) (n m : ℕ) → EmitsOnly told disk emitted moment left_since synced_at device_faults output_faults a b piece n
+      → EmitsOnly told disk emitted moment left_since synced_at device_faults output_faults b c (drop n piece) m
+      → EmitsOnly told disk emitted moment left_since synced_at device_faults output_faults a c piece (n + m)
   EmitsOnly-on a b c piece n m first second = record {
     bytes = subst (Appends (emitted a) (emitted c)) (sym (take-add n m piece)) (Appends-trans _ _ _ _ _ first.bytes second.bytes);
     files = λ t f. second.files t f ∙ first.files t f;
@@ -60,6 +61,7 @@ module _ {D : Type 0} (told : Type 0) (disk : D → FileId → Disk) (emitted : 
               (λ late. two.after u i (far u le) late)
               (two.either (moment a) i start left);
         };
+    syncs = λ t f. second.syncs t f ∙ first.syncs t f;
     device = second.device ∙ first.device;
     output = omega (arith, first.output, second.output);
   }

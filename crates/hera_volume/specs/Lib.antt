@@ -6,4 +6,5 @@ pub mod MemOutside
 pub mod Past
 pub mod Plan
 pub mod Silent
+pub mod Syncs
 pub mod Time

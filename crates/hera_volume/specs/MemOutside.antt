@@ -5,6 +5,7 @@ use Rattle.hera_volume.specs.Plan.{MayGo}
 use Rattle.hera_volume.specs.Disk.{Disk, IsImage}
 use Rattle.hera_volume.specs.Time.{Image, IsImageOf, EmitsOnly}
 use Rattle.hera_volume.specs.Files.{disk_in}
+use Rattle.hera_volume.specs.Syncs.{sync_in}
 use Rattle.hera_volume.specs.Past.{LeftSince, only_now_in}
 use Rattle.std.proofs.Common.{inl, refl, arith}
 use Rattle.hera_volume.specs.Emits.{EmitsOnly-none, EmitsOnly-on}
@@ -26,6 +27,9 @@ mem_moment m = length m.past.items
 
 abbrev pub mem_left_since : MemOutside → ℕ → Image → Type 0
 mem_left_since m = LeftSince m.past.items m.files m.bytes.items
+
+abbrev pub mem_synced_at : MemOutside → FileId → ℕ
+mem_synced_at m = sync_in m.syncs
 
 abbrev pub mem_device_faults : MemOutside → ℕ
 mem_device_faults m = m.device_faults
@@ -83,13 +87,13 @@ pub mem_counts_now : (a : MemOutside) (t : ℕ) (c : Image) → Unit {0} → t �
 mem_counts_now a t c told le now = inl now
 
 abbrev pub mem_passed : MemOutside → MemOutside → List ℕ → ℕ → Type 0
-mem_passed a b piece n = EmitsOnly (Unit {0}) mem_disk mem_emitted mem_moment mem_left_since mem_device_faults mem_output_faults a b piece n
+mem_passed a b piece n = EmitsOnly (Unit {0}) mem_disk mem_emitted mem_moment mem_left_since mem_synced_at mem_device_faults mem_output_faults a b piece n
 
 pub mem_passed-none : (a : MemOutside) (piece : List ℕ) → mem_passed a a piece 0
-mem_passed-none = EmitsOnly-none (Unit {0}) mem_disk mem_emitted mem_moment mem_left_since mem_device_faults mem_output_faults mem_only_now mem_counts_now
+mem_passed-none = EmitsOnly-none (Unit {0}) mem_disk mem_emitted mem_moment mem_left_since mem_synced_at mem_device_faults mem_output_faults mem_only_now mem_counts_now
 
 pub mem_passed-on : (a b c : MemOutside) (piece : List ℕ) (n m : ℕ) → mem_passed a b piece n → mem_passed b c (drop n piece) m → mem_passed a c piece (n + m)
-mem_passed-on = EmitsOnly-on (Unit {0}) mem_disk mem_emitted mem_moment mem_left_since mem_device_faults mem_output_faults
+mem_passed-on = EmitsOnly-on (Unit {0}) mem_disk mem_emitted mem_moment mem_left_since mem_synced_at mem_device_faults mem_output_faults
 
 pub mem_as_read : (a : MemOutside) (f : FileId) → Unit {0} → IsImage (mem_disk a f) (mem_disk a f).bytes
 mem_as_read a f told = record { no_shorter = omega arith; no_longer = omega arith; kept = λ k lt clean. refl }

@@ -44,11 +44,12 @@ pub record GoesOn {D : Type 0} (moment : D → ℕ) (left_since : D → ℕ → 
 
 -- From a to b only this piece was emitted, in whole or in part.
 pub record EmitsOnly {D : Type 0} (told : Type 0) (disk : D → FileId → Disk) (emitted : D → Option (List ℕ)) (moment : D → ℕ) (left_since : D → ℕ → Image → Type 0)
-    (device_faults output_faults : D → ℕ) (a b : D) (piece : List ℕ) (n : ℕ) : Type 0 where
+    (synced_at : D → FileId → ℕ) (device_faults output_faults : D → ℕ) (a b : D) (piece : List ℕ) (n : ℕ) : Type 0 where
   pub bytes : Appends (emitted a) (emitted b) (take n piece)
   pub files : told → (f : FileId) → disk b f ≡ disk a f
   pub any_moment : told → LeavesOnly moment left_since a b (IsImageAmid (disk a) (emitted a) piece)
   pub since : told → GoesOn moment left_since a b
+  pub syncs : told → (f : FileId) → synced_at b f ≡ synced_at a f
   pub device : device_faults b ≡ device_faults a
   pub output : output_faults a ≤ output_faults b
 

@@ -8,6 +8,7 @@ mod mem_outside;
 mod outside;
 mod plan;
 mod steps;
+mod syncs;
 
 pub use file_id::FileId;
 pub use mem_outside::MemOutside;

@@ -4,11 +4,13 @@ ghost use Rattle.std.specs.Prelude.{◌≡◌, ◌-◌, ◌≤◌, min, length, 
 use crate::mem_disk::MemDisk;
 use crate::mem_files::{MemFiles, Past};
 use crate::plan::{Fate, Plan};
+use crate::syncs::Syncs;
 use crate::{FileId, Outside};
 use hera_causes::{Failed, Output, Piece, Pieces, allowed};
 use std::alloc::{AllocError, Global};
 
-/// Three files and an output in memory, whose calls fail by a plan. It keeps what was before each change.
+/// Three files and an output in memory, whose calls fail by a plan. It keeps what was before each change,
+/// and when each file was last synced.
 ///
 /// Calls on files are numbered from 0. A call whose number stands in the plan's list fails and changes nothing. From the
 /// number `stop` on each call on a file fails, and so does each emission behind that call. Where the call `stop` itself
@@ -21,6 +23,7 @@ pub struct MemOutside {
     files: MemFiles,
     bytes: Vec<u8>,
     past: Vec<Past>,
+    syncs: Syncs,
     pieces: Pieces,
     plan: Plan,
     device_faults: u64,
@@ -45,7 +48,7 @@ impl MemOutside {
     ghost use Rattle.hera_volume.specs.MemOutside.{mem_disk, mem_bytes, mem_emitted, mem_calls, mem_fails, mem_stop, mem_pieces, mem_device_faults, mem_output_faults, mem_starved, image_now};
     ghost use Rattle.hera_volume.specs.Time.{IsImageOf};
     ghost use Rattle.hera_volume.specs.declared.file_id.FileId.{FileId};
-    ghost use Rattle.hera_volume.specs.MemChange.{IsChanged, IsKept, IsBeside};
+    ghost use Rattle.hera_volume.specs.MemChange.{IsChanged, IsKept, IsAsSynced, IsNoted, IsBeside};
 
     /// An outside with three empty files and no byte emitted, with this plan. Its emissions follow the pieces, each
     /// the next, and behind them each takes all.
@@ -67,6 +70,7 @@ impl MemOutside {
             },
             bytes: Vec::new(alloc),
             past: Vec::new(alloc),
+            syncs: Syncs::none(),
             pieces: Pieces::new(pieces),
             plan: Plan {
                 calls: 0,
@@ -97,6 +101,7 @@ impl MemOutside {
         after.files.left.crash(fill);
         after.files.right.crash(fill);
         after.past.clear();
+        after.syncs = Syncs::none();
         after.pieces = Pieces::new(Vec::new(after.alloc));
         after.plan = Plan {
             calls: 0,
@@ -130,6 +135,7 @@ impl MemOutside {
     // There was no memory for its own growth.
     fn starve(&mut self) -> Failed
         ensures same { IsKept self.old self.new }
+        ensures syncs { IsAsSynced self.old self.new }
         ensures beside { IsBeside self.old self.new }
         ensures rose { Rose self.old.device_faults self.new.device_faults }
         ensures later { self.old.device_faults ≤ self.new.device_faults }
@@ -144,6 +150,7 @@ impl MemOutside {
         requires { at ≤ length (disk_in self.old.files file).bytes }
         ensures ok { OnOk result (IsChanged self.old self.new file (after_write (disk_in self.old.files file) at bytes.now)) }
         ensures err { OnErr result (IsKept self.old self.new) }
+        ensures syncs { IsAsSynced self.old self.new }
         ensures starved { HasCause self.old.starved self.new.starved result }
         ensures beside { IsBeside self.old self.new }
         ensures cause { HasCause self.old.device_faults self.new.device_faults result }
@@ -161,6 +168,7 @@ impl MemOutside {
         requires { len ≤ length (disk_in self.old.files file).bytes }
         ensures ok { OnOk result (IsChanged self.old self.new file (after_cut (disk_in self.old.files file) len)) }
         ensures err { OnErr result (IsKept self.old self.new) }
+        ensures syncs { IsAsSynced self.old self.new }
         ensures starved { HasCause self.old.starved self.new.starved result }
         ensures beside { IsBeside self.old self.new }
         ensures cause { HasCause self.old.device_faults self.new.device_faults result }
@@ -175,12 +183,17 @@ impl MemOutside {
         ensures sound { IsSound (disk_in self.old.files file) }
         ensures ok { OnOk result (IsChanged self.old self.new file (after_sync (disk_in self.old.files file))) }
         ensures err { OnErr result (IsKept self.old self.new) }
+        ensures noted { OnOk result (IsNoted self.old self.new file) }
+        ensures not_noted { OnErr result (IsAsSynced self.old self.new) }
         ensures starved { HasCause self.old.starved self.new.starved result }
         ensures beside { IsBeside self.old self.new }
         ensures cause { HasCause self.old.device_faults self.new.device_faults result }
     {
         match self.files.sync(self.alloc, &mut self.past, file) {
-            Ok(()) => Ok(()),
+            Ok(()) => {
+                self.syncs.note(file, self.past.len());
+                Ok(())
+            }
             Err(_) => Err(self.starve()),
         }
     }
@@ -262,7 +275,7 @@ impl Output for MemOutside {
 }
 
 impl Outside for MemOutside {
-    ghost use Rattle.hera_volume.specs.MemOutside.{mem_disk, mem_moment, mem_left_since, mem_device_faults, mem_as_read, mem_only_now, mem_counts_now, mem_went_by, mem_failed_by};
+    ghost use Rattle.hera_volume.specs.MemOutside.{mem_disk, mem_moment, mem_left_since, mem_synced_at, mem_device_faults, mem_as_read, mem_only_now, mem_counts_now, mem_went_by, mem_failed_by};
 
     ghost told = { Unit {0} };
 
@@ -271,6 +284,8 @@ impl Outside for MemOutside {
     ghost moment = { mem_moment };
 
     ghost left_since = { mem_left_since };
+
+    ghost synced_at = { mem_synced_at };
 
     ghost device_faults = { mem_device_faults };
 

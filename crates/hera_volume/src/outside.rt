@@ -30,6 +30,9 @@ pub trait Outside: Output {
     /// What a crash at some moment from that one up to the present might have left, inside a call or between two.
     ghost left_since: { Self → ℕ → Image → Type 0 };
 
+    /// The moment of a file's last sync that went well. No other call and no emission changes it.
+    ghost synced_at: { Self → FileId → ℕ };
+
     /// How often a call on a file has failed, a count that is always told and never falls.
     ghost device_faults: { Self → ℕ };
 
@@ -44,6 +47,7 @@ pub trait Outside: Output {
         ensures length { told → IfOk result (λ n. n ≡ length (disk self.old file).bytes) }
         ensures files { told → (f : FileId) → disk self.new f ≡ disk self.old f }
         ensures any_moment { told → LeavesOnly moment left_since self.old self.new (IsImageOf (disk self.old) (Self.emitted self.old)) }
+        ensures syncs { told → (f : FileId) → synced_at self.new f ≡ synced_at self.old f }
         ensures emitted { Self.emitted self.new ≡ Self.emitted self.old }
         ensures output { Self.output_faults self.new ≡ Self.output_faults self.old }
         ensures cause { HasCause (device_faults self.old) (device_faults self.new) result }
@@ -57,6 +61,7 @@ pub trait Outside: Output {
             × (take n buf.new ≡ take n (drop at (disk self.old file).bytes))) }
         ensures files { told → (f : FileId) → disk self.new f ≡ disk self.old f }
         ensures any_moment { told → LeavesOnly moment left_since self.old self.new (IsImageOf (disk self.old) (Self.emitted self.old)) }
+        ensures syncs { told → (f : FileId) → synced_at self.new f ≡ synced_at self.old f }
         ensures emitted { Self.emitted self.new ≡ Self.emitted self.old }
         ensures output { Self.output_faults self.new ≡ Self.output_faults self.old }
         ensures cause { HasCause (device_faults self.old) (device_faults self.new) result }
@@ -72,6 +77,7 @@ pub trait Outside: Output {
         ensures others { told → (f : FileId) → f ≢ file → disk self.new f ≡ disk self.old f }
         ensures any_moment { told → LeavesOnly moment left_since self.old self.new
             (IsImageIn (disk self.old) (Self.emitted self.old) file (after_write (disk self.old file) at bytes.now)) }
+        ensures syncs { told → (f : FileId) → synced_at self.new f ≡ synced_at self.old f }
         ensures emitted { Self.emitted self.new ≡ Self.emitted self.old }
         ensures output { Self.output_faults self.new ≡ Self.output_faults self.old }
         ensures cause { HasCause (device_faults self.old) (device_faults self.new) result }
@@ -87,18 +93,23 @@ pub trait Outside: Output {
         ensures others { told → (f : FileId) → f ≢ file → disk self.new f ≡ disk self.old f }
         ensures any_moment { told → LeavesOnly moment left_since self.old self.new
             (IsImageIn (disk self.old) (Self.emitted self.old) file (after_cut (disk self.old file) len)) }
+        ensures syncs { told → (f : FileId) → synced_at self.new f ≡ synced_at self.old f }
         ensures emitted { Self.emitted self.new ≡ Self.emitted self.old }
         ensures output { Self.output_faults self.new ≡ Self.output_faults self.old }
         ensures cause { HasCause (device_faults self.old) (device_faults self.new) result }
         ensures own { MatchResult result (λ _. went_by self.old self.new) (λ _. failed_by self.old self.new file (after_cut (disk self.old file) len)) };
 
-    /// Changes nothing that a read gives. After an `Ok` a crash leaves of this file just what a read gives.
+    /// Changes nothing that a read gives. After an `Ok` a crash leaves of this file just what a read gives, and the
+    /// present moment is that of its last sync.
     fn sync(&mut self, file: FileId) -> Result<(), Failed>
         ensures sound { told → OnOk result (IsSound (disk self.old file)) }
         ensures synced { told → OnOk result (disk self.new file ≡ after_sync (disk self.old file)) }
         ensures failed { told → OnErr result (disk self.new file ≡ disk self.old file) }
         ensures others { told → (f : FileId) → f ≢ file → disk self.new f ≡ disk self.old f }
         ensures any_moment { told → LeavesOnly moment left_since self.old self.new (IsImageOf (disk self.old) (Self.emitted self.old)) }
+        ensures synced_now { told → OnOk result (synced_at self.new file ≡ moment self.new) }
+        ensures not_synced { told → OnErr result (synced_at self.new file ≡ synced_at self.old file) }
+        ensures other_syncs { told → (f : FileId) → f ≢ file → synced_at self.new f ≡ synced_at self.old f }
         ensures emitted { Self.emitted self.new ≡ Self.emitted self.old }
         ensures output { Self.output_faults self.new ≡ Self.output_faults self.old }
         ensures cause { HasCause (device_faults self.old) (device_faults self.new) result }
@@ -113,9 +124,10 @@ pub trait Outside: Output {
     /// The present moment is one of those since an earlier one.
     ghost counts_now: { (a : Self) (t : ℕ) (c : Image) → told → t ≤ moment a → IsImageOf (disk a) (Self.emitted a) c → left_since a t c };
 
-    /// An emission leaves the files, what a crash may leave of them and the count of device faults as they are. A crash
+    /// An emission leaves the files, what a crash may leave of them, the moments of their syncs and the count of device
+    /// faults as they are. A crash
     /// inside it leaves what was emitted before, followed by some first bytes of the piece. The images since an earlier
     /// moment are then those since it at the first moment, and those from the first to the second.
     ghost emits_only: { (a b : Self) (piece : List ℕ) (n : ℕ) → Self.passed a b piece n
-        → EmitsOnly told disk Self.emitted moment left_since device_faults Self.output_faults a b piece n };
+        → EmitsOnly told disk Self.emitted moment left_since synced_at device_faults Self.output_faults a b piece n };
 }

@@ -35,6 +35,7 @@ pub fn say<W: Outside>(outside: &mut W, bytes: &[u8]) -> Result<(), Failed>
     ensures first { (n : ℕ) × TakesFirst result bytes.now n × Appends (W.emitted outside.old) (W.emitted outside.new) (take n bytes.now) }
     ensures files { W.told → (f : FileId) → W.disk outside.new f ≡ W.disk outside.old f }
     ensures any_moment { W.told → LeavesOnly W.moment W.left_since outside.old outside.new (IsImageAmid (W.disk outside.old) (W.emitted outside.old) bytes.now) }
+    ensures syncs { W.told → (f : FileId) → W.synced_at outside.new f ≡ W.synced_at outside.old f }
     ensures device { W.device_faults outside.new ≡ W.device_faults outside.old }
     ensures cause { HasCause (W.output_faults outside.old) (W.output_faults outside.new) result }
 {
@@ -65,6 +66,7 @@ pub fn sync_all<W: Outside>(outside: &mut W) -> Result<(), Failed>
     ensures settled { W.told → OnOk result ((f : FileId) → IsSettled (W.disk outside.new f)) }
     ensures reads { W.told → (f : FileId) → (W.disk outside.new f).bytes ≡ (W.disk outside.old f).bytes }
     ensures any_moment { W.told → LeavesOnly W.moment W.left_since outside.old outside.new (IsImageOf (W.disk outside.old) (W.emitted outside.old)) }
+    ensures synced { W.told → OnOk result ((f : FileId) → W.moment outside.old ≤ W.synced_at outside.new f) }
     ensures emitted { W.emitted outside.new ≡ W.emitted outside.old }
     ensures output { W.output_faults outside.new ≡ W.output_faults outside.old }
     ensures cause { HasCause (W.device_faults outside.old) (W.device_faults outside.new) result }

@@ -19,7 +19,7 @@ add-requires-clause-rows c =
     let state = after_all base.state c.args.commits.now in
     let catalogue : IsCatalogue base.catalogue = rw c.catalogue-2.ensures.catalogue at c.len-number-end.ensures.valid in
     let valid : IsState base.catalogue state = state_after_all base.catalogue base.state c.args.commits.now c.requires.over.state c.requires.over.proper in
-    rows_are base.catalogue state c.loop-number.number c.rel.result catalogue.decls valid (seen base.state c.args.commits.now c.loop-number.number c.rel.result (rw c.new-layers.ensures at c.rel.ensures))
+    rows_are base.catalogue state c.loop-number.number c.indexed.result catalogue.decls valid (seen base.state c.args.commits.now c.loop-number.number c.indexed.result (rw c.new-layers.ensures at c.indexed.ensures))
 
 pub returns-in_err-add-clause-refusal : goal.returns-in_err-add-clause-refusal
 returns-in_err-add-clause-refusal c =
@@ -28,18 +28,18 @@ returns-in_err-add-clause-refusal c =
     let w = c.loop-number.writer in
     let catalogue : IsCatalogue base.catalogue = rw c.catalogue-2.ensures.catalogue at c.len-number-end.ensures.valid in
     let valid : IsState base.catalogue state = state_after_all base.catalogue base.state c.args.commits.now c.requires.over.state c.requires.over.proper in
-    let here = seen base.state c.args.commits.now c.loop-number.number c.rel.result (rw c.new-layers.ensures at c.rel.ensures) in
+    let here = seen base.state c.args.commits.now c.loop-number.number c.indexed.result (rw c.new-layers.ensures at c.indexed.ensures) in
     let limit : w.limit ≡ c.args.limit = ap (λ (x : Written). x.limit) c.loop-number.invariant.written in
-    let full = subst (λ (n : ℕ). IsFirstFull PAGE_TWO (need_of w) (length (paged PAGE_TWO c.rel.result)) n c.in_err-add.field-0.0) limit c.in_err-add.ensures.full in
+    let full = subst (λ (n : ℕ). IsFirstFull PAGE_TWO (need_of w) (length (paged PAGE_TWO c.indexed.result)) n c.in_err-add.field-0.0) limit c.in_err-add.ensures.full in
     let q = err_from_is_err_and c.from_residual-in_err-add.result c.from_residual-in_err-add.ensures.1 in
-    rw (q.1, q.2) (full_adding base.catalogue state c.args.limit catalogue.decls valid c.loop-number.number c.rel.result w c.in_err-add.field-0.0 c.loop-number.invariant.written here c.loop-number.invariant.room full)
+    rw (q.1, q.2) (full_adding base.catalogue state c.args.limit catalogue.decls valid c.loop-number.number c.indexed.result w c.in_err-add.field-0.0 c.loop-number.invariant.written here c.loop-number.invariant.room full)
 
 pub loop-number-preserved : goal.loop-number-preserved
 loop-number-preserved c =
     let base = c.args.base.now in
     let state = after_all base.state c.args.commits.now in
-    let here = seen base.state c.args.commits.now c.loop-number.number c.rel.result (rw c.new-layers.ensures at c.rel.ensures) in
-    let written = one_more base.catalogue c.args.limit c.loop-number.number state c.rel.result c.loop-number.writer c.add.new.self c.loop-number.invariant.written here c.in_ok-add.ensures.add in
+    let here = seen base.state c.args.commits.now c.loop-number.number c.indexed.result (rw c.new-layers.ensures at c.indexed.ensures) in
+    let written = one_more base.catalogue c.args.limit c.loop-number.number state c.indexed.result c.loop-number.writer c.add.new.self c.loop-number.invariant.written here c.in_ok-add.ensures.add in
     let limit : c.add.new.self.limit ≡ c.args.limit = ap (λ (x : Written). x.limit) written in
     record { written = written; room = inr (subst (λ (n : ℕ). need_of c.add.new.self ≤ n) limit c.in_ok-add.ensures.room) }
 

@@ -9,6 +9,8 @@ use Rattle.rel_format.specs.Journal.{half_limit}
 use Rattle.hera_store.specs.Standing.{Standing, StandsFor, database_of, other_half}
 use Rattle.hera_store.specs.Faults.{half_with}
 use Rattle.hera_store.specs.Moments.{IsStill}
+use Rattle.hera_volume.proofs.Moments.{leaves-weaker}
+use Rattle.hera_store.proofs.Selections.{either_same}
 use Rattle.hera_store.proofs.Commits.{stands_holds}
 use Rattle.hera_store.proofs.Readings.{read_still}
 use Rattle.hera_store.proofs.Renewals.{other_twice, renewed_is, switched_holds}
@@ -27,7 +29,7 @@ returns-in-Ok-clause-any_moment g c = λ told opens.
     let former = subst (λ (f : FileId). IsHalfOf (disks f).bytes s.base.catalogue state) (sym (ap other_half c.other_half.ensures ∙ other_twice s.half)) (s.base.version, stands.half.half) in
     let new = renewed_is s c.deref-2.result.now c.self.invariant stands.half.half.catalogue short (c.deref-2.ensures.value ∙ half) in
     subst (λ (x : Standing). LeavesOnly g.W.Outside.moment g.W.Outside.left_since c.args.outside.now c.switch_to.new.outside (IsStill (database_of x) (g.W.Output.emitted c.args.outside.now))) c.self.view_is
-    (c.switch_to.ensures.any_moment told (database_of s) former new)
+    (leaves-weaker _ _ (c.switch_to.ensures.any_moment told (database_of s) (database_of s) former new) (either_same (database_of s) (g.W.Output.emitted c.args.outside.now)))
 
 pub returns-clause-any_moment : goal.returns-clause-any_moment
 returns-clause-any_moment g c = λ told opens.
@@ -42,7 +44,7 @@ returns-clause-any_moment g c = λ told opens.
     let former = subst (λ (f : FileId). IsHalfOf (disks f).bytes s.base.catalogue state) (sym (ap other_half c.other_half.ensures ∙ other_twice s.half)) (s.base.version, stands.half.half) in
     let new = renewed_is s c.deref-2.result.now c.self.invariant stands.half.half.catalogue short (c.deref-2.ensures.value ∙ half) in
     subst (λ (x : Standing). LeavesOnly g.W.Outside.moment g.W.Outside.left_since c.args.outside.now c.switch_to.new.outside (IsStill (database_of x) (g.W.Output.emitted c.args.outside.now))) c.self.view_is
-    (c.switch_to.ensures.any_moment told (database_of s) former new)
+    (leaves-weaker _ _ (c.switch_to.ensures.any_moment told (database_of s) (database_of s) former new) (either_same (database_of s) (g.W.Output.emitted c.args.outside.now)))
 
 pub returns-in-Ok-clause-holds : goal.returns-in-Ok-clause-holds
 returns-in-Ok-clause-holds g c = λ told.
@@ -57,7 +59,7 @@ returns-in-Ok-clause-holds g c = λ told.
     let written = rw c.other_half.ensures at (c.in-Ok.ensures.written told) in
     let selects = rw c.other_half.ensures at (c.in-Ok.ensures.selects told) in
     let new = renewed_is s (now (other_half s.half)).bytes c.self.invariant stands.half.half.catalogue short (written ∙ c.deref-2.ensures.value ∙ half) in
-    subst (λ (x : Standing). Holds (λ f. (now f).bytes) (database_of x)) c.self.view_is (switched_holds s (disks Select).bytes now stands.named selects new)
+    subst (λ (x : Standing). Holds (λ f. (now f).bytes) (database_of x)) c.self.view_is (switched_holds s (database_of s) (disks Select).bytes now stands.named selects new)
 
 pub returns-in_err-bytes-clause-reads : goal.returns-in_err-bytes-clause-reads
 returns-in_err-bytes-clause-reads g c = λ told opens. stands_holds (g.W.Outside.disk c.args.outside.now) _ (c.requires.stands told opens)

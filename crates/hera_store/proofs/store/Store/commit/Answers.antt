@@ -72,10 +72,10 @@ returns-in_err-prepared-clause-reads g c = λ told opens. inl (stands_holds (g.W
 
 pub returns-in-Ok-clause-reads : goal.returns-in-Ok-clause-reads
 returns-in-Ok-clause-reads g c = λ told opens.
-    read_either g.W.Outside.told g.W.Outside.disk g.W.Output.emitted g.W.Outside.moment g.W.Outside.left_since g.met.W.Outside.as_read g.met.W.Outside.only_now g.met.W.Outside.counts_now told c.args.outside.now c.seal.new.outside _ c.args.delta
+    read_either g.W.Outside.told g.W.Outside.disk g.W.Output.emitted g.W.Outside.moment g.W.Outside.left_since g.met.W.Outside.as_read g.met.W.Outside.only_now g.met.W.Outside.counts_now told c.args.outside.now c.seal.new.outside _ _
     (c.requires.stands told opens) (returns-in-Ok-clause-any_moment g c told opens)
 
 pub returns-in-Err-clause-reads : goal.returns-in-Err-clause-reads
 returns-in-Err-clause-reads g c = λ told opens.
-    read_either g.W.Outside.told g.W.Outside.disk g.W.Output.emitted g.W.Outside.moment g.W.Outside.left_since g.met.W.Outside.as_read g.met.W.Outside.only_now g.met.W.Outside.counts_now told c.args.outside.now c.seal.new.outside _ c.args.delta
+    read_either g.W.Outside.told g.W.Outside.disk g.W.Output.emitted g.W.Outside.moment g.W.Outside.left_since g.met.W.Outside.as_read g.met.W.Outside.only_now g.met.W.Outside.counts_now told c.args.outside.now c.seal.new.outside _ _
     (c.requires.stands told opens) (returns-in-Err-clause-any_moment g c told opens)

@@ -10,6 +10,7 @@ returns-in-Ok-clause-moments c =
       files = λ told f. refl;
       any_moment = λ told. emitted-leaves c.args.self.now now c.args.bytes.now c.in-Some.n (refl, c.in-Ok.ensures.past, c.in-Ok.ensures.ok);
       since = λ told. emitted-on c.args.self.now now c.args.bytes.now c.in-Some.n (refl, c.in-Ok.ensures.past, c.in-Ok.ensures.ok);
+      syncs = λ told f. refl;
       device = omega arith;
       output = omega arith;
     }
