@@ -15,8 +15,8 @@ use Rattle.hera_outcome.specs.declared.answer.Stop.{Stop}
 use Rattle.hera_outcome.specs.declared.answer.Stop.TheVariants.{Refused, Device, Output, Memory, Full}
 use Rattle.hera_outcome.specs.declared.refusal.Refusal.{Refusal}
 use Rattle.hera_outcome.specs.Answers.{number_of_ending, number_of_stop, number_of, IsFault, IsSpoken}
-use Rattle.hera_outcome.specs.Passages.{Passage, passage, ReadsAsBefore, KeepsFiles, IsUnseen}
-use Rattle.hera_outcome.specs.Outcomes.{Outcome, refused, prints, ran, made, renewed, too_long, carried, text_of_outcome, status_of_outcome, FilesAfter, FilesMidway, MomentsOf}
+use Rattle.hera_outcome.specs.Passages.{Passage, passage, ReadsAsBefore, KeepsFiles, IsUnseen, HasSynced, does_nothing}
+use Rattle.hera_outcome.specs.Outcomes.{Outcome, refused, prints, ran, made, renewed, widened, too_long, carried, text_of_outcome, status_of_outcome, FilesAfter, FilesMidway, MomentsOf}
 use Rattle.hera_outcome.specs.Told.{HasRisen, StopFaults, FaultsBy, Says, IsCause, IsDone, IsCutShort, IsTold, IsGivenUp, IsPending, Tells, Answered}
 
 -- ---- outcomes that leave the files alone
@@ -27,6 +27,7 @@ LeavesAlone (prints text) = Unit {0}
 LeavesAlone (ran report) = Unit {0}
 LeavesAlone (made rels) = ⊥
 LeavesAlone (renewed db) = ⊥
+LeavesAlone (widened old new) = ⊥
 LeavesAlone (too_long db) = ⊥
 LeavesAlone (carried db events ended) = ⊥
 
@@ -36,6 +37,7 @@ files_alone (prints text) v alone reads = reads
 files_alone (ran report) v alone reads = reads
 files_alone (made rels) v alone reads = absurd alone
 files_alone (renewed db) v alone reads = absurd alone
+files_alone (widened old new) v alone reads = absurd alone
 files_alone (too_long db) v alone reads = absurd alone
 files_alone (carried db events ended) v alone reads = absurd alone
 
@@ -45,6 +47,7 @@ midway_alone (prints text) status v alone reads = reads
 midway_alone (ran report) status v alone reads = reads
 midway_alone (made rels) status v alone reads = absurd alone
 midway_alone (renewed db) status v alone reads = absurd alone
+midway_alone (widened old new) status v alone reads = absurd alone
 midway_alone (too_long db) status v alone reads = absurd alone
 midway_alone (carried db events ended) status v alone reads = absurd alone
 
@@ -54,6 +57,7 @@ moments_alone (prints text) v alone amid = amid
 moments_alone (ran report) v alone amid = amid
 moments_alone (made rels) v alone amid = absurd alone
 moments_alone (renewed db) v alone amid = absurd alone
+moments_alone (widened old new) v alone amid = absurd alone
 moments_alone (too_long db) v alone amid = absurd alone
 moments_alone (carried db events ended) v alone amid = absurd alone
 
@@ -63,6 +67,7 @@ amid_alone (prints text) v alone amid = amid
 amid_alone (ran report) v alone amid = amid
 amid_alone (made rels) v alone amid = absurd alone
 amid_alone (renewed db) v alone amid = absurd alone
+amid_alone (widened old new) v alone amid = absurd alone
 amid_alone (too_long db) v alone amid = absurd alone
 amid_alone (carried db events ended) v alone amid = absurd alone
 
@@ -215,7 +220,7 @@ module _ {D : Type 0} (q : output.Ghosts D) (w : files.Ghosts D) where
   pending_none a = record { device = refl; unseen = unseen_none a }
 
   pub given_up_none : (a : D) → IsGivenUp 9 (over a a)
-  given_up_none a = record { cause = inr (refl, refl); unseen = unseen_none a }
+  given_up_none a = record { cause = inr (refl, refl); unseen = unseen_none a; syncs = λ t. does_nothing refl }
 
   -- there was no memory before anything was said
   pub told_none : (o : Outcome) (a : D) → LeavesAlone o → IsTold o 9 (over a a)
@@ -276,15 +281,9 @@ module _ {D : Type 0} (q : output.Ghosts D) (w : files.Ghosts D) where
     pub risen_device : (c : D) → HasRisen (w.device_faults b) (w.device_faults c) → HasRisen (w.device_faults a) (w.device_faults c)
     risen_device c risen = subst (λ (n : ℕ). HasRisen n (w.device_faults c)) p.device risen
 
-    pub given_up_on : (status : ℕ) (c : D) → IsGivenUp status (over b c) → IsGivenUp status (over a c)
-    given_up_on status c up = record {
-      cause = ⊎_elim (λ (six, risen). inl (six, risen_device c risen)) (λ (nine, still). inr (nine, still ∙ p.device)) up.cause;
-      unseen = unseen_on a b p.unseen c up.unseen;
-    }
-
     -- there was no memory behind it
-    pub given_up_there : IsGivenUp 9 (over a b)
-    given_up_there = record { cause = inr (refl, p.device); unseen = p.unseen }
+    pub given_up_there : (w.told → HasSynced (over a b)) → IsGivenUp 9 (over a b)
+    given_up_there syncs = record { cause = inr (refl, p.device); unseen = p.unseen; syncs = syncs }
 
     pub cause_on : (status : ℕ) (c : D) → IsCause status (over b c) → IsCause status (over a c)
     cause_on status c cause = cause_by a b p.device p.unseen.output status c cause
@@ -320,6 +319,7 @@ module _ {D : Type 0} (q : output.Ghosts D) (w : files.Ghosts D) where
     after_alone (ran report) c alone t files = reads_on c t files
     after_alone (made rels) c alone t files = absurd alone
     after_alone (renewed db) c alone t files = absurd alone
+    after_alone (widened old new) c alone t files = absurd alone
     after_alone (too_long db) c alone t files = absurd alone
     after_alone (carried db events ended) c alone t files = absurd alone
 
@@ -329,6 +329,7 @@ module _ {D : Type 0} (q : output.Ghosts D) (w : files.Ghosts D) where
     midway_on (ran report) status c alone t files = reads_on c t files
     midway_on (made rels) status c alone t files = absurd alone
     midway_on (renewed db) status c alone t files = absurd alone
+    midway_on (widened old new) status c alone t files = absurd alone
     midway_on (too_long db) status c alone t files = absurd alone
     midway_on (carried db events ended) status c alone t files = absurd alone
 

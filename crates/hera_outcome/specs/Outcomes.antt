@@ -10,10 +10,10 @@ use Rattle.hera_volume.specs.declared.file_id.FileId.TheVariants.{Select}
 use Rattle.hera_store.specs.Databases.{Database, empty_database, Holds, Names}
 use Rattle.hera_store.specs.Standing.{other_half}
 use Rattle.hera_store.specs.Faults.{half_with}
-use Rattle.hera_store.specs.Moments.{IsStill, IsNoneOr}
+use Rattle.hera_store.specs.Moments.{IsStill, IsEither, IsNoneOr}
 use Rattle.hera_outcome.specs.declared.refusal.Refusal.{Refusal}
 use Rattle.hera_outcome.specs.Cut.{IsCut, with_state}
-use Rattle.hera_outcome.specs.Passages.{Passage, ReadsAsBefore, Stores}
+use Rattle.hera_outcome.specs.Passages.{Passage, ReadsAsBefore, ReadsAs, ReadsAmong, Stores}
 use Rattle.hera_outcome.specs.Refusals.{line_of, status_of_refusal}
 
 -- ---- outcomes
@@ -24,13 +24,15 @@ pub data Ended : Type 0 where
   full : Ended
 
 -- a refusal; a text, printed; a run over no folder; the database of these relations, made without rows; this database,
--- printed anew into the other half; or too long for that; or events that are carried out over a database
+-- printed anew into the other half; a database that is widened to another; a database too long for one of these; or
+-- events that are carried out over a database
 pub data Outcome : Type 0 where
   refused : Refusal → Outcome
   prints : List ℕ → Outcome
   ran : Report → Outcome
   made : List RelDecl → Outcome
   renewed : Database → Outcome
+  widened : Database → Database → Outcome
   too_long : Database → Outcome
   carried : Database → List Event → Ended → Outcome
 
@@ -41,6 +43,7 @@ text_of_outcome (prints text) = text
 text_of_outcome (ran report) = output_of report
 text_of_outcome (made rels) = codes "created\n"
 text_of_outcome (renewed db) = codes "checkpointed\n"
+text_of_outcome (widened old new) = codes "widened\n"
 text_of_outcome (too_long db) = []
 text_of_outcome (carried db events ended) = printed events
 
@@ -59,6 +62,7 @@ status_of_outcome (prints text) = 0
 status_of_outcome (ran report) = status_of_finish report.finish
 status_of_outcome (made rels) = 0
 status_of_outcome (renewed db) = 0
+status_of_outcome (widened old new) = 0
 status_of_outcome (too_long db) = 10
 status_of_outcome (carried db events ended) = status_of_ended ended
 
@@ -78,19 +82,22 @@ FilesAfter (prints text) v = ReadsAsBefore v
 FilesAfter (ran report) v = ReadsAsBefore v
 FilesAfter (made rels) v = Stores (empty_database rels) v
 FilesAfter (renewed db) v = Stores db v × IsRenewed db (λ f. (v.disks_before f).bytes) (λ f. (v.disks_now f).bytes)
+FilesAfter (widened old new) v = Stores new v
 FilesAfter (too_long db) v = ReadsAsBefore v
 FilesAfter (carried db events ended) v = Stores (with_state db (state_after db.state events)) v
 
 -- The files where it was cut short: where the output failed (8), all is done but the printing; where there was no memory
--- (9), nothing. What is left of events that were carried out, a stop at each moment says.
+-- (9), nothing; and where a call on a file failed (6), no database is read or the new one, or the same as before, or that
+-- or the widened one. Of events that were carried out a cut is read, as a stop might have left it.
 abbrev pub FilesMidway : Outcome → ℕ → Passage → Type 0
 FilesMidway (refused refusal) status v = ReadsAsBefore v
 FilesMidway (prints text) status v = ReadsAsBefore v
 FilesMidway (ran report) status v = ReadsAsBefore v
-FilesMidway (made rels) status v = (status ≡ 8 → Stores (empty_database rels) v) × (status ≡ 9 → ReadsAsBefore v)
-FilesMidway (renewed db) status v = (status ≡ 8 → FilesAfter (renewed db) v) × (status ≡ 9 → ReadsAsBefore v)
+FilesMidway (made rels) status v = (status ≡ 8 → Stores (empty_database rels) v) × (status ≡ 9 → ReadsAsBefore v) × (status ≡ 6 → ((v.disks_now Select).bytes ≡ []) ⊎ ReadsAs (empty_database rels) v)
+FilesMidway (renewed db) status v = (status ≡ 8 → FilesAfter (renewed db) v) × (status ≡ 9 → ReadsAsBefore v) × (status ≡ 6 → ReadsAs db v)
+FilesMidway (widened old new) status v = (status ≡ 8 → Stores new v) × (status ≡ 9 → ReadsAsBefore v) × (status ≡ 6 → ReadsAs old v ⊎ ReadsAs new v)
 FilesMidway (too_long db) status v = ReadsAsBefore v
-FilesMidway (carried db events ended) status v = Unit {0}
+FilesMidway (carried db events ended) status v = ReadsAmong (IsCut events db v.emitted_before) v
 
 -- ---- what a stop leaves
 
@@ -102,14 +109,20 @@ IsMaking db start c = IsNoneOr db start c ⊎ (Holds c.files db × ((n : ℕ) ×
 abbrev pub IsRenewing : Database → (FileId → List ℕ) → Option (List ℕ) → Image → Type 0
 IsRenewing db before start c = IsStill db start c ⊎ (Holds c.files db × IsRenewed db before c.files × ((n : ℕ) × Appends start (Some c.emitted) (take n (codes "checkpointed\n"))))
 
+-- one of both databases, and nothing printed; or the widened one, and some first bytes of the line
+abbrev pub IsWidening : Database → Database → Option (List ℕ) → Image → Type 0
+IsWidening old new start c = IsEither old new start c ⊎ (Holds c.files new × ((n : ℕ) × Appends start (Some c.emitted) (take n (codes "widened\n"))))
+
 -- At any moment a stop leaves the files as it would have left them at the start, and some first bytes of the text. An
--- outcome that changes files leaves whole ones: no database or the new one; the same, in either half; a cut of the events.
+-- outcome that changes files leaves whole ones: no database or the new one; the same, in either half; the one before or
+-- the widened one; a cut of the events.
 abbrev pub MomentsOf : Outcome → Passage → Type 0
 MomentsOf (refused refusal) v = v.leaves_only (IsImageAmid v.disks_before v.emitted_before (line_of refusal))
 MomentsOf (prints text) v = v.leaves_only (IsImageAmid v.disks_before v.emitted_before text)
 MomentsOf (ran report) v = v.leaves_only (IsImageAmid v.disks_before v.emitted_before (output_of report))
 MomentsOf (made rels) v = v.once_settled (IsMaking (empty_database rels) v.emitted_before)
 MomentsOf (renewed db) v = v.once_opened (IsRenewing db (λ f. (v.disks_before f).bytes) v.emitted_before)
+MomentsOf (widened old new) v = v.once_opened (IsWidening old new v.emitted_before)
 MomentsOf (too_long db) v = v.once_opened (IsStill db v.emitted_before)
 MomentsOf (carried db events ended) v = v.once_opened (IsCut events db v.emitted_before)
 
@@ -120,5 +133,6 @@ MomentsBehind (prints text) v = v.leaves_only (IsImageAmid v.disks_before v.emit
 MomentsBehind (ran report) v = v.leaves_only (IsImageAmid v.disks_before v.emitted_before (output_of report))
 MomentsBehind (made rels) v = ⊥
 MomentsBehind (renewed db) v = v.leaves_only (IsRenewing db (λ f. (v.disks_before f).bytes) v.emitted_before)
+MomentsBehind (widened old new) v = v.leaves_only (IsWidening old new v.emitted_before)
 MomentsBehind (too_long db) v = v.leaves_only (IsStill db v.emitted_before)
 MomentsBehind (carried db events ended) v = v.leaves_only (IsCut events db v.emitted_before)

@@ -5,7 +5,7 @@ use Rattle.hera_script.specs.Labels as script
 use Rattle.hera_volume.specs.declared.file_id.FileId.{FileId}
 use Rattle.hera_volume.specs.declared.file_id.FileId.TheVariants.{Select, Left, Right}
 use Rattle.hera_outcome.specs.declared.refusal.Refusal.{Refusal}
-use Rattle.hera_outcome.specs.declared.refusal.Refusal.TheVariants.{Usage, Unread, Script, Exists, NoDatabase, Damaged, Differing}
+use Rattle.hera_outcome.specs.declared.refusal.Refusal.TheVariants.{Usage, Unread, Script, Exists, NoDatabase, Damaged, Differing, Narrows}
 
 -- how the line of damage in a file begins
 abbrev pub label_of : FileId → List ℕ
@@ -21,6 +21,7 @@ line_of Exists = codes "database exists\n"
 line_of NoDatabase = codes "no database\n"
 line_of (Damaged file at) = end_text (label_of file) at
 line_of (Differing name) = codes "differs " ++ name ++ codes "\n"
+line_of (Narrows name) = codes "narrows " ++ name ++ codes "\n"
 
 abbrev pub status_of_refusal : Refusal → ℕ
 status_of_refusal Usage = 2
@@ -30,3 +31,4 @@ status_of_refusal Exists = 5
 status_of_refusal NoDatabase = 5
 status_of_refusal (Damaged file at) = 5
 status_of_refusal (Differing name) = 5
+status_of_refusal (Narrows name) = 5

@@ -8,7 +8,7 @@ use Rattle.hera_outcome.specs.declared.answer.Stop.{Stop}
 use Rattle.hera_outcome.specs.declared.answer.Stop.TheVariants.{Refused, Device, Output, Memory, Full}
 use Rattle.hera_outcome.specs.Answers.{number_of_ending}
 use Rattle.hera_outcome.specs.Outcomes.{Outcome, refused, text_of_outcome, status_of_outcome, FilesAfter, FilesMidway, MomentsOf, MomentsBehind}
-use Rattle.hera_outcome.specs.Passages.{Passage, KeepsFiles, IsUnseen}
+use Rattle.hera_outcome.specs.Passages.{Passage, KeepsFiles, IsUnseen, HasSynced}
 
 -- ---- faults
 
@@ -64,10 +64,12 @@ pub record IsToldBehind (outcome : Outcome) (status : ℕ) (v : Passage) : Type 
   pub ending : IsDone outcome status v ⊎ IsCutShort outcome status v
   pub moments : v.told → MomentsBehind outcome v
 
--- a call on a file failed or there was no memory, and nothing was done that shows
+-- A call on a file failed or there was no memory, and nothing was done that shows. Behind the syncs a stop leaves only what
+-- it may leave at the end.
 pub record IsGivenUp (status : ℕ) (v : Passage) : Type 0 where
   pub cause : ((status ≡ 6) × HasRisen v.device_before v.device_now) ⊎ ((status ≡ 9) × (v.device_now ≡ v.device_before))
   pub unseen : IsUnseen v
+  pub syncs : v.told → HasSynced v
 
 -- ---- a text
 

@@ -25,6 +25,8 @@ pub enum Refusal {
     Damaged { file: FileId, at: u64 },
     /// The first relation of the program that the database has not with an equal schema.
     Differing { relation: Name },
+    /// The first relation of the database that the new catalogue does not keep.
+    Narrows { relation: Name },
 }
 
 impl Refusal {
@@ -38,7 +40,8 @@ impl Refusal {
             Refusal::Exists
             | Refusal::NoDatabase
             | Refusal::Damaged { .. }
-            | Refusal::Differing { .. } => 5,
+            | Refusal::Differing { .. }
+            | Refusal::Narrows { .. } => 5,
             Refusal::Unread => 7,
         }
     }
@@ -54,7 +57,8 @@ impl Refusal {
             Refusal::Exists => plain(alloc, b"database exists\n"),
             Refusal::NoDatabase => plain(alloc, b"no database\n"),
             Refusal::Damaged { file, at } => end_line(alloc, damage_label(*file), *at),
-            Refusal::Differing { relation } => differing_line(alloc, relation),
+            Refusal::Differing { relation } => named_line(alloc, b"differs ", relation),
+            Refusal::Narrows { relation } => named_line(alloc, b"narrows ", relation),
         }
     }
 }
@@ -66,11 +70,11 @@ fn plain(alloc: Global, bytes: &[u8]) -> Result<Line, AllocError>
     Ok(Line::new(bytes.to_vec(alloc)?))
 }
 
-/// The line of a relation that differs.
-fn differing_line(alloc: Global, relation: &Name) -> Result<Line, AllocError>
-    ensures { IfOk result (λ line. line ≡ codes "differs " ++ relation.now ++ codes "\n") }
+/// The line of a relation that begins so.
+fn named_line(alloc: Global, begin: &[u8], relation: &Name) -> Result<Line, AllocError>
+    ensures { IfOk result (λ line. line ≡ begin.now ++ relation.now ++ codes "\n") }
 {
-    let mut bytes = b"differs ".to_vec(alloc)?;
+    let mut bytes = begin.to_vec(alloc)?;
     bytes.extend_from_slice(relation.bytes())?;
     bytes.extend_from_slice(b"\n")?;
     Ok(Line::new(bytes))

@@ -12,13 +12,13 @@ use Rattle.hera_volume.specs.Disk.{Disk, IsImage, IsSettled}
 use Rattle.hera_volume.specs.Time.{Image, IsImageAmid}
 use Rattle.hera_volume.proofs.Images.{image-settled}
 use Rattle.hera_volume.specs.declared.file_id.FileId.{FileId}
-use Rattle.hera_store.proofs.Commits.{stands_holds}
 use Rattle.hera_meaning.proofs.CommitLaws.{state_push}
 use Rattle.hera_store.specs.Databases.{Database, Holds}
 use Rattle.hera_store.specs.Moments.{IsEither}
 use Rattle.hera_store.specs.Standing.{Standing, StandsFor, database_of, database_after}
+use Rattle.hera_run.specs.Keeping.{AreLeft, finds_settled}
 use Rattle.hera_run.specs.Running.{ending_of, last_text}
-use Rattle.hera_outcome.specs.Cut.{IsCut, with_state}
+use Rattle.hera_outcome.specs.Cut.{IsCut, IsCutWith, with_state}
 
 -- ---- states after commits
 
@@ -50,7 +50,7 @@ holds-settled disks db c settled holds images =
     subst (λ (x : FileId → List ℕ). Holds x db) is holds
 
 pub found-settled : (disks : FileId → Disk) (s : Standing) (c : Image) → StandsFor disks s → ((f : FileId) → IsImage (disks f) (c.files f)) → Holds c.files (database_of s)
-found-settled disks s c stands images = holds-settled disks (database_of s) c stands.settled (stands_holds disks s stands) images
+found-settled disks s c stands images = finds_settled disks s c.files stands images
 
 pub nothing-appended : (a b : Option (List ℕ)) → Keeps a b → Appends a b []
 nothing-appended None b kept = tt
@@ -58,20 +58,6 @@ nothing-appended (Some x) None kept = absurd kept
 nothing-appended (Some x) (Some y) kept = kept ∙ sym (append-nil x)
 
 -- ---- cuts of one event
-
--- while a line is emitted
-pub cut-said : (disks : FileId → Disk) (s : Standing) (line : List ℕ) (start : Option (List ℕ)) (c : Image) → StandsFor disks s → IsImageAmid disks start line c
-    → IsCut (out line ∷ []) (database_of s) start c
-cut-said disks s line start c stands image = record {
-  done = [];
-  rest = out line ∷ [];
-  split = refl;
-  front = image.emitted.0;
-  bytes = image.emitted.1;
-  state = (database_of s).state;
-  found = found-settled disks s c stands image.files;
-  stored = inl refl;
-}
 
 -- while a commit is stored
 pub cut-stored : (s : Standing) (d : Delta) (start : Option (List ℕ)) (c : Image) → IsEither (database_of s) (database_after s d) start c
@@ -101,25 +87,38 @@ cut-stored s d start c image =
     })
     image.found
 
--- while the last line of a run is emitted
-cut-none : (disks : FileId → Disk) (s : Standing) (start : Option (List ℕ)) (c : Image) → StandsFor disks s → IsImageAmid disks start [] c → IsCut [] (database_of s) start c
-cut-none disks s start c stands image = record {
-  done = [];
-  rest = [];
-  split = refl;
-  front = image.emitted.0;
-  bytes = image.emitted.1;
-  state = (database_of s).state;
-  found = found-settled disks s c stands image.files;
-  stored = inl refl;
-}
+-- while something is said, over files in which this state is found
+module _ (finds : (FileId → List ℕ) → State → Type 0) (disks : FileId → Disk) (s : State) (own : (files : FileId → List ℕ) → AreLeft disks files → finds files s) (start : Option (List ℕ)) (c : Image) where
+  pub cut-said : (line : List ℕ) → IsImageAmid disks start line c → IsCutWith finds (out line ∷ []) s start c
+  cut-said line image = record {
+    done = [];
+    rest = out line ∷ [];
+    split = refl;
+    front = image.emitted.0;
+    bytes = image.emitted.1;
+    state = s;
+    found = own c.files image.files;
+    stored = inl refl;
+  }
 
-cut-line : (disks : FileId → Disk) (s : Standing) (line : List ℕ) (start : Option (List ℕ)) (c : Image) → StandsFor disks s → IsImageAmid disks start (line ++ []) c → IsCut (out line ∷ []) (database_of s) start c
-cut-line disks s line start c stands image = cut-said disks s line start c stands (subst (λ (l : List ℕ). IsImageAmid disks start l c) (append-nil line) image)
+  -- the last line of a run
+  cut-none : IsImageAmid disks start [] c → IsCutWith finds [] s start c
+  cut-none image = record {
+    done = [];
+    rest = [];
+    split = refl;
+    front = image.emitted.0;
+    bytes = image.emitted.1;
+    state = s;
+    found = own c.files image.files;
+    stored = inl refl;
+  }
 
-pub cut-ending : (disks : FileId → Disk) (s : Standing) (end : End) (start : Option (List ℕ)) (c : Image) → StandsFor disks s → IsImageAmid disks start (last_text end) c
-    → IsCut (ending_of end) (database_of s) start c
-cut-ending disks s Done start c stands image = cut-none disks s start c stands image
-cut-ending disks s (Trap name at) start c stands image = cut-line disks s (trap_line name at) start c stands image
-cut-ending disks s Spent start c stands image = cut-line disks s spent_line start c stands image
-cut-ending disks s Stuck start c stands image = cut-none disks s start c stands image
+  cut-line : (line : List ℕ) → IsImageAmid disks start (line ++ []) c → IsCutWith finds (out line ∷ []) s start c
+  cut-line line image = cut-said line (subst (λ (l : List ℕ). IsImageAmid disks start l c) (append-nil line) image)
+
+  pub cut-ending : (end : End) → IsImageAmid disks start (last_text end) c → IsCutWith finds (ending_of end) s start c
+  cut-ending Done image = cut-none image
+  cut-ending (Trap name at) image = cut-line (trap_line name at) image
+  cut-ending Spent image = cut-line spent_line image
+  cut-ending Stuck image = cut-none image

@@ -13,10 +13,9 @@ use Rattle.when_overlay.specs.Changed.{after_all}
 use Rattle.hera_machine.specs.Over.{state_over}
 use Rattle.rel_pages.specs.Stored.{Stored}
 use Rattle.hera_meaning.specs.Commits.{after_all as after_commits, IsCommitOf}
-use Rattle.hera_store.specs.Databases.{Database}
 use Rattle.hera_store.specs.Standing.{Standing, database_of}
 use Rattle.hera_meaning.proofs.CommitLaws.{state_push}
-use Rattle.hera_outcome.specs.Cut.{with_state}
+use Rattle.hera_run.specs.Keeping.{IsLevelled}
 use Rattle.hera_run.proofs.Images.{with_over}
 
 -- ---- deltas of a catalogue, as a test tells
@@ -33,21 +32,11 @@ commits_known rels ds h = list_all-from_AllPass (is_delta_of rels) ds (λ k d wi
 
 -- ---- the levels do what the commits of a store do, and are of its catalogue
 
-pub record IsLevelled (levels : List Delta) (s : Standing) : Type 0 where
-  pub same : after_all s.base.state levels ≡ after_commits s.base.state s.commits
-  pub of : list_all (is_delta_of s.base.catalogue) levels ≡ true
-
 pub levelled_start : (levels commits : List Delta) (s : Standing) → commits ≡ s.commits → All (IsCommitOf s.base.catalogue) s.commits
     → after_all s.base.state levels ≡ after_all s.base.state commits → (list_all (is_delta_of s.base.catalogue) commits ≡ true → list_all (is_delta_of s.base.catalogue) levels ≡ true) → IsLevelled levels s
 levelled_start levels commits s given proper does known = record {
   same = does ∙ ap (after_all s.base.state) given ∙ sym (with_over s.base.state s.commits);
   of = known (ap (list_all (is_delta_of s.base.catalogue)) given ∙ commits_known s.base.catalogue s.commits proper);
-}
-
-pub levelled_kept : (levels : List Delta) (old now : Standing) → now.base ≡ old.base → now.commits ≡ old.commits → IsLevelled levels old → IsLevelled levels now
-levelled_kept levels old now base kept h = record {
-  same = ap (λ (b : Stored). after_all b.state levels) base ∙ h.same ∙ sym (ap (λ (b : Stored). after_commits b.state now.commits) base ∙ ap (after_commits old.base.state) kept);
-  of = ap (λ (b : Stored). list_all (is_delta_of b.catalogue) levels) base ∙ h.of;
 }
 
 pub levelled_more : (levels more : List Delta) (old now : Standing) (d : Delta) → now.base ≡ old.base → now.commits ≡ old.commits ++ d ∷ [] → IsLevelled levels old
@@ -60,12 +49,5 @@ levelled_more levels more old now d base longer h does own known = record {
 }
 
 -- the state that a step reads is the one stored
-pub state_read : (now : Standing) (levels : List Delta) (db : Database) (here : State) (b : Stored) (ds : List Delta) → IsLevelled levels now → b ≡ now.base → ds ≡ levels → database_of now ≡ with_state db here → state_over b.state ds ≡ here
-state_read now levels db here b ds h base given is =
-    ap (λ (b : Stored). state_over b.state ds) base ∙ ap (λ (ds : List Delta). state_over now.base.state ds) given
-    ∙ h.same ∙ ap (λ (x : Database). x.state) is
-
--- the levels that a step reads are of the catalogue
-pub levels_read : (now : Standing) (levels : List Delta) (b : Stored) (ds : List Delta) → IsLevelled levels now → b ≡ now.base → ds ≡ levels → list_all (is_delta_of b.catalogue) ds ≡ true
-levels_read now levels b ds h base given =
-    ap (λ (b : Stored). list_all (is_delta_of b.catalogue) ds) base ∙ ap (list_all (is_delta_of now.base.catalogue)) given ∙ h.of
+pub state_read : (levels : List Delta) (s : Standing) (ds : List Delta) → IsLevelled levels s → ds ≡ levels → state_over s.base.state ds ≡ (database_of s).state
+state_read levels s ds h given = ap (state_over s.base.state) given ∙ h.same

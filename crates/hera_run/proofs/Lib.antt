@@ -1,3 +1,4 @@
+pub mod Allowed
 pub mod Cuts
 pub mod Endings
 pub mod Fittings
@@ -7,3 +8,5 @@ pub mod Meaning
 pub mod Readied
 pub mod Results
 pub mod Steps
+pub mod Stopped
+pub mod Read

@@ -28,7 +28,7 @@ use Rattle.commit_journal.specs.Halves.{IsHalfTo}
 use Rattle.half_laws.proofs.Halves.{half_version, half_of_is, one_place_of}
 use Rattle.hera_store.specs.Databases.{Database, Holds, Names, half_named, IsFound, FilesFound, absent, spoilt, held}
 use Rattle.hera_store.specs.Faults.{half_with}
-use Rattle.hera_store.specs.Moments.{IsStill}
+use Rattle.hera_store.specs.Moments.{IsStill, IsUnsynced, LeavesOnceSynced}
 use Rattle.hera_store.specs.Standing.{Standing, StandsFor, database_of, other_half, select_byte}
 use Rattle.hera_store.proofs.Commits.{stands_holds}
 use Rattle.hera_store.proofs.Founds.{found_one}
@@ -41,13 +41,13 @@ use Rattle.hera_outcome.specs.declared.refusal.Refusal.TheVariants.{Differing}
 use Rattle.hera_outcome.specs.Answers.{number_of, IsFault}
 use Rattle.hera_outcome.specs.Cut.{IsCut}
 use Rattle.hera_outcome.specs.Outcomes.{Outcome, full, carried, text_of_outcome}
-use Rattle.hera_outcome.specs.Passages.{Passage, passage, Start, start, LeavesOnceOpened, KeepsFiles, Stores}
+use Rattle.hera_outcome.specs.Passages.{Passage, passage, Start, start, LeavesOnceOpened, ReadsAmong, syncs_all, fails_at}
 use Rattle.hera_outcome.specs.Told.{HasRisen, IsCause, IsDone, IsCutShort, IsToldBehind, IsGivenUp, IsPending, Tells, Answered}
-use Rattle.hera_outcome.proofs.Passing.{keeps_none, pending_none, pending_on, given_up_there, untouched_by, cause_by, cause_on, answered_by}
+use Rattle.hera_outcome.proofs.Passing.{pending_on, given_up_there, untouched_by, cause_by, cause_on, answered_by}
 use Rattle.hera_run.specs.Fitting.{fitting}
 use Rattle.hera_run.specs.Folder.{IsThere, IsClosed, finds_none, finds_damage, StartsAt, outcome_from, RunsTo, closed, differs, overflows, runs}
 use Rattle.hera_run.specs.Opening.{IsOpen, IsOpened, IsUnopened, IsRewritten, IsHalted, IsUnwritten, IsFoundFor, IsReady, IsUnready}
-use Rattle.hera_run.proofs.Images.{found-settled, holds-settled, stands-kept, nothing-appended}
+use Rattle.hera_run.proofs.Images.{found-settled, holds-settled, nothing-appended}
 
 -- ---- relations and formats
 
@@ -92,12 +92,18 @@ module _ {D : Type 0} (q : output.Ghosts D) (w : files.Ghosts D) where
   opened_pending a b reads within same fine sound moments = record { device = sound; unseen = record { emitted = same; output = fine; reads = reads; within = within; moments = moments } }
 
   pub given_up_device : (a b : D) → (w.told → (f : FileId) → (w.disk b f).bytes ≡ (w.disk a f).bytes) → (w.told → (f : FileId) → Within (w.disk b f) (w.disk a f)) → q.emitted b ≡ q.emitted a
-      → q.output_faults b ≡ q.output_faults a → HasRisen (w.device_faults a) (w.device_faults b) → (w.told → LeavesOnly w.moment w.left_since a b (IsImageOf (w.disk a) (q.emitted a))) → IsGivenUp 6 (over a b)
-  given_up_device a b reads within same fine risen moments = record { cause = inl (refl, risen); unseen = record { emitted = same; output = fine; reads = reads; within = within; moments = moments } }
+      → q.output_faults b ≡ q.output_faults a → HasRisen (w.device_faults a) (w.device_faults b) → (w.told → LeavesOnly w.moment w.left_since a b (IsImageOf (w.disk a) (q.emitted a)))
+      → (w.told → LeavesOnceSynced w.disk q.emitted w.moment w.left_since w.synced_at a b ⊎ ((f : FileId) × IsUnsynced w.synced_at a b f)) → IsGivenUp 6 (over a b)
+  given_up_device a b reads within same fine risen moments failing = record {
+    cause = inl (refl, risen);
+    unseen = record { emitted = same; output = fine; reads = reads; within = within; moments = moments };
+    syncs = λ t. ⊎_elim (λ all. syncs_all all) (λ (f, none). fails_at f none) (failing t);
+  }
 
   pub given_up_memory : (a b : D) → (w.told → (f : FileId) → (w.disk b f).bytes ≡ (w.disk a f).bytes) → (w.told → (f : FileId) → Within (w.disk b f) (w.disk a f)) → q.emitted b ≡ q.emitted a
-      → q.output_faults b ≡ q.output_faults a → w.device_faults b ≡ w.device_faults a → (w.told → LeavesOnly w.moment w.left_since a b (IsImageOf (w.disk a) (q.emitted a))) → IsGivenUp 9 (over a b)
-  given_up_memory a b reads within same fine sound moments = record { cause = inr (refl, sound); unseen = record { emitted = same; output = fine; reads = reads; within = within; moments = moments } }
+      → q.output_faults b ≡ q.output_faults a → w.device_faults b ≡ w.device_faults a → (w.told → LeavesOnly w.moment w.left_since a b (IsImageOf (w.disk a) (q.emitted a)))
+      → (w.told → LeavesOnceSynced w.disk q.emitted w.moment w.left_since w.synced_at a b) → IsGivenUp 9 (over a b)
+  given_up_memory a b reads within same fine sound moments synced = record { cause = inr (refl, sound); unseen = record { emitted = same; output = fine; reads = reads; within = within; moments = moments }; syncs = λ t. syncs_all (synced t) }
 
   still_here : (a b : D) (db : Database) → q.emitted b ≡ q.emitted a → (c : Image) → IsStill db (q.emitted b) c → IsStill db (q.emitted a) c
   still_here a b db same c still = record { found = still.found; emitted = subst (λ (e : Option (List ℕ)). Keeps e (Some c.emitted)) same still.emitted }
@@ -228,10 +234,10 @@ module _ {D : Type 0} (q : output.Ghosts D) (w : files.Ghosts D) where
   written_short a b s fits risen same fine still = (fits, record { cause = inl (refl, risen, fine); emitted = same; moments = still })
 
   pub full_unwritten : (a b : D) (s : Standing) → half_limit < length (half_with (database_of s)) → b ≡ a → IsUnwritten s Full (over a b)
-  full_unwritten a b s past is = subst (λ (x : D). IsUnwritten s Full (over a x)) (sym is) (past, keeps_none q w a, pending_none q w a)
+  full_unwritten a b s past is = subst (λ (x : D). IsUnwritten s Full (over a x)) (sym is) (past, refl)
 
   pub memory_unwritten : (a b : D) (s : Standing) → b ≡ a → IsUnwritten s Memory (over a b)
-  memory_unwritten a b s is = subst (λ (x : D). IsUnwritten s Memory (over a x)) (sym is) (inl (pending_none q w a))
+  memory_unwritten a b s is = subst (λ (x : D). IsUnwritten s Memory (over a x)) (sym is) (inl refl)
 
   -- ---- ready
 
@@ -246,11 +252,12 @@ module _ {D : Type 0} (q : output.Ghosts D) (w : files.Ghosts D) where
     }
 
     -- what a stop leaves behind the opening
-    once : (c : D) (P : Image → Type 0) (t : w.told) → ((i : Image) → IsStill found_db (q.emitted a) i → P i) → LeavesOnly w.moment w.left_since b c P → LeavesOnceOpened w.disk q.emitted w.moment w.left_since a c P
+    once : (c : D) (P : Image → Type 0) (t : w.told) → ((i : Image) → IsStill found_db (q.emitted a) i → P i) → LeavesOnly w.moment w.left_since b c P → LeavesOnceOpened w.disk q.emitted w.moment w.left_since w.synced_at a c P
     once c P t weaker behind = record {
       between = b;
       before = untouched_by q w a b opened.pending.unseen t;
       settled = (opened.opens.stands t).settled;
+      synced = opened.synced t;
       there = λ i image. weaker i (still_at t i image);
       behind = behind;
     }
@@ -273,7 +280,7 @@ module _ {D : Type 0} (q : output.Ghosts D) (w : files.Ghosts D) where
       quiet = record { emitted = opened.pending.unseen.emitted; output = opened.pending.unseen.output; device = opened.pending.device };
       moments = λ t. once b _ t (λ i still. still) (leaves-none w.moment w.left_since b _);
       lacks = λ no. opened.pending;
-      so_far = inl opened.pending;
+      so_far = inl (opened.pending, opened.synced);
     }
 
     module _ (old : is_old s.base.version ≡ true) (has : AllHas s.base.catalogue own) where
@@ -304,16 +311,11 @@ module _ {D : Type 0} (q : output.Ghosts D) (w : files.Ghosts D) where
             starts = λ had t. subst (λ (x : Database). StartsAt (bytes_at a) x next.end) (sym (done.same t)) (starts_at t next.end (done.gate t) done.fits);
             opens = record { stands = done.opens.stands; unclosed = done.opens.unclosed; state = done.opens.state };
             quiet = record { emitted = quiet_emitted; output = quiet_output; device = quiet_device };
-            moments = λ t. subst (λ (x : Database). LeavesOnceOpened w.disk q.emitted w.moment w.left_since a c (IsStill x (q.emitted a))) (sym (done.same t))
+            moments = λ t. subst (λ (x : Database). LeavesOnceOpened w.disk q.emitted w.moment w.left_since w.synced_at a c (IsStill x (q.emitted a))) (sym (done.same t))
                 (once c _ t (λ i here. here) (leaves-weaker w.moment w.left_since (done.moments t) (still_here a b found_db opened.pending.unseen.emitted)));
             lacks = λ no. pending_never a c (λ t. no (has_next t)) quiet_emitted quiet_output quiet_device;
             so_far = inr (found_for c done.fits done.moments);
           }
-
-      stored_on : (c : D) → KeepsFiles (over b c) → w.told → Stores found_db (over a c)
-      stored_on c keeps t =
-          let now : StandsFor (w.disk c) s = stands-kept (w.disk b) (w.disk c) s (keeps.files t) (opened.opens.stands t) in
-          record { settled = now.settled; holds = stands_holds (w.disk c) s now }
 
       cause_before : (status : ℕ) (c : D) → IsCause status (over b c) → IsCause status (over a c)
       cause_before status c cause = cause_on q w a b opened.pending status c cause
@@ -322,16 +324,16 @@ module _ {D : Type 0} (q : output.Ghosts D) (w : files.Ghosts D) where
       unready_unwritten c (Refused r) (shut, p) = (closed_before a b r opened.pending shut, pending_on q w a b opened.pending c p)
       unready_unwritten c Device (fits, halt) = inr (found_for c fits halt.moments, cause_before 6 c halt.cause, halt.emitted ∙ opened.pending.unseen.emitted)
       unready_unwritten c Output none = absurd none
-      unready_unwritten c Memory (inl p) = inl (given_up_there q w a c (pending_on q w a b opened.pending c p))
+      unready_unwritten c Memory (inl is) = inl (subst (λ (x : D). IsGivenUp 9 (over a x)) (sym is) (given_up_there q w a b opened.pending (λ t. syncs_all (opened.synced t))))
       unready_unwritten c Memory (inr (fits, halt)) = inr (found_for c fits halt.moments, cause_before 9 c halt.cause, halt.emitted ∙ opened.pending.unseen.emitted)
-      unready_unwritten c Full (past, keeps, p) = (
+      unready_unwritten c Full (past, is) = subst (λ (x : D). IsUnready own Full (over a x)) (sym is) (
         found_db,
         opened.there,
         (λ t. record { half = s.half; named = named_before t; old = old_half t; past = past }),
         has,
-        pending_on q w a b opened.pending c p,
-        (λ t. stored_on c keeps t),
-        (λ t. once c _ t (λ i here. here) (leaves-weaker w.moment w.left_since (p.unseen.moments t) (λ i image. still_at t i image))),
+        opened.pending,
+        (λ t. record { settled = (opened.opens.stands t).settled; holds = stands_holds (w.disk b) s (opened.opens.stands t) }),
+        (λ t. once b _ t (λ i here. here) (leaves-none w.moment w.left_since b _)),
       )
 
       pub rewritten_ready : (c : D) (r : Result Standing Stop) → IfOk r (λ next. IsRewritten s next (over b c)) → IfOk r (λ next. IsReady own next (over a c))
@@ -364,26 +366,28 @@ module _ {D : Type 0} (q : output.Ghosts D) (w : files.Ghosts D) where
     stored = inl refl;
   }
 
-  once_weaker : (a c : D) (P Q : Image → Type 0) → ((i : Image) → P i → Q i) → LeavesOnceOpened w.disk q.emitted w.moment w.left_since a c P → LeavesOnceOpened w.disk q.emitted w.moment w.left_since a c Q
+  once_weaker : (a c : D) (P Q : Image → Type 0) → ((i : Image) → P i → Q i) → LeavesOnceOpened w.disk q.emitted w.moment w.left_since w.synced_at a c P → LeavesOnceOpened w.disk q.emitted w.moment w.left_since w.synced_at a c Q
   once_weaker a c P Q weaker opens = record {
     between = opens.between;
     before = opens.before;
     settled = opens.settled;
+    synced = opens.synced;
     there = λ i image. weaker i (opens.there i image);
     behind = leaves-weaker w.moment w.left_since opens.behind weaker;
   }
 
-  once_longer : (a b c : D) (P Q : Image → Type 0) → ((i : Image) → P i → Q i) → LeavesOnceOpened w.disk q.emitted w.moment w.left_since a b P → LeavesOnly w.moment w.left_since b c Q
-      → LeavesOnceOpened w.disk q.emitted w.moment w.left_since a c Q
+  once_longer : (a b c : D) (P Q : Image → Type 0) → ((i : Image) → P i → Q i) → LeavesOnceOpened w.disk q.emitted w.moment w.left_since w.synced_at a b P → LeavesOnly w.moment w.left_since b c Q
+      → LeavesOnceOpened w.disk q.emitted w.moment w.left_since w.synced_at a c Q
   once_longer a b c P Q weaker opens more = record {
     between = opens.between;
     before = opens.before;
     settled = opens.settled;
+    synced = opens.synced;
     there = λ i image. weaker i (opens.there i image);
     behind = leaves-on w.moment w.left_since (leaves-weaker w.moment w.left_since opens.behind weaker) more (λ i p. p);
   }
 
-  module _ (hosts : List Host) (turns : ℕ) (p : Program_tree) where
+  module _ (read : (a c : D) (P : Image → Type 0) → w.told → LeavesOnceOpened w.disk q.emitted w.moment w.left_since w.synced_at a c P → ReadsAmong P (over a c)) (hosts : List Host) (turns : ℕ) (p : Program_tree) where
     abbrev report_of : Database → Report
     report_of db = run_of (bound p db.catalogue) db.state (specs_of hosts) turns
 
@@ -393,7 +397,7 @@ module _ {D : Type 0} (q : output.Ghosts D) (w : files.Ghosts D) where
       outcome_from found.db found.gate (report_of found.db),
       runs found.there found.starts found.has,
       record {
-        ending = inr (record { cause = cause; front = (0, subst (λ (e : Option (List ℕ)). Appends (q.emitted a) e []) (sym same) (Appends-nil (q.emitted a))); files = λ t. tt });
+        ending = inr (record { cause = cause; front = (0, subst (λ (e : Option (List ℕ)). Appends (q.emitted a) e []) (sym same) (Appends-nil (q.emitted a))); files = λ t. read a c _ t (once_weaker a c _ _ (λ i still. cut_still found.db _ (q.emitted a) i still) (found.moments t)) });
         moments = λ t. once_weaker a c _ _ (λ i still. cut_still found.db _ (q.emitted a) i still) (found.moments t);
       },
     )
@@ -422,13 +426,13 @@ module _ {D : Type 0} (q : output.Ghosts D) (w : files.Ghosts D) where
 
     module _ (a b : D) (s : Standing) (ready : IsReady p.relations s (over a b)) where
       pub memory_answered : Answered (RunsTo hosts turns p (at_start a)) (Err Memory) (over a b)
-      memory_answered = ⊎_elim (λ pend. inr (given_up_there q w a b pend)) (λ found. cut_before a b 9 found (inr (inr (refl, ready.quiet.output, ready.quiet.device))) ready.quiet.emitted) ready.so_far
+      memory_answered = ⊎_elim (λ (pend, synced). inr (given_up_there q w a b pend (λ t. syncs_all (synced t)))) (λ found. cut_before a b 9 found (inr (inr (refl, ready.quiet.output, ready.quiet.device))) ready.quiet.emitted) ready.so_far
 
       pub differs_answered : (name : List ℕ) → Differs s.base.catalogue p.relations name → Answered (RunsTo hosts turns p (at_start a)) (Err (Refused (Differing name))) (over a b)
       differs_answered name lacks = (differs ready.there lacks, ready.lacks (λ has. all_no_difference s.base.catalogue p.relations name has lacks))
 
       abbrev our_events : List Event
-      our_events = fitting s.end (report_of (database_of s)).events
+      our_events = fitting (Some s.end) (report_of (database_of s)).events
 
       abbrev ours : Outcome
       ours = outcome_from (database_of s) s.end (report_of (database_of s))
@@ -436,8 +440,8 @@ module _ {D : Type 0} (q : output.Ghosts D) (w : files.Ghosts D) where
       said_before : (text : List ℕ) (c : D) → Appends (q.emitted b) (q.emitted c) text → Appends (q.emitted a) (q.emitted c) text
       said_before text c said = subst (λ (e : Option (List ℕ)). Appends e (q.emitted c) text) ready.quiet.emitted said
 
-      ending_quiet : (c : D) (status : ℕ) → IsDone ours status (over b c) ⊎ IsCutShort ours status (over b c) → IsDone ours status (over a c) ⊎ IsCutShort ours status (over a c)
-      ending_quiet c status ending =
+      ending_quiet : (c : D) (status : ℕ) → (w.told → ReadsAmong (IsCut our_events (database_of s) (q.emitted a)) (over a c)) → IsDone ours status (over b c) ⊎ IsCutShort ours status (over b c) → IsDone ours status (over a c) ⊎ IsCutShort ours status (over a c)
+      ending_quiet c status reads ending =
           ⊎_elim
           (λ done. inl (record {
             own_status = done.own_status;
@@ -449,20 +453,19 @@ module _ {D : Type 0} (q : output.Ghosts D) (w : files.Ghosts D) where
           (λ short. inr (record {
             cause = cause_by q w a b ready.quiet.device ready.quiet.output status c short.cause;
             front = (let (n, said) = short.front in (n, said_before (take n (text_of_outcome ours)) c said));
-            files = λ t. tt;
+            files = reads;
           }))
           ending
 
       pub run_answered : (c : D) (answer : Result Ending Stop) → AllHas s.base.catalogue p.relations → IfErr answer IsFault → IsToldBehind ours (number_of answer) (over b c)
           → Answered (RunsTo hosts turns p (at_start a)) answer (over a c)
       run_answered c answer has fault told =
+          let moments : w.told → LeavesOnceOpened w.disk q.emitted w.moment w.left_since w.synced_at a c (IsCut our_events (database_of s) (q.emitted a)) = λ t.
+          once_longer a b c _ _ (λ i still. cut_still (database_of s) our_events (q.emitted a) i still) (ready.moments t)
+          (subst (λ (e : Option (List ℕ)). LeavesOnly w.moment w.left_since b c (IsCut our_events (database_of s) e)) ready.quiet.emitted (told.moments t)) in
           answered_by (RunsTo hosts turns p (at_start a)) answer (over a c) fault
           (inl (
             ours,
             runs ready.there (ready.starts has) has,
-            record {
-              ending = ending_quiet c (number_of answer) told.ending;
-              moments = λ t. once_longer a b c _ _ (λ i still. cut_still (database_of s) our_events (q.emitted a) i still) (ready.moments t)
-                  (subst (λ (e : Option (List ℕ)). LeavesOnly w.moment w.left_since b c (IsCut our_events (database_of s) e)) ready.quiet.emitted (told.moments t));
-            },
+            record { ending = ending_quiet c (number_of answer) (λ t. read a c _ t (moments t)) told.ending; moments = moments },
           ))

@@ -1,5 +1,5 @@
 -- What a run over a folder begins from, and what it comes to.
-use Rattle.std.specs.Prelude.{◌≡◌, ◌≤◌, ◌<◌, ◌⊎◌, ℕ, suc, cond, List, [], length}
+use Rattle.std.specs.Prelude.{◌≡◌, ◌≤◌, ◌<◌, ◌⊎◌, ℕ, suc, cond, Some, List, [], length}
 use Rattle.hera_meaning.specs.Trees.{Program_tree}
 use Rattle.hera_meaning.specs.Run.{Report, run_of}
 use Rattle.hera_host.specs.Tables.{Host, specs_of}
@@ -60,7 +60,7 @@ IsOverfull v db = v.told → Overfills (λ f. (v.disks f).bytes) db
 -- a run from a database whose journal ends at this gate: all its events, or those up to a store for which the half is
 -- too full
 abbrev pub outcome_from : Database → (gate : ℕ) → Report → Outcome
-outcome_from db gate report = carried db (fitting gate report.events) (cond (all_fit gate report.events) (ends report.finish) full)
+outcome_from db gate report = carried db (fitting (Some gate) report.events) (cond (all_fit (Some gate) report.events) (ends report.finish) full)
 
 -- the outcome of a run of a program: the folder is refused, then the binding; or a half of format 1 has no room in
 -- format 2; and else the bound program runs

@@ -11,7 +11,7 @@ use Rattle.hera_store.specs.Moments.{IsStill}
 use Rattle.hera_store.specs.Standing.{Standing, StandsFor, database_of}
 use Rattle.hera_outcome.specs.declared.answer.Stop.{Stop}
 use Rattle.hera_outcome.specs.declared.answer.Stop.TheVariants.{Refused, Device, Output, Memory, Full}
-use Rattle.hera_outcome.specs.Passages.{Passage, start_of, KeepsFiles, Stores}
+use Rattle.hera_outcome.specs.Passages.{Passage, start_of, Stores}
 use Rattle.hera_outcome.specs.Told.{IsCause, IsGivenUp, IsPending}
 use Rattle.hera_run.specs.Folder.{IsThere, IsClosed, IsStarting, IsOverfull}
 
@@ -29,11 +29,13 @@ pub record IsQuiet (v : Passage) : Type 0 where
 
 -- ---- opened
 
--- the folder was opened: it held the store's database, and nothing was done that shows
+-- the folder was opened: it held the store's database, nothing was done that shows, and behind the syncs a stop leaves
+-- only what it may leave now
 pub record IsOpened (store : Standing) (v : Passage) : Type 0 where
   pub there : IsThere (start_of v) (held (database_of store))
   pub opens : IsOpen store v
   pub pending : IsPending v
+  pub synced : v.told → v.once_synced
 
 -- why a folder was not opened: it holds no whole database, a call on a file failed, or there was no memory
 abbrev pub IsUnopened : Stop → Passage → Type 0
@@ -67,8 +69,8 @@ abbrev pub IsUnwritten : Standing → Stop → Passage → Type 0
 IsUnwritten store (Refused refusal) v = IsClosed (start_of v) refusal × IsPending v
 IsUnwritten store Device v = (length (half_with (database_of store)) ≤ half_limit) × IsHalted (database_of store) 6 v
 IsUnwritten store Output v = ⊥
-IsUnwritten store Memory v = IsPending v ⊎ ((length (half_with (database_of store)) ≤ half_limit) × IsHalted (database_of store) 9 v)
-IsUnwritten store Full v = (half_limit < length (half_with (database_of store))) × KeepsFiles v × IsPending v
+IsUnwritten store Memory v = v.idle ⊎ ((length (half_with (database_of store)) ≤ half_limit) × IsHalted (database_of store) 9 v)
+IsUnwritten store Full v = (half_limit < length (half_with (database_of store))) × v.idle
 
 -- ---- ready
 
@@ -91,7 +93,7 @@ pub record IsReady (own : List RelDecl) (store : Standing) (v : Passage) : Type 
   pub quiet : IsQuiet v
   pub moments : v.told → v.once_opened (IsStill (database_of store) v.emitted_before)
   pub lacks : (AllHas store.base.catalogue own → ⊥) → IsPending v
-  pub so_far : IsPending v ⊎ IsFoundFor own v
+  pub so_far : (IsPending v × (v.told → v.once_synced)) ⊎ IsFoundFor own v
 
 -- why it is not ready
 abbrev pub IsUnready : List RelDecl → Stop → Passage → Type 0

@@ -11,12 +11,12 @@ ghost use Rattle.hera_outcome.specs.Told.{IsToldBehind, Answered};
 ghost use Rattle.hera_run.specs.Folder.{outcome_from, RunsTo};
 ghost use Rattle.hera_run.specs.Opening.{IsOpen};
 
+use crate::keeper::InFolder;
 use crate::opening::open_for;
-use crate::run::run_code;
+use crate::run::{ending_of, run_code};
 use hera_bind::{BindFault, bind};
 use hera_codegen::{code_does_what_the_program_means, generate};
 use hera_host::HostTable;
-use hera_machine::End;
 use hera_meaning::Program;
 use hera_outcome::{Ending, Refusal, Stop};
 use hera_store::Store;
@@ -27,34 +27,37 @@ use std::alloc::Global;
 fn run_bound<W: Outside>(
     alloc: Global,
     program: &Program,
-    store: &mut Store,
+    store: Store,
     turns: u64,
     outside: &mut W,
     hosts: &HostTable,
 ) -> Result<Ending, Stop>
     requires sound { Sound (program_of program.now) (specs_of hosts.now.names) }
-    requires relations { (program_of program.now).relations ≡ store.old.base.catalogue }
-    requires opens { IsOpen store.old (passage W.Output W.Outside.own outside.old outside.old) }
-    ensures told { IsToldBehind (outcome_from (database_of store.old) store.old.end (run_of (program_of program.now) (database_of store.old).state (specs_of hosts.now.names) turns)) (number_of result) (passage W.Output W.Outside.own outside.old outside.new) }
+    requires relations { (program_of program.now).relations ≡ store.base.catalogue }
+    requires opens { IsOpen store (passage W.Output W.Outside.own outside.old outside.old) }
+    ensures told { IsToldBehind (outcome_from (database_of store) store.end (run_of (program_of program.now) (database_of store).state (specs_of hosts.now.names) turns)) (number_of result) (passage W.Output W.Outside.own outside.old outside.new) }
     ensures fault { IfErr result IsFault }
 {
     code_does_what_the_program_means();
     let Ok(code) = generate(alloc, program) else {
+        drop(store);
         return Err(Stop::Memory);
     };
-    match run_code(
+    let Ok(mut keeper) = InFolder::over(alloc, store) else {
+        return Err(Stop::Memory);
+    };
+    let outcome = run_code(
         alloc,
         &code,
         &program.relations,
-        store,
+        &mut keeper,
         turns,
         outside,
         hosts,
-    ) {
-        Ok(End::Done) => Ok(Ending::Done),
-        Ok(End::Trap(_, _)) => Ok(Ending::Trapped),
-        Ok(End::Spent) => Ok(Ending::Spent),
-        Ok(End::Stuck) => unreachable!(),
+    );
+    drop(keeper);
+    match outcome {
+        Ok(close) => Ok(ending_of(close)),
         Err(stop) => Err(stop),
     }
 }
@@ -79,8 +82,8 @@ pub fn run_in_folder<W: Outside>(
     ensures answered { Answered (RunsTo hosts.now.names turns (program_of program) (start W.Outside.own outside.old)) result (passage W.Output W.Outside.own outside.old outside.new) }
 {
     match open_for(alloc, &program.relations, outside) {
-        Ok(mut store) => match bind(alloc, program, store.base().catalogue()) {
-            Ok(program) => run_bound(alloc, &program, &mut store, turns, outside, hosts),
+        Ok(store) => match bind(alloc, program, store.base().catalogue()) {
+            Ok(program) => run_bound(alloc, &program, store, turns, outside, hosts),
             Err(BindFault::Differs { relation }) => {
                 Err(Stop::Refused(Refusal::Differing { relation }))
             }

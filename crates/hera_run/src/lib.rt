@@ -4,12 +4,14 @@
 
 mod carry;
 mod folder;
+mod keeper;
 mod lines;
 mod opening;
 mod run;
 
 pub use carry::{Action, carry_out};
 pub use folder::run_in_folder;
+pub use keeper::{InFolder, InMemory, Keeper};
 pub use lines::{commit_line, last_line};
 pub use opening::{open_folder, open_for, rewrite};
-pub use run::{commit, run_code};
+pub use run::{Close, commit, ending_of, run_code};

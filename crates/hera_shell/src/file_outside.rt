@@ -57,7 +57,7 @@ impl<'a, R: Files + Print> Output for FileOutside<'a, R> {
 }
 
 impl<'a, R: Files + Print> Outside for FileOutside<'a, R> {
-    ghost use Rattle.hera_volume.specs.Silent.{untold_disk, untold_moment, untold_left};
+    ghost use Rattle.hera_volume.specs.Silent.{untold_disk, untold_moment, untold_left, untold_syncs};
 
     ghost told = { ⊥ };
 
@@ -66,6 +66,8 @@ impl<'a, R: Files + Print> Outside for FileOutside<'a, R> {
     ghost moment = { untold_moment };
 
     ghost left_since = { untold_left };
+
+    ghost synced_at = { untold_syncs };
 
     ghost device_faults = { λ outside. outside.device_faults };
 

@@ -2,7 +2,7 @@
 //!
 //! `hera check FILE` says whether the script in the file is accepted, `hera list FILE` lists its code, and
 //! `hera eval TURNS FILE` runs it, and `hera drill N` runs a script made from a number. `hera init DIR FILE` makes a database of its relations in a folder, `hera dump DIR`
-//! prints it, and `hera checkpoint DIR` writes it anew.
+//! prints it, `hera checkpoint DIR` writes it anew, and `hera widen DIR FILE` gives it new relations and attributes.
 #![tactic(auto)]
 
 ghost use Rattle.std.specs.Prelude.{◌≡◌, IfOk, length};

@@ -19,9 +19,9 @@ use Rattle.hera_outcome.specs.Told.{IsTold, Tells, Answered}
 use Rattle.hera_outcome.proofs.Passing.{answered_weaker, told_on}
 use Rattle.hera_run.specs.Folder.{RunsTo}
 use Rattle.hera_words.specs.declared.command.Command.{Command}
-use Rattle.hera_words.specs.declared.command.Command.TheVariants.{Check, List as list_command, Eval, Drill, Init, Run, Dump, Checkpoint}
+use Rattle.hera_words.specs.declared.command.Command.TheVariants.{Check, List as list_command, Eval, Drill, Init, Run, Dump, Checkpoint, Widen}
 use Rattle.hera_words.specs.Words.{form_of, files_in, folder_in}
-use Rattle.hera_top.specs.Commands.{Performs, makes, runs, IsMade, ComesToFor, ReadsScript, LooksAlone, Finds, ComesTo, reads, drills, looks, Answers, tells, fails, IsAnswered}
+use Rattle.hera_top.specs.Commands.{Performs, makes, widens, runs, IsMade, IsWidened, ComesToFor, ReadsScript, LooksAlone, Finds, ComesTo, reads, drills, looks, Answers, tells, fails, IsAnswered}
 use Rattle.hera_top.specs.Drill.{drill_text, drill_turns}
 use Rattle.hera_top.specs.Sources.{Seen, first_seen}
 
@@ -34,6 +34,9 @@ ran_answered hosts p command turns v r is answered =
 pub made_answers : (hosts : List Host) (p : Program_tree) (rels : List RelDecl) (r : Result Ending Stop) (v : Passage) → rels ≡ p.relations → Answered (IsMade rels (start_of v)) r v → Answered (Performs hosts p (start_of v) Init) r v
 made_answers hosts p rels r v is answered = answered_weaker _ _ r v (λ o comes. makes (subst (λ (x : List RelDecl). IsMade x (start_of v) o) is comes)) answered
 
+pub widened_answers : (hosts : List Host) (p : Program_tree) (rels : List RelDecl) (r : Result Ending Stop) (v : Passage) → rels ≡ p.relations → Answered (IsWidened rels (start_of v)) r v → Answered (Performs hosts p (start_of v) Widen) r v
+widened_answers hosts p rels r v is answered = answered_weaker _ _ r v (λ o comes. widens (subst (λ (x : List RelDecl). IsWidened x (start_of v) o) is comes)) answered
+
 pub same_performed : (hosts : List Host) (p : Program_tree) (done command : Command) (r : Result Ending Stop) (v : Passage) → done ≡ command → Answered (Performs hosts p (start_of v) done) r v → Answered (Performs hosts p (start_of v) command) r v
 same_performed hosts p done command r v is answered = subst (λ (x : Command). Answered (Performs hosts p (start_of v) x) r v) is answered
 
@@ -43,6 +46,9 @@ run_has_folder command turns is none = (let bad : true ≡ false = sym (ap (λ (
 pub init_has_folder : (command : Command) → command ≡ Init → (form_of command).folder ≡ false → ⊥
 init_has_folder command is none = (let bad : true ≡ false = sym (ap (λ (x : Command). (form_of x).folder) is) ∙ none in cc (bad))
 
+pub widen_has_folder : (command : Command) → command ≡ Widen → (form_of command).folder ≡ false → ⊥
+widen_has_folder command is none = (let bad : true ≡ false = sym (ap (λ (x : Command). (form_of x).folder) is) ∙ none in cc (bad))
+
 -- a command that reads a script has one source
 pub one_source : (command : Command) (n : ℕ) → ReadsScript command → n + (files_in (Some command)).0 ≡ (files_in (Some command)).1 → 0 < n
 one_source Check n given is = omega (arith, is)
@@ -50,6 +56,7 @@ one_source list_command n given is = omega (arith, is)
 one_source (Eval turns) n given is = omega (arith, is)
 one_source (Drill rows) n given is = absurd given
 one_source Init n given is = omega (arith, is)
+one_source Widen n given is = omega (arith, is)
 one_source (Run turns) n given is = omega (arith, is)
 one_source Dump n given is = absurd given
 one_source Checkpoint n given is = absurd given
@@ -60,6 +67,7 @@ reads_files list_command given none = cc (none)
 reads_files (Eval turns) given none = cc (none)
 reads_files (Drill rows) given none = given
 reads_files Init given none = cc (none)
+reads_files Widen given none = cc (none)
 reads_files (Run turns) given none = cc (none)
 reads_files Dump given none = given
 reads_files Checkpoint given none = given
@@ -70,6 +78,7 @@ alone_folder list_command alone none = alone
 alone_folder (Eval turns) alone none = alone
 alone_folder (Drill rows) alone none = alone
 alone_folder Init alone none = alone
+alone_folder Widen alone none = alone
 alone_folder (Run turns) alone none = alone
 alone_folder Dump alone none = cc (none)
 alone_folder Checkpoint alone none = cc (none)
@@ -116,6 +125,7 @@ no_folder_word list_command is = refl
 no_folder_word (Eval turns) is = refl
 no_folder_word (Drill rows) is = refl
 no_folder_word Init is = absurd (cc (is))
+no_folder_word Widen is = absurd (cc (is))
 no_folder_word (Run turns) is = absurd (cc (is))
 no_folder_word Dump is = absurd (cc (is))
 no_folder_word Checkpoint is = absurd (cc (is))
@@ -132,6 +142,7 @@ no_file_word list_command is = absurd (some_file 0 2 is)
 no_file_word (Eval turns) is = absurd (some_file 1 3 is)
 no_file_word (Drill rows) is = refl
 no_file_word Init is = absurd (some_file 1 3 is)
+no_file_word Widen is = absurd (some_file 1 3 is)
 no_file_word (Run turns) is = absurd (some_file 2 4 is)
 no_file_word Dump is = refl
 no_file_word Checkpoint is = refl

@@ -1,5 +1,5 @@
 -- A call does the whole of what it comes to, but where a call fails or there is no memory.
-use Rattle.std.proofs.Common.{◌≡◌, ◌≢◌, ◌≤◌, ◌⊎◌, inl, inr, ⊎_elim, ℕ, Bool, true, cond, List, length, refl, sym, ap, ◌∙◌, subst, append-nil}
+use Rattle.std.proofs.Common.{◌≡◌, ◌≢◌, ◌≤◌, ◌⊎◌, inl, inr, ⊎_elim, ℕ, Bool, true, cond, List, length, Some, refl, sym, ap, ◌∙◌, subst, append-nil}
 use Rattle.hera_causes.specs.Causes.{Rose}
 use Rattle.hera_meaning.specs.Run.{Report, run_of}
 use Rattle.hera_meaning.specs.Trees.{Program_tree}
@@ -68,9 +68,9 @@ cut_or_done outcome status v told =
 up_or_done : (outcome : Outcome) (status : ℕ) (v : Passage) → IsGivenUp status v → IsCutOrDone outcome status v
 up_or_done outcome status v up = ⊎_elim (λ six. inl six.0) (λ nine. inr (inr (inl nine.0))) up.cause
 
-fit_whole : (db : Database) (gate : ℕ) (report : Report) → all_fit gate report.events ≡ true → outcome_from db gate report ≡ carried db report.events (ends report.finish)
+fit_whole : (db : Database) (gate : ℕ) (report : Report) → all_fit (Some gate) report.events ≡ true → outcome_from db gate report ≡ carried db report.events (ends report.finish)
 fit_whole db gate report fit =
-    ap (λ (es : List Event). carried db es (cond (all_fit gate report.events) (ends report.finish) full)) (fitting-all gate report.events fit)
+    ap (λ (es : List Event). carried db es (cond (all_fit (Some gate) report.events) (ends report.finish) full)) (fitting-all (Some gate) report.events fit)
     ∙ ap (λ (b : Bool). carried db report.events (cond b (ends report.finish) full)) fit
 
 module _ (hosts : List Host) (turns : ℕ) (script : List ℕ) (files : FileId → List ℕ) (p : Program_tree) (db : Database) (gate : ℕ) (s : Start)
@@ -89,7 +89,7 @@ module _ (hosts : List Host) (turns : ℕ) (script : List ℕ) (files : FileId �
 pub a_run_is_complete : OneRefusal → NeverBoth → OneProgram → OneFound → OneEnd → OneVersion
     → (hosts : List Host) (turns : ℕ) (script : List ℕ) (files : FileId → List ℕ) (p : Program_tree) (db : Database) (gate : ℕ) (before now : Seen) (v : Passage) (status : ℕ)
     → BeginsWith (Run turns) script files before (start_of v) → ¬ Rose before.faults now.faults → length script ≤ script_limit → Accepted script hosts p
-    → Holds files db → StartsAt files db gate → AllHas db.catalogue p.relations → all_fit gate (run_of (bound p db.catalogue) db.state (specs_of hosts) turns).events ≡ true
+    → Holds files db → StartsAt files db gate → AllHas db.catalogue p.relations → all_fit (Some gate) (run_of (bound p db.catalogue) db.state (specs_of hosts) turns).events ≡ true
     → Answers hosts (Run turns) before now status v
     → (status ≡ 6) ⊎ (status ≡ 8) ⊎ (status ≡ 9)
     ⊎ IsDone (carried db (run_of (bound p db.catalogue) db.state (specs_of hosts) turns).events (ends (run_of (bound p db.catalogue) db.state (specs_of hosts) turns).finish)) status v

@@ -20,7 +20,7 @@ use Rattle.hera_script.specs.Refusing.{HasTokens, IsRefused, too_long, bad_utf8,
 use Rattle.hera_outcome.specs.Outcomes.{Outcome}
 use Rattle.hera_outcome.specs.Passages.{Start}
 use Rattle.hera_words.specs.declared.command.Command.{Command}
-use Rattle.hera_words.specs.declared.command.Command.TheVariants.{Check, List as list_command, Eval, Drill, Init, Run, Dump, Checkpoint}
+use Rattle.hera_words.specs.declared.command.Command.TheVariants.{Check, List as list_command, Eval, Drill, Init, Run, Dump, Checkpoint, Widen}
 use Rattle.hera_words.specs.Words.{form_of}
 use Rattle.hera_top.specs.Commands.{Performs, checks, lists, evaluates, ReadsScript, ComesToFor, refuses, performs}
 
@@ -91,6 +91,7 @@ some_done hosts s list_command reads none p = (_, lists)
 some_done hosts s (Eval turns) reads none p = (_, evaluates)
 some_done hosts s (Drill rows) reads none p = absurd reads
 some_done hosts s Init reads none p = absurd (no_folder true refl none)
+some_done hosts s Widen reads none p = absurd (no_folder true refl none)
 some_done hosts s (Run turns) reads none p = absurd (no_folder true refl none)
 some_done hosts s Dump reads none p = absurd reads
 some_done hosts s Checkpoint reads none p = absurd reads

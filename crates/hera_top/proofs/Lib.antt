@@ -2,11 +2,11 @@ mod Answering
 mod Distinct
 mod Drilled
 mod Dumped
-mod Lines
 mod Making
 mod Renewing
 mod Running
 mod Statuses
+mod Widening
 mod Accepting
 mod Complete
 mod Covered

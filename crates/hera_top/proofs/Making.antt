@@ -13,7 +13,7 @@ use Rattle.hera_volume.proofs.Images.{image-settled}
 use Rattle.hera_volume.proofs.Moments.{leaves-weaker, leaves-on}
 use Rattle.rel_format.specs.Versions.{IsHalfOf}
 use Rattle.hera_store.specs.Databases.{Database, Holds, empty_database, half_named}
-use Rattle.hera_store.specs.Moments.{IsNoneOr, IsUntouched, LeavesOnceSettled}
+use Rattle.hera_store.specs.Moments.{IsNoneOr, IsUntouched, IsUnsynced, LeavesOnceNamed, LeavesOnceSettled}
 use Rattle.hera_outcome.specs.declared.answer.Ending.{Ending}
 use Rattle.hera_outcome.specs.declared.answer.Ending.TheVariants.{Done}
 use Rattle.hera_outcome.specs.declared.answer.Stop.{Stop}
@@ -21,7 +21,7 @@ use Rattle.hera_outcome.specs.declared.answer.Stop.TheVariants.{Refused, Device,
 use Rattle.hera_outcome.specs.declared.refusal.Refusal.TheVariants.{Exists}
 use Rattle.hera_outcome.specs.Answers.{number_of_ending}
 use Rattle.hera_outcome.specs.Outcomes.{made, IsMaking, FilesAfter}
-use Rattle.hera_outcome.specs.Passages.{Passage, passage, start, KeepsFiles, IsUnseen}
+use Rattle.hera_outcome.specs.Passages.{Passage, passage, start, KeepsFiles, IsUnseen, syncs_select, fails_at}
 use Rattle.hera_outcome.specs.Told.{HasRisen, Says, IsTold, Tells, Answered}
 use Rattle.hera_top.specs.Commands.{IsMade, is_made, is_taken}
 
@@ -41,7 +41,7 @@ module _ {D : Type 0} (q : output.Ghosts D) (w : files.Ghosts D) (a far : D) (re
   db = empty_database rels
 
   abbrev Only : Type 0
-  Only = LeavesOnceSettled w.disk q.emitted w.moment w.left_since a far (IsNoneOr db (q.emitted a))
+  Only = LeavesOnceSettled w.disk q.emitted w.moment w.left_since w.synced_at a far (IsNoneOr db (q.emitted a))
 
   -- nothing was touched
   unseen : (w.told → IsUntouched w.disk q.emitted w.moment w.left_since a far) → IsUnseen (over a far)
@@ -53,14 +53,28 @@ module _ {D : Type 0} (q : output.Ghosts D) (w : files.Ghosts D) (a far : D) (re
   taken_answered sound some untouched = (is_taken some, record { device = sound; unseen = unseen untouched })
 
   -- there was no memory
-  pub memory_answered : w.device_faults far ≡ w.device_faults a → (w.told → IsUntouched w.disk q.emitted w.moment w.left_since a far) → Answered (IsMade rels (start w a)) (Err Memory) (over a far)
-  memory_answered sound untouched = inr (record { cause = inr (refl, sound); unseen = unseen untouched })
+  pub memory_answered : w.device_faults far ≡ w.device_faults a → (w.told → IsUntouched w.disk q.emitted w.moment w.left_since a far) → (w.told → LeavesOnceNamed w.disk q.emitted w.moment w.left_since w.synced_at a far)
+      → Answered (IsMade rels (start w a)) (Err Memory) (over a far)
+  memory_answered sound untouched named = inr (record { cause = inr (refl, sound); unseen = unseen untouched; syncs = λ t. syncs_select (named t) })
 
-  making : Only → LeavesOnceSettled w.disk q.emitted w.moment w.left_since a far (IsMaking db (q.emitted a))
+  -- no database is read or the new one
+  abbrev ReadsSo : Type 0
+  ReadsSo = ((w.disk far Select).bytes ≡ []) ⊎ Holds (λ f. (w.disk far f).bytes) db
+
+  -- the same, or `select` was not synced
+  abbrev Or : Type 0
+  Or = Only ⊎ (IsUntouched w.disk q.emitted w.moment w.left_since a far × IsUnsynced w.synced_at a far Select)
+
+  -- what is known of the sync of `select` where there was a database
+  abbrev Tried : Type 0
+  Tried = LeavesOnceNamed w.disk q.emitted w.moment w.left_since w.synced_at a far ⊎ IsUnsynced w.synced_at a far Select
+
+  making : Only → LeavesOnceSettled w.disk q.emitted w.moment w.left_since w.synced_at a far (IsMaking db (q.emitted a))
   making only = record {
     between = only.between;
     before = only.before;
     settled = only.settled;
+    named = only.named;
     behind = leaves-weaker w.moment w.left_since only.behind (λ c none. inl none);
   }
 
@@ -71,22 +85,24 @@ module _ {D : Type 0} (q : output.Ghosts D) (w : files.Ghosts D) (a far : D) (re
   some_byte bytes rest x is none = (let bad : x ∷ rest ≡ [] = sym is ∙ none in cc (bad))
 
   module _ (risen : HasRisen (w.device_faults a) (w.device_faults far)) where
-    made_short : (w.told → Only) → IsTold (made rels) 6 (over a far)
-    made_short only = record {
-      ending = inr (record { cause = inl (refl, risen, fine); front = (0, nothing_said); files = λ t. ((λ eight. cc (eight)), (λ nine. cc (nine))) });
-      moments = λ t. making (only t);
+    made_short : (w.told → Or) → (w.told → ReadsSo) → IsTold (made rels) 6 (over a far)
+    made_short only reads = record {
+      ending = inr (record { cause = inl (refl, risen, fine); front = (0, nothing_said); files = λ t. ((λ eight. cc (eight)), (λ nine. cc (nine)), (λ six. reads t)) });
+      moments = λ t. ⊎_elim (λ (at : Only). inl (making at)) (λ none. inr none) (only t);
     }
 
     -- a call on a file failed, where `select` was empty or not
-    failed_at : (bytes : List ℕ) → (w.disk a Select).bytes ≡ bytes → (w.told → (w.disk a Select).bytes ≡ [] → Only)
-        → (w.told → (w.disk a Select).bytes ≢ [] → IsUntouched w.disk q.emitted w.moment w.left_since a far) → Tells (IsMade rels (start w a)) 6 (over a far)
-    failed_at [] is only occupied = inl (made rels, is_made (λ t. is), made_short (λ t. only t is))
-    failed_at (x ∷ rest) is only occupied =
-        inr (record { cause = inl (refl, risen); unseen = unseen (λ t. occupied t (some_byte (w.disk a Select).bytes rest x is)) })
+    failed_at : (bytes : List ℕ) → (w.disk a Select).bytes ≡ bytes → (w.told → (w.disk a Select).bytes ≡ [] → Or)
+        → (w.told → (w.disk a Select).bytes ≡ [] → ReadsSo) → (w.told → (w.disk a Select).bytes ≢ [] → IsUntouched w.disk q.emitted w.moment w.left_since a far) → (w.told → (w.disk a Select).bytes ≢ [] → Tried)
+        → Tells (IsMade rels (start w a)) 6 (over a far)
+    failed_at [] is only reads occupied tried = inl (made rels, is_made (λ t. is), made_short (λ t. only t is) (λ t. reads t is))
+    failed_at (x ∷ rest) is only reads occupied tried =
+        let some = some_byte (w.disk a Select).bytes rest x is in
+        inr (record { cause = inl (refl, risen); unseen = unseen (λ t. occupied t some); syncs = λ t. ⊎_elim (λ named. syncs_select named) (λ none. fails_at Select none) (tried t some) })
 
-    pub failed : (w.told → (w.disk a Select).bytes ≡ [] → Only) → (w.told → (w.disk a Select).bytes ≢ [] → IsUntouched w.disk q.emitted w.moment w.left_since a far)
-        → Answered (IsMade rels (start w a)) (Err Device) (over a far)
-    failed only occupied = failed_at (w.disk a Select).bytes refl only occupied
+    pub failed : (w.told → (w.disk a Select).bytes ≡ [] → Or) → (w.told → (w.disk a Select).bytes ≡ [] → ReadsSo) → (w.told → (w.disk a Select).bytes ≢ [] → IsUntouched w.disk q.emitted w.moment w.left_since a far)
+        → (w.told → (w.disk a Select).bytes ≢ [] → Tried) → Answered (IsMade rels (start w a)) (Err Device) (over a far)
+    failed only reads occupied tried = failed_at (w.disk a Select).bytes refl only reads occupied tried
 
   module _ (sound : w.device_faults far ≡ w.device_faults a) (settled : w.told → (f : FileId) → IsSettled (w.disk far f)) (holds : w.told → Holds (λ f. (w.disk far f).bytes) db) (vacant : w.told → (w.disk a Select).bytes ≡ [])
       (only : w.told → (w.disk a Select).bytes ≡ [] → Only) where
@@ -102,13 +118,14 @@ module _ {D : Type 0} (q : output.Ghosts D) (w : files.Ghosts D) (a far : D) (re
       holds = holds_same (λ f. (w.disk far f).bytes) (λ f. (w.disk c f).bytes) db (λ f. ap (λ (d : Disk). d.bytes) (keeps.files t f)) (holds t);
     }
 
-    moments_said : (c : D) → w.told → LeavesOnly w.moment w.left_since far c (IsImageAmid (w.disk far) (q.emitted far) (codes "created\n")) → LeavesOnceSettled w.disk q.emitted w.moment w.left_since a c (IsMaking db (q.emitted a))
+    moments_said : (c : D) → w.told → LeavesOnly w.moment w.left_since far c (IsImageAmid (w.disk far) (q.emitted far) (codes "created\n")) → LeavesOnceSettled w.disk q.emitted w.moment w.left_since w.synced_at a c (IsMaking db (q.emitted a))
     moments_said c t said =
         let first = only t (vacant t) in
         record {
           between = first.between;
           before = first.before;
-          settled = inr (⊎_elim (λ is. subst (λ (x : D). IsSettled (w.disk x Select)) (sym is) (settled t Select)) (λ at_rest. at_rest) first.settled);
+          settled = first.settled;
+          named = first.named;
           behind = leaves-on w.moment w.left_since (leaves-weaker w.moment w.left_since first.behind (λ i none. inl none)) said (line_amid t);
         }
 
@@ -125,7 +142,7 @@ module _ {D : Type 0} (q : output.Ghosts D) (w : files.Ghosts D) (a far : D) (re
           output = says.whole.1 ∙ fine;
           device = says.keeps.device ∙ sound;
         });
-        moments = λ t. moments_said c t (says.moments t);
+        moments = λ t. inl (moments_said c t (says.moments t));
       },
     )
     made_answered c (Err stop) says done =
@@ -137,8 +154,8 @@ module _ {D : Type 0} (q : output.Ghosts D) (w : files.Ghosts D) (a far : D) (re
             ending = inr (record {
               cause = inr (inl (refl, subst (λ (n : ℕ). HasRisen n (q.output_faults c)) fine says.part.1, says.keeps.device ∙ sound));
               front = (let (n, said) = says.part.0 in (n, subst (λ (e : Option (List ℕ)). Appends e (q.emitted c) (take n (codes "created\n"))) same said));
-              files = λ t. ((λ is. after c says.keeps t), (λ is. cc (is)));
+              files = λ t. ((λ is. after c says.keeps t), (λ is. cc (is)), (λ is. cc (is)));
             });
-            moments = λ t. moments_said c t (says.moments t);
+            moments = λ t. inl (moments_said c t (says.moments t));
           },
         ))

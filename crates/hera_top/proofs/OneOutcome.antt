@@ -20,15 +20,19 @@ use Rattle.rel_format.specs.Versions.{format_of, version_in}
 use Rattle.commit_journal.specs.Halves.{IsHalfTo}
 use Rattle.hera_store.specs.Databases.{Database, half_named, Names, FilesFound, absent, spoilt, held, IsFound}
 use Rattle.hera_store.specs.Faults.{half_with}
+use Rattle.hera_store.specs.Widened.{widened as widened_to}
+use Rattle.hera_meaning.specs.Wider.{Wider, first_narrowed}
+use Rattle.hera_meaning.proofs.WiderLaws.{wider_narrows_none}
+use Rattle.std.proofs.lemmas.Option.{none-some, same_Some}
 use Rattle.hera_outcome.specs.declared.refusal.Refusal.{Refusal}
-use Rattle.hera_outcome.specs.declared.refusal.Refusal.TheVariants.{Unread, Script, Damaged, Differing}
-use Rattle.hera_outcome.specs.Outcomes.{Outcome, refused, prints, renewed, too_long, carried, full}
+use Rattle.hera_outcome.specs.declared.refusal.Refusal.TheVariants.{Unread, Script, Damaged, Differing, Narrows}
+use Rattle.hera_outcome.specs.Outcomes.{Outcome, refused, prints, renewed, widened, too_long, carried, full}
 use Rattle.hera_outcome.specs.Passages.{Start}
 use Rattle.hera_run.specs.Folder.{IsThere, IsClosed, finds_none, finds_damage, IsReplaced, StartsAt, Overfills, IsStarting, IsOverfull, outcome_from, RunsTo, closed as run_closed, differs, overflows as run_overflows, runs as run_runs}
 use Rattle.hera_words.specs.declared.command.Command.{Command}
-use Rattle.hera_words.specs.declared.command.Command.TheVariants.{Check, List as list_command, Eval, Drill, Init, Run, Dump, Checkpoint}
+use Rattle.hera_words.specs.declared.command.Command.TheVariants.{Check, List as list_command, Eval, Drill, Init, Run, Dump, Checkpoint, Widen}
 use Rattle.hera_words.specs.Words.{form_of}
-use Rattle.hera_top.specs.Commands.{Performs, checks, lists, evaluates, makes, runs, IsVacant, IsTaken, IsMade, is_made, is_taken, ComesToFor, refuses, performs, Finds, closed, dumps, renews, overflows, tables_text, ReadsScript, LooksAlone, IsRead, ComesTo, unread, reads, drills, looks}
+use Rattle.hera_top.specs.Commands.{Performs, checks, lists, evaluates, makes, widens, runs, IsVacant, IsTaken, IsMade, is_made, is_taken, IsWidened, is_shut, is_narrowed, is_wide, is_too_wide, ComesToFor, refuses, performs, Finds, closed, dumps, renews, overflows, tables_text, ReadsScript, LooksAlone, IsRead, ComesTo, unread, reads, drills, looks}
 use Rattle.hera_top.specs.Drill.{drill_text, drill_turns}
 use Rattle.hera_top.specs.Sources.{Seen}
 use Rattle.hera_top.specs.Told.{BeginsWith}
@@ -131,6 +135,7 @@ done_apart hosts p s t _ none _ _ checks checks = refl
 done_apart hosts p s t _ none _ _ lists lists = refl
 done_apart hosts p s t _ none _ _ evaluates evaluates = refl
 done_apart hosts p s t _ none _ _ (makes x) (makes y) = absurd (no_folder true refl none)
+done_apart hosts p s t _ none _ _ (widens x) (widens y) = absurd (no_folder true refl none)
 done_apart hosts p s t _ none _ _ (runs x) (runs y) = absurd (no_folder true refl none)
 
 pub one_apart : OneRefusal → NeverBoth → OneProgram → (hosts : List Host) (command : Command) (script : List ℕ) (s t : Start) (a b : Outcome) → (form_of command).folder ≡ false
@@ -230,11 +235,43 @@ module _ (one : OneFound) (end : OneEnd) (version : OneVersion) (files : FileId 
   one_made rels _ _ (is_taken x) (is_made y) = absurd (taken_or_vacant x y)
   one_made rels _ _ (is_taken x) (is_taken y) = refl
 
+  module _ (rels : List RelDecl) where
+    narrow_or_wide : (db : Database) (name : List ℕ) → first_narrowed db.catalogue rels ≡ Some name → Wider db.catalogue rels → ⊥
+    narrow_or_wide db name first wider = none-some name (sym (wider_narrows_none db.catalogue rels wider) ∙ first)
+
+    same_wider : (db other : Database) → db ≡ other → Wider other.catalogue rels → Wider db.catalogue rels
+    same_wider db other same wider = subst (λ (d : Database). Wider d.catalogue rels) (sym same) wider
+
+    wide_or_long : (db other : Database) → db ≡ other → length (half_with (widened_to db rels)) ≤ half_limit → half_limit < length (half_with (widened_to other rels)) → ⊥
+    wide_or_long db other same short long =
+        let here : half_limit < length (half_with (widened_to db rels)) = subst (λ (d : Database). half_limit < length (half_with (widened_to d rels))) (sym same) long in
+        omega (arith, short, here)
+
+    one_widened : (a b : Outcome) → IsWidened rels s a → IsWidened rels t b → a ≡ b
+    one_widened _ _ (is_shut {refusal = r} x) (is_shut {refusal = q} y) = one_closed r q x y
+    one_widened _ _ (is_shut {refusal = r} x) (is_narrowed {db = db} y first_one) = absurd (closed_or_held r db x y)
+    one_widened _ _ (is_shut {refusal = r} x) (is_wide {db = db} y wider short) = absurd (closed_or_held r db x y)
+    one_widened _ _ (is_shut {refusal = r} x) (is_too_wide {db = db} y wider long) = absurd (closed_or_held r db x y)
+    one_widened _ _ (is_narrowed {db = db} x first_one) (is_shut {refusal = r} y) = absurd (held_or_closed db r x y)
+    one_widened _ _ (is_narrowed {db = db} {relation = m} x first_one) (is_narrowed {db = other} {relation = n} y next_one) =
+        ap (λ (l : List ℕ). refused (Narrows l)) (same_Some m n (sym first_one ∙ subst (λ (d : Database). first_narrowed d.catalogue rels ≡ Some n) (sym (same_db db other x y)) next_one))
+    one_widened _ _ (is_narrowed {db = db} {relation = m} x first_one) (is_wide {db = other} y wider short) = absurd (narrow_or_wide db m first_one (same_wider db other (same_db db other x y) wider))
+    one_widened _ _ (is_narrowed {db = db} {relation = m} x first_one) (is_too_wide {db = other} y wider long) = absurd (narrow_or_wide db m first_one (same_wider db other (same_db db other x y) wider))
+    one_widened _ _ (is_wide {db = db} x wider short) (is_shut {refusal = r} y) = absurd (held_or_closed db r x y)
+    one_widened _ _ (is_wide {db = db} x wider short) (is_narrowed {db = other} {relation = n} y first_one) = absurd (narrow_or_wide other n first_one (same_wider other db (sym (same_db db other x y)) wider))
+    one_widened _ _ (is_wide {db = db} x wider short) (is_wide {db = other} y too fits) = ap (λ (d : Database). widened d (widened_to d rels)) (same_db db other x y)
+    one_widened _ _ (is_wide {db = db} x wider short) (is_too_wide {db = other} y too long) = absurd (wide_or_long db other (same_db db other x y) short long)
+    one_widened _ _ (is_too_wide {db = db} x wider long) (is_shut {refusal = r} y) = absurd (held_or_closed db r x y)
+    one_widened _ _ (is_too_wide {db = db} x wider long) (is_narrowed {db = other} {relation = n} y first_one) = absurd (narrow_or_wide other n first_one (same_wider other db (sym (same_db db other x y)) wider))
+    one_widened _ _ (is_too_wide {db = db} x wider long) (is_wide {db = other} y too short) = absurd (wide_or_long other db (sym (same_db db other x y)) short long)
+    one_widened _ _ (is_too_wide {db = db} x wider long) (is_too_wide {db = other} y too past) = ap too_long (same_db db other x y)
+
   one_done : (hosts : List Host) (command : Command) (p : Program_tree) (a b : Outcome) → Performs hosts p s command a → Performs hosts p t command b → a ≡ b
   one_done hosts _ p _ _ checks checks = refl
   one_done hosts _ p _ _ lists lists = refl
   one_done hosts _ p _ _ evaluates evaluates = refl
   one_done hosts _ p _ _ (makes {outcome = a} x) (makes {outcome = b} y) = one_made p.relations a b x y
+  one_done hosts _ p _ _ (widens {outcome = a} x) (widens {outcome = b} y) = one_widened p.relations a b x y
   one_done hosts _ p _ _ (runs {turns} {outcome = a} x) (runs {outcome = b} y) = one_run hosts turns p a b x y
 
   fits_or_not : (db other : Database) → db ≡ other → length (half_with db) ≤ half_limit → half_limit < length (half_with other) → ⊥
@@ -264,6 +301,7 @@ reads_or_looks list_command reads_one alone = alone
 reads_or_looks (Eval turns) reads_one alone = alone
 reads_or_looks (Drill rows) reads_one alone = alone
 reads_or_looks Init reads_one alone = alone
+reads_or_looks Widen reads_one alone = alone
 reads_or_looks (Run turns) reads_one alone = alone
 reads_or_looks Dump reads_one alone = reads_one
 reads_or_looks Checkpoint reads_one alone = reads_one

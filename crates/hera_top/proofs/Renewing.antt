@@ -27,7 +27,7 @@ use Rattle.hera_outcome.specs.declared.answer.Stop.{Stop}
 use Rattle.hera_outcome.specs.declared.answer.Stop.TheVariants.{Refused, Device, Output, Memory, Full}
 use Rattle.hera_outcome.specs.Answers.{number_of_ending}
 use Rattle.hera_outcome.specs.Outcomes.{renewed, too_long, IsRenewed, IsRenewing, FilesAfter}
-use Rattle.hera_outcome.specs.Passages.{Passage, passage, start, start_of, LeavesOnceOpened, KeepsFiles}
+use Rattle.hera_outcome.specs.Passages.{Passage, passage, start, start_of, LeavesOnceOpened, KeepsFiles, syncs_all}
 use Rattle.hera_outcome.specs.Told.{HasRisen, Says, IsTold, Answered}
 use Rattle.hera_outcome.proofs.Passing.{untouched_by, given_up_there}
 use Rattle.hera_run.specs.Opening.{IsOpened, IsUnopened}
@@ -74,6 +74,9 @@ module _ (db : Database) (half : FileId) (files : FileId → List ℕ) (printed 
   is_renewed : half_named (select_byte (other_half half)) ≡ other_half half → (before : FileId → List ℕ) → Names (before Select) half → IsRenewed db before files
   is_renewed named before was = record { half = half; was = was; is = (select_byte (other_half half), selects, named); printed = printed }
 
+eight_not_six : ◌≡◌ {A = ℕ} 8 6 → ⊥
+eight_not_six is = cc (is)
+
 -- why a folder was not opened
 pub unopened_answered : (command : Command) (stop : Stop) (v : Passage) → IsUnopened stop v → Answered (Finds (start_of v) command) (Err stop) v
 unopened_answered command (Refused refusal) v (shut, pending) = (closed shut, pending)
@@ -109,32 +112,32 @@ module _ {D : Type 0} (q : output.Ghosts D) (w : files.Ghosts D) (a b : D) (stor
   overflowed : IsTold (too_long db) 10 (over a b)
   overflowed = record {
     ending = inl (record { own_status = refl; whole_text = nothing_said b same; files = λ t. opened.pending.unseen.reads t; output = opened.pending.unseen.output; device = opened.pending.device });
-    moments = λ t. record { between = b; before = untouched_by q w a b opened.pending.unseen t; settled = (opened.opens.stands t).settled; there = rest_here t; behind = leaves-none w.moment w.left_since b _ };
+    moments = λ t. record { between = b; before = untouched_by q w a b opened.pending.unseen t; settled = (opened.opens.stands t).settled; synced = opened.synced t; there = rest_here t; behind = leaves-none w.moment w.left_since b _ };
   }
 
   pub full_answered : (c : D) → half_limit < length (half_with db) → c ≡ b → Answered (Finds (start w a) Checkpoint) (Err Full) (over a c)
   full_answered c long is = subst (λ (x : D). Answered (Finds (start w a) Checkpoint) (Err Full) (over a x)) (sym is) (inl (too_long db, overflows opened.there long, overflowed))
 
   pub memory_answered : (command : Command) (c : D) → c ≡ b → Answered (Finds (start w a) command) (Err Memory) (over a c)
-  memory_answered command c is = subst (λ (x : D). Answered (Finds (start w a) command) (Err Memory) (over a x)) (sym is) (inr (given_up_there q w a b opened.pending))
+  memory_answered command c is = subst (λ (x : D). Answered (Finds (start w a) command) (Err Memory) (over a x)) (sym is) (inr (given_up_there q w a b opened.pending (λ t. syncs_all (opened.synced t))))
 
   module _ (far : D) (silent : q.emitted far ≡ q.emitted b) (only : w.told → LeavesOnly w.moment w.left_since b far (IsStill db (q.emitted b))) where
     first_moments : w.told → LeavesOnly w.moment w.left_since b far (IsRenewing db before (q.emitted a))
     first_moments t = leaves-weaker w.moment w.left_since (only t) (λ c still. inl (still_here c still))
 
-    opened_at : (c : D) → w.told → LeavesOnly w.moment w.left_since b c (IsRenewing db before (q.emitted a)) → LeavesOnceOpened w.disk q.emitted w.moment w.left_since a c (IsRenewing db before (q.emitted a))
-    opened_at c t behind = record { between = b; before = untouched_by q w a b opened.pending.unseen t; settled = (opened.opens.stands t).settled; there = λ i image. inl (rest_here t i image); behind = behind }
+    opened_at : (c : D) → w.told → LeavesOnly w.moment w.left_since b c (IsRenewing db before (q.emitted a)) → LeavesOnceOpened w.disk q.emitted w.moment w.left_since w.synced_at a c (IsRenewing db before (q.emitted a))
+    opened_at c t behind = record { between = b; before = untouched_by q w a b opened.pending.unseen t; settled = (opened.opens.stands t).settled; synced = opened.synced t; there = λ i image. inl (rest_here t i image); behind = behind }
 
     -- a call on a file failed
-    pub stopped_answered : q.output_faults far ≡ q.output_faults b → HasRisen (w.device_faults b) (w.device_faults far) → length (half_with db) ≤ half_limit → Answered (Finds (start w a) Checkpoint) (Err Device) (over a far)
-    stopped_answered quiet risen short = inl (
+    pub stopped_answered : q.output_faults far ≡ q.output_faults b → HasRisen (w.device_faults b) (w.device_faults far) → length (half_with db) ≤ half_limit → (w.told → Holds (λ f. (w.disk far f).bytes) db) → Answered (Finds (start w a) Checkpoint) (Err Device) (over a far)
+    stopped_answered quiet risen short reads = inl (
       renewed db,
       renews opened.there short,
       record {
         ending = inr (record {
           cause = inl (refl, subst (λ (n : ℕ). HasRisen n (w.device_faults far)) opened.pending.device risen, quiet ∙ opened.pending.unseen.output);
           front = (0, nothing_said far (silent ∙ same));
-          files = λ t. ((λ is. cc (is)), (λ is. cc (is)));
+          files = λ t. ((λ is. cc (is)), (λ is. cc (is)), (λ is. reads t));
         });
         moments = λ t. opened_at far t (first_moments t);
       },
@@ -192,7 +195,7 @@ module _ {D : Type 0} (q : output.Ghosts D) (w : files.Ghosts D) (a b : D) (stor
               ending = inr (record {
                 cause = inr (inl (refl, subst (λ (n : ℕ). HasRisen n (q.output_faults c)) (quiet ∙ opened.pending.unseen.output) says.part.1, says.keeps.device ∙ whole_device ∙ opened.pending.device));
                 front = (let (n, said) = says.part.0 in (n, subst (λ (e : Option (List ℕ)). Appends e (q.emitted c) (take n (codes "checkpointed\n"))) (silent ∙ same) said));
-                files = λ t. ((λ is. after c says.keeps t), (λ is. cc (is)));
+                files = λ t. ((λ is. after c says.keeps t), (λ is. cc (is)), (λ is. absurd (eight_not_six is)));
               });
               moments = λ t. opened_at c t (leaves-on w.moment w.left_since (first_moments t) (says.moments t) (line_amid t));
             },

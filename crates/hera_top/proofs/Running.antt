@@ -1,43 +1,41 @@
--- The run of a program's code is the program's.
-use Rattle.std.proofs.Common.{◌≡◌, ℕ, ◌+◌, ◌<◌, ◌≤◌, ⊎_elim, inl, inr, refl, List, [], ◌++◌, take, length, Option, Some, sym, ap, ◌∙◌, subst, arith, append-nil}
+-- The run of a program's code over relations in memory is the program's.
+use Rattle.std.proofs.Common.{◌≡◌, ℕ, zero, suc, ◌+◌, ◌<◌, ◌≤◌, ⊎_elim, inl, inr, refl, List, [], ◌∷◌, ◌++◌, take, length, Option, None, Some, sym, ap, ◌∙◌, subst, arith}
 use Rattle.std.proofs.lemmas.Bool.{cases_lt}
 use Rattle.std.proofs.lemmas.List.{take_all, take-append-le}
 use Rattle.std.proofs.Math.Seq.{take-append_seam, take-append-add}
 use Rattle.std.specs.Io.KnownBytes.{Appends}
-use Rattle.std.proofs.KnownBytes.{Appends-trans}
-use Rattle.std.proofs.KnownBytes.{Appends-nil as Appends-nothing}
-use Rattle.hera_top.proofs.Lines.{same_part}
 use Rattle.hera_meaning.specs.declared.schemas.RelDecl.{RelDecl}
-use Rattle.hera_meaning.specs.Deltas.{Delta, State}
 use Rattle.hera_meaning.specs.Trees.{Program_tree}
-use Rattle.hera_meaning.specs.Worlds.{Event}
+use Rattle.hera_meaning.specs.Hosts.{Hosts}
+use Rattle.hera_meaning.specs.Worlds.{Event, out, store}
 use Rattle.hera_meaning.specs.Run.{Report, Finish, printed, run_of}
 use Rattle.hera_code.specs.declared.instrs.Code.{Code}
-use Rattle.hera_meaning.specs.Hosts.{Hosts}
-use Rattle.hera_code.specs.Machine.{Stop, ended, stuck}
-use Rattle.hera_code.specs.Reached.{over, code_at}
+use Rattle.hera_code.specs.Machine.{ended, stuck}
+use Rattle.hera_code.specs.Reached.{code_at}
 use Rattle.hera_code.specs.Scheme.{code_of}
-use Rattle.hera_code.specs.Forward.{Forward}
 use Rattle.hera_codegen.specs.Correct.{events_in, IsPrefix}
 use Rattle.hera_machine.specs.declared.events.End.{End}
 use Rattle.hera_machine.specs.declared.events.End.TheVariants.{Stuck}
-use Rattle.hera_machine.specs.declared.events.Event as machine_event
-use Rattle.hera_machine.specs.Standing.{Standing, stop_of, Tells, IsLess}
-use Rattle.hera_machine.specs.Over.{state_over}
-use Rattle.hera_machine.proofs.Along.{IsAlong, EndsAs, printed-append}
-use Rattle.rel_pages.specs.Stored.{empty_state}
-use Rattle.hera_volume.specs.Disk.{Disk, IsImage}
+use Rattle.hera_machine.specs.Standing.{stop_of}
+use Rattle.hera_machine.proofs.Along.{printed-append}
+use Rattle.hera_volume.specs.Disk.{Disk}
 use Rattle.hera_volume.specs.Time.{Image, IsImageAmid}
 use Rattle.hera_volume.specs.declared.file_id.FileId.{FileId}
+use Rattle.hera_store.specs.Databases.{Database}
 use Rattle.hera_outcome.specs.declared.answer.Stop.{Stop as Stopped}
 use Rattle.hera_outcome.specs.declared.answer.Stop.TheVariants.{Refused, Device, Output, Memory, Full}
 use Rattle.hera_outcome.specs.Answers.{number_of_stop, IsSpoken}
+use Rattle.hera_outcome.specs.Cut.{text_of_next}
 use Rattle.hera_outcome.specs.Outcomes.{ran, status_of_finish}
 use Rattle.hera_outcome.specs.Passages.{Passage, KeepsFiles}
 use Rattle.hera_outcome.specs.Told.{StopFaults, IsTold}
 use Rattle.hera_outcome.proofs.Passing.{told_whole, reads_kept}
-use Rattle.hera_run.specs.Running.{last_text}
-use Rattle.hera_top.specs.Running.{EndsSaid, PartSaid, IsRunImage}
+use Rattle.hera_run.specs.Keeping.{AreLeft}
+use Rattle.hera_run.specs.declared.run.Close.{Close}
+use Rattle.hera_run.specs.declared.run.Close.TheVariants.{Ends, Refused as Close_refused}
+use Rattle.hera_run.specs.Running.{Job, IsAllDone, IsRefusedAt, IsOver, IsPartDone, IsCodeCut}
+use Rattle.hera_run.proofs.Allowed.{unguarded, all_passed}
+use Rattle.hera_run.proofs.Meaning.{Compiles}
 
 -- a prefix of the first of two lists is one of both
 front_of_both : (n : ℕ) (xs ys : List ℕ) → (m : ℕ) × (take n xs ≡ take m (xs ++ ys))
@@ -53,102 +51,45 @@ front_printed front events n p =
     let (m, is) = front_of_both n (printed front) (printed p.rest) in
     (m, is ∙ ap (λ (l : List ℕ). take m l) (sym (printed-append front p.rest) ∙ ap printed p.joined))
 
--- ---- the code's run, told
+text_front : (rest : List Event) (n : ℕ) → (k : ℕ) × (take n (text_of_next rest) ≡ take k (printed rest))
+text_front [] zero = (0, refl)
+text_front [] (suc n) = (0, refl)
+text_front (out bytes ∷ events) n = front_of_both n bytes (printed events)
+text_front (store s d ∷ events) zero = (0, refl)
+text_front (store s d ∷ events) (suc n) = (0, refl)
 
-module _ (code : Code) (rels : List RelDecl) (hosts : Hosts) (s : State) (turns : ℕ) where
-  -- some bytes were said, and then a front of the line that follows them
-  pub part_said : (before mid now : Option (List ℕ)) (steps : ℕ) (bytes line : List ℕ) (n : ℕ) → printed (events_in (code_at code rels s hosts turns steps)) ≡ bytes ++ line
-      → Appends before mid bytes → Appends mid now (take n line) → PartSaid code rels hosts s turns before now
-  part_said before mid now steps bytes line n is first then =
-      let front : take (length bytes + n) (printed (events_in (code_at code rels s hosts turns steps))) ≡ bytes ++ take n line =
-      ap (λ (l : List ℕ). take (length bytes + n) l) is ∙ take-append-add bytes line n in
-      record { steps = steps; front = length bytes + n; said = subst (λ (l : List ℕ). Appends before now l) (sym front) (Appends-trans _ _ _ _ _ first then) }
+-- what some events print, and a front of what the next one does
+cut_text : (done rest : List Event) (n : ℕ) → (m : ℕ) × (printed done ++ take n (text_of_next rest) ≡ take m (printed (done ++ rest)))
+cut_text done rest n =
+    let (k, is) = text_front rest n in
+    let m = length (printed done) + k in
+    (m, ap (λ (l : List ℕ). printed done ++ l) is ∙ sym (ap (λ (l : List ℕ). take m l) (printed-append done rest) ∙ take-append-add (printed done) (printed rest) k))
 
-  -- a machine on its way has printed this much
-  pub along_printed : (bytes : List ℕ) (ds : List Delta) (m : Standing) (a : IsAlong code rels hosts s turns bytes ds m) → printed (events_in (code_at code rels s hosts turns a.steps)) ≡ bytes
-  along_printed bytes ds m a =
-      let here : a.steps ≡ a.steps + 0 = omega arith in
-      ap (λ (k : ℕ). printed (events_in (code_at code rels s hosts turns k))) here ∙ ap printed (ap events_in (a.goes_on 0)) ∙ a.printed_is
+-- what is said of the code and its relations is said of the program's
+own : (F : Code → List RelDecl → Type 0) (code own_code : Code) (rels own_rels : List RelDecl) → code ≡ own_code → rels ≡ own_rels → F code rels → F own_code own_rels
+own F code own_code rels own_rels is its x = subst (λ (c : Code). F c own_rels) is (subst (λ (rs : List RelDecl). F code rs) its x)
 
-  -- what a step tells, of the commits so far
-  pub stepped : (m new : Standing) (ds given : List Delta) (e told : machine_event.Event) → state_over s given ≡ state_over s ds → e ≡ told
-      → Tells m.code m.relations hosts (state_over s given) e m new → Tells m.code m.relations hosts (state_over s ds) told m new
-  stepped m new ds given e told same event is =
-      subst (λ (t : State). Tells m.code m.relations hosts t told m new) same
-      (subst (λ (x : machine_event.Event). Tells m.code m.relations hosts (state_over s given) x m new) event is)
+module _ (p : Program_tree) (hosts : Hosts) (db : Database) (turns : ℕ) (compiles : Compiles p hosts db.state turns) where
+  abbrev report : Report
+  report = run_of p db.state hosts turns
 
-  -- what a step lowers, of this code
-  pub comes_nearer : (m n : Standing) (e told : machine_event.Event) → m.code ≡ code → Forward code → (Forward m.code → IsLess (length m.code.instrs) m.state n.state e) → e ≡ told
-      → IsLess (length code.instrs) m.state n.state told
-  comes_nearer m n e told same forward nearer event =
-      subst (λ (own : Code). IsLess (length own.instrs) m.state n.state told) same
-      (subst (λ (x : machine_event.Event). IsLess (length m.code.instrs) m.state n.state x) event (nearer (subst Forward (sym same) forward)))
+  -- code that is run so, with nothing that is refused
+  abbrev pub ours : Code → List RelDecl → Job
+  ours code rels = record { code = code; relations = rels; hosts = hosts; turns = turns; from = db; gate = None; refusal = λ s. None }
 
-  -- the next line was cut
-  pub along_cut : (before mid now : Option (List ℕ)) (bytes line : List ℕ) (ds : List Delta) (m : Standing) → IsAlong code rels hosts s turns (bytes ++ line) ds m
-      → Appends before mid bytes → ((n : ℕ) × Appends mid now (take n line)) → PartSaid code rels hosts s turns before now
-  along_cut before mid now bytes line ds m a first (n, then) = part_said before mid now a.steps bytes line n (along_printed (bytes ++ line) ds m a) first then
+  -- the events of its first steps
+  abbrev events_at : ℕ → List Event
+  events_at k = events_in (code_at (code_of p) p.relations db.state hosts turns k)
 
-  -- the last line was cut
-  pub ends_cut : (before mid now : Option (List ℕ)) (bytes : List ℕ) (ds : List Delta) (end : End) → EndsAs code rels hosts s turns (bytes ++ last_text end) ds end
-      → Appends before mid bytes → ((n : ℕ) × Appends mid now (take n (last_text end))) → PartSaid code rels hosts s turns before now
-  ends_cut before mid now bytes ds end e first (n, then) =
-      part_said before mid now e.steps bytes (last_text end) n (ap printed (ap events_in e.ends) ∙ e.printed_is) first then
-
-  pub ends_said : (before mid now : Option (List ℕ)) (bytes : List ℕ) (ds : List Delta) (end : End) → EndsAs code rels hosts s turns (bytes ++ last_text end) ds end
-      → Appends before mid bytes → Appends mid now (last_text end) → EndsSaid code rels hosts s turns before now end
-  ends_said before mid now bytes ds end e first then = record {
-    steps = e.steps;
-    events = e.events;
-    ends = e.ends;
-    said = subst (λ (l : List ℕ). Appends before now l) (sym e.printed_is) (Appends-trans _ _ _ _ _ first then);
-  }
-
-  pub along_part : (before now : Option (List ℕ)) (bytes : List ℕ) (ds : List Delta) (m : Standing) → IsAlong code rels hosts s turns bytes ds m → Appends before now bytes → PartSaid code rels hosts s turns before now
-  along_part before now bytes ds m a said =
-      part_said before now now a.steps bytes [] 0 (along_printed bytes ds m a ∙ sym (append-nil bytes)) said (Appends-nothing now)
-
-  -- what a stop leaves amid the next line
-  pub image_amid : (disks mid_disks : FileId → Disk) (start mid : Option (List ℕ)) (bytes line text : List ℕ) (ds : List Delta) (m : Standing) → IsAlong code rels hosts s turns (bytes ++ line) ds m
-      → Appends start mid bytes → ((f : FileId) → mid_disks f ≡ disks f) → text ≡ line → (c : Image) → IsImageAmid mid_disks mid text c → IsRunImage code rels hosts s turns disks start c
-  image_amid disks mid_disks start mid bytes line text ds m a first same is c image = record {
-    files = λ f. subst (λ (d : Disk). IsImage d (c.files f)) (same f) (image.files f);
-    part = along_cut start mid (Some c.emitted) bytes line ds m a first (same_part mid (Some c.emitted) text line is image.emitted);
-  }
-
-  -- what a stop leaves amid the last line
-  pub image_end : (disks mid_disks : FileId → Disk) (start mid : Option (List ℕ)) (bytes text : List ℕ) (ds : List Delta) (end : End) → EndsAs code rels hosts s turns (bytes ++ last_text end) ds end
-      → Appends start mid bytes → ((f : FileId) → mid_disks f ≡ disks f) → text ≡ last_text end → (c : Image) → IsImageAmid mid_disks mid text c → IsRunImage code rels hosts s turns disks start c
-  image_end disks mid_disks start mid bytes text ds end e first same is c image = record {
-    files = λ f. subst (λ (d : Disk). IsImage d (c.files f)) (same f) (image.files f);
-    part = ends_cut start mid (Some c.emitted) bytes ds end e first (same_part mid (Some c.emitted) text (last_text end) is image.emitted);
-  }
-
--- ---- ends
-
-abbrev finish_in : Finish → Stop → Finish
-finish_in f (ended g) = g
-finish_in f stuck = f
-
--- the status of an end is that of the finish that it tells
-pub status_same : (end : End) (f other : Finish) (status : ℕ) → stop_of end ≡ ended f → status ≡ status_of_finish f → stop_of end ≡ ended other → status ≡ status_of_finish other
-status_same end f other status is own also = own ∙ ap status_of_finish (ap (finish_in f) (sym is ∙ also))
-
--- ---- a program's run
-
-module _ (p : Program_tree) (hosts : Hosts) (turns : ℕ) where
-  abbrev pub report : Report
-  report = run_of p (empty_state p.relations) hosts turns
-
-  abbrev pub Only : Type 0
-  Only = (k : ℕ) (events : List Event) (stop : Stop) → code_at (code_of p) p.relations (empty_state p.relations) hosts turns k ≡ over events stop → (events ≡ report.events) × (stop ≡ ended report.finish)
-
-  pub run_whole : (v : Passage) (end : End) (status : ℕ) → Only → ((finish : Finish) → stop_of end ≡ ended finish → status ≡ status_of_finish finish) → v.output_now ≡ v.output_before → KeepsFiles v
+  run_whole : (code : Code) (rels : List RelDecl) (v : Passage) (left : Database) (end : End) (status : ℕ) → code ≡ code_of p → rels ≡ p.relations
+      → ((finish : Finish) → stop_of end ≡ ended finish → status ≡ status_of_finish finish) → v.output_now ≡ v.output_before → KeepsFiles v
       → (v.told → v.leaves_only (IsImageAmid v.disks_before v.emitted_before (printed report.events)))
-      → EndsSaid (code_of p) p.relations hosts (empty_state p.relations) turns v.emitted_before v.emitted_now end → IsTold (ran report) status v
-  run_whole v end status only own fine keeps moments said =
-      let (events, stop) = only said.steps said.events (stop_of end) said.ends in
-      told_whole (ran report) v (printed report.events) status tt refl (own report.finish stop) (subst (λ (l : List ℕ). Appends v.emitted_before v.emitted_now l) (ap printed events) said.said) fine keeps moments
+      → IsAllDone (ours code rels) v.emitted_before v.emitted_now left end → IsTold (ran report) status v
+  run_whole code rels v left end status is its own_status fine keeps moments said =
+      let mine : IsAllDone (ours (code_of p) p.relations) v.emitted_before v.emitted_now left end =
+      own (λ (x : Code) (rs : List RelDecl). IsAllDone (ours x rs) v.emitted_before v.emitted_now left end) code (code_of p) rels p.relations is its said in
+      let (events, stop) = compiles.only mine.steps mine.events (stop_of end) mine.ends in
+      told_whole (ran report) v (printed report.events) status tt refl (own_status report.finish stop) (subst (λ (l : List ℕ). Appends v.emitted_before v.emitted_now l) (ap printed events) mine.said) fine keeps moments
 
   -- it stopped
   pub run_stopped : (stop : Stopped) (v : Passage) → StopFaults stop v → IsSpoken stop → ((n : ℕ) × Appends v.emitted_before v.emitted_now (take n (printed report.events))) → KeepsFiles v
@@ -162,35 +103,45 @@ module _ (p : Program_tree) (hosts : Hosts) (turns : ℕ) where
   stuck_is_no_end : (finish : Finish) → stuck ≡ ended finish → ⊥
   stuck_is_no_end _ is = cc (is)
 
-  pub never_stuck : (before now : Option (List ℕ)) → Only → EndsSaid (code_of p) p.relations hosts (empty_state p.relations) turns before now Stuck → ⊥
-  never_stuck before now only said = stuck_is_no_end report.finish (only said.steps said.events stuck said.ends).1
+  never_stuck : (code : Code) (rels : List RelDecl) (before now : Option (List ℕ)) (left : Database) (end : End) → code ≡ code_of p → rels ≡ p.relations → end ≡ Stuck
+      → IsAllDone (ours code rels) before now left end → ⊥
+  never_stuck code rels before now left end is its stops said =
+      let mine : IsAllDone (ours (code_of p) p.relations) before now left end = own (λ (x : Code) (rs : List RelDecl). IsAllDone (ours x rs) before now left end) code (code_of p) rels p.relations is its said in
+      stuck_is_no_end report.finish (sym (ap stop_of stops) ∙ (compiles.only mine.steps mine.events (stop_of end) mine.ends).1)
 
-  pub run_part : (before now : Option (List ℕ)) → ((k : ℕ) → IsPrefix (events_in (code_at (code_of p) p.relations (empty_state p.relations) hosts turns k)) report.events)
-      → PartSaid (code_of p) p.relations hosts (empty_state p.relations) turns before now → (n : ℕ) × Appends before now (take n (printed report.events))
-  run_part before now prefixes said =
-      let (m, is) = front_printed _ report.events said.front (prefixes said.steps) in
-      (m, subst (λ (l : List ℕ). Appends before now l) is said.said)
+  pub run_part : (code : Code) (rels : List RelDecl) (before now : Option (List ℕ)) → code ≡ code_of p → rels ≡ p.relations
+      → IsPartDone (ours code rels) before now → (n : ℕ) × Appends before now (take n (printed report.events))
+  run_part code rels before now is its said =
+      let mine : IsPartDone (ours (code_of p) p.relations) before now = own (λ (x : Code) (rs : List RelDecl). IsPartDone (ours x rs) before now) code (code_of p) rels p.relations is its said in
+      let all = unguarded (events_at mine.steps) in
+      let (m, same) = front_printed (events_at mine.steps) report.events mine.front (compiles.prefixes mine.steps) in
+      (m, subst (λ (l : List ℕ). Appends before now l) (ap (λ (es : List Event). take mine.front (printed es)) all ∙ same) mine.said)
 
-  -- the code that runs is the program's, over its relations without rows
-  pub own_end : (code : Code) (rels : List RelDecl) (s : State) (before now : Option (List ℕ)) (end : End) → code ≡ code_of p → rels ≡ p.relations → s ≡ empty_state p.relations
-      → EndsSaid code rels hosts s turns before now end → EndsSaid (code_of p) p.relations hosts (empty_state p.relations) turns before now end
-  own_end code rels s before now end own its empty said =
-      subst (λ (c : Code). EndsSaid c p.relations hosts (empty_state p.relations) turns before now end) own
-      (subst (λ (rs : List RelDecl). EndsSaid code rs hosts (empty_state p.relations) turns before now end) its
-      (subst (λ (t : State). EndsSaid code rels hosts t turns before now end) empty said))
-
-  pub own_part : (code : Code) (rels : List RelDecl) (s : State) (before now : Option (List ℕ)) → code ≡ code_of p → rels ≡ p.relations → s ≡ empty_state p.relations
-      → PartSaid code rels hosts s turns before now → PartSaid (code_of p) p.relations hosts (empty_state p.relations) turns before now
-  own_part code rels s before now own its empty said =
-      subst (λ (c : Code). PartSaid c p.relations hosts (empty_state p.relations) turns before now) own
-      (subst (λ (rs : List RelDecl). PartSaid code rs hosts (empty_state p.relations) turns before now) its
-      (subst (λ (t : State). PartSaid code rels hosts t turns before now) empty said))
+  never_refused : (code : Code) (rels : List RelDecl) (before now : Option (List ℕ)) (left : Database) → IsRefusedAt (ours code rels) before now left → ⊥
+  never_refused code rels before now left at = (let bad = sym (all_passed (events_in (code_at code rels db.state hosts turns at.steps))) ∙ at.refused in cc (bad))
 
   -- what a stop leaves of the code's run it leaves of the program's
-  pub run_image : (code : Code) (rels : List RelDecl) (s : State) (disks : FileId → Disk) (start : Option (List ℕ)) → code ≡ code_of p → rels ≡ p.relations → s ≡ empty_state p.relations
-      → ((k : ℕ) → IsPrefix (events_in (code_at (code_of p) p.relations (empty_state p.relations) hosts turns k)) report.events)
-      → (c : Image) → IsRunImage code rels hosts s turns disks start c → IsImageAmid disks start (printed report.events) c
-  run_image code rels s disks start own its empty prefixes c image = record {
-    files = image.files;
-    emitted = run_part start (Some c.emitted) prefixes (own_part code rels s start (Some c.emitted) own its empty image.part);
-  }
+  pub run_image : (code : Code) (rels : List RelDecl) (disks : FileId → Disk) (start : Option (List ℕ)) (c : Image) → code ≡ code_of p → rels ≡ p.relations
+      → IsCodeCut (λ files s. AreLeft disks files) (ours code rels) start c → IsImageAmid disks start (printed report.events) c
+  run_image code rels disks start c is its cut =
+      let mine : IsCodeCut (λ files s. AreLeft disks files) (ours (code_of p) p.relations) start c =
+      own (λ (x : Code) (rs : List RelDecl). IsCodeCut (λ files s. AreLeft disks files) (ours x rs) start c) code (code_of p) rels p.relations is its cut in
+      let (k, text) = cut_text mine.cut.done mine.cut.rest mine.cut.front in
+      let (m, same) = front_printed (events_at mine.steps) report.events k (compiles.prefixes mine.steps) in
+      record {
+        files = mine.cut.found;
+        emitted = (m, subst (λ (l : List ℕ). Appends start (Some c.emitted) l) (text ∙ ap (λ (es : List Event). take k (printed es)) (mine.cut.split ∙ unguarded (events_at mine.steps)) ∙ same) mine.cut.bytes);
+      }
+
+  -- however it is over, it is as the meaning ends
+  pub whole_over : (code : Code) (rels : List RelDecl) (v : Passage) (left : Database) (close : Close) (status : ℕ) → code ≡ code_of p → rels ≡ p.relations
+      → ((end : End) (finish : Finish) → close ≡ Ends end → stop_of end ≡ ended finish → status ≡ status_of_finish finish) → v.output_now ≡ v.output_before → KeepsFiles v
+      → (v.told → v.leaves_only (IsImageAmid v.disks_before v.emitted_before (printed report.events))) → IsOver (ours code rels) v.emitted_before v.emitted_now left close → IsTold (ran report) status v
+  whole_over code rels v left (Ends end) status is its own_status fine keeps moments said = run_whole code rels v left end status is its (λ finish stop. own_status end finish refl stop) fine keeps moments said
+  whole_over code rels v left Close_refused status is its own_status fine keeps moments said = absurd (never_refused code rels _ _ _ said)
+
+  pub never_over_refused : (code : Code) (rels : List RelDecl) (before now : Option (List ℕ)) (left : Database) (close : Close) → close ≡ Close_refused → IsOver (ours code rels) before now left close → ⊥
+  never_over_refused code rels before now left close is said = never_refused code rels before now left (subst (λ (x : Close). IsOver (ours code rels) before now left x) is said)
+
+  pub never_over_stuck : (code : Code) (rels : List RelDecl) (before now : Option (List ℕ)) (left : Database) (close : Close) → code ≡ code_of p → rels ≡ p.relations → close ≡ Ends Stuck → IsOver (ours code rels) before now left close → ⊥
+  never_over_stuck code rels before now left close same its is said = never_stuck code rels before now left Stuck same its refl (subst (λ (x : Close). IsOver (ours code rels) before now left x) is said)

@@ -9,7 +9,7 @@ use Rattle.hera_outcome.specs.Passages.{Passage, Start, start_of}
 use Rattle.hera_outcome.specs.Told.{IsTold}
 use Rattle.hera_run.specs.Folder.{finds_none, finds_damage, RunsTo, closed as run_closed, differs, overflows as run_overflows, runs as run_runs}
 use Rattle.hera_words.specs.declared.command.Command.{Command}
-use Rattle.hera_top.specs.Commands.{Performs, checks, lists, evaluates, makes, runs, is_made, is_taken, ComesToFor, refuses, performs, Finds, closed, dumps, renews, overflows, ComesTo, unread, reads, drills, looks, Answers, tells, fails}
+use Rattle.hera_top.specs.Commands.{Performs, checks, lists, evaluates, makes, widens, runs, is_made, is_taken, is_shut, is_narrowed, is_wide, is_too_wide, ComesToFor, refuses, performs, Finds, closed, dumps, renews, overflows, ComesTo, unread, reads, drills, looks, Answers, tells, fails}
 use Rattle.hera_top.specs.Sources.{Seen}
 
 -- the statuses of words, of files, of a source and of the output
@@ -52,6 +52,11 @@ performed_plain hosts p s _ _ lists odd = plain_0 odd
 performed_plain hosts p s _ _ evaluates odd = finish_plain _ odd
 performed_plain hosts p s _ _ (makes (is_made vacant)) odd = plain_0 odd
 performed_plain hosts p s _ _ (makes (is_taken taken)) odd = plain_5 odd
+performed_plain hosts p s _ _ (widens (is_shut (finds_none there))) odd = plain_5 odd
+performed_plain hosts p s _ _ (widens (is_shut (finds_damage there))) odd = plain_5 odd
+performed_plain hosts p s _ _ (widens (is_narrowed there first)) odd = plain_5 odd
+performed_plain hosts p s _ _ (widens (is_wide there wider short)) odd = plain_0 odd
+performed_plain hosts p s _ _ (widens (is_too_wide there wider long)) odd = plain_10 odd
 performed_plain hosts p s _ _ (runs {turns} {outcome} came) odd = run_plain hosts turns p s outcome came odd
 
 script_plain : (hosts : List Host) (script : List ℕ) (s : Start) (command : Command) (o : Outcome) → ComesToFor hosts script s command o → IsOdd (status_of_outcome o) → ⊥

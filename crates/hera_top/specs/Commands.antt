@@ -1,9 +1,10 @@
 -- What a command comes to, and how it answers.
-use Rattle.std.specs.Prelude.{◌≡◌, ◌≢◌, ◌≤◌, ◌<◌, ◌⊎◌, ◌++◌, ℕ, List, [], ◌∷◌, length, codes, Option, Result, Err}
+use Rattle.std.specs.Prelude.{◌≡◌, ◌≢◌, ◌≤◌, ◌<◌, ◌⊎◌, ◌++◌, ℕ, List, [], ◌∷◌, length, codes, Option, Some, Result, Err}
 use Rattle.std.specs.Io.KnownBytes.{Consumes, IsAtEnd}
 use Rattle.hera_causes.specs.Causes.{Rose}
 use Rattle.hera_meaning.specs.declared.schemas.RelDecl.{RelDecl}
 use Rattle.hera_meaning.specs.Deltas.{State}
+use Rattle.hera_meaning.specs.Wider.{Wider, first_narrowed}
 use Rattle.hera_meaning.specs.Printed.{decl_text, table_text}
 use Rattle.hera_meaning.specs.Run.{run_of}
 use Rattle.hera_meaning.specs.Trees.{Program_tree}
@@ -18,18 +19,19 @@ use Rattle.hera_script.specs.Refusing.{IsRefused}
 use Rattle.hera_syntax.specs.Tokens.{script_limit}
 use Rattle.hera_store.specs.Databases.{Database, held}
 use Rattle.hera_store.specs.Faults.{half_with}
+use Rattle.hera_store.specs.Widened.{widened as widened_to}
 use Rattle.hera_volume.specs.declared.file_id.FileId.TheVariants.{Select}
 use Rattle.hera_outcome.specs.declared.answer.Ending.{Ending}
 use Rattle.hera_outcome.specs.declared.answer.Stop.{Stop}
 use Rattle.hera_outcome.specs.declared.answer.Stop.TheVariants.{Refused, Device}
 use Rattle.hera_outcome.specs.declared.refusal.Refusal.{Refusal}
-use Rattle.hera_outcome.specs.declared.refusal.Refusal.TheVariants.{Unread, Script, Exists}
-use Rattle.hera_outcome.specs.Outcomes.{Outcome, refused, prints, ran, made, renewed, too_long}
+use Rattle.hera_outcome.specs.declared.refusal.Refusal.TheVariants.{Unread, Script, Exists, Narrows}
+use Rattle.hera_outcome.specs.Outcomes.{Outcome, refused, prints, ran, made, renewed, widened, too_long}
 use Rattle.hera_outcome.specs.Passages.{Passage, Start, start_of, KeepsFiles}
 use Rattle.hera_outcome.specs.Told.{IsTold, IsGivenUp, Answered}
 use Rattle.hera_run.specs.Folder.{IsThere, IsClosed, RunsTo}
 use Rattle.hera_words.specs.declared.command.Command.{Command}
-use Rattle.hera_words.specs.declared.command.Command.TheVariants.{Check, List as list_command, Eval, Drill, Init, Run, Dump, Checkpoint}
+use Rattle.hera_words.specs.declared.command.Command.TheVariants.{Check, List as list_command, Eval, Drill, Init, Run, Dump, Checkpoint, Widen}
 use Rattle.hera_top.specs.Drill.{drill_text, drill_turns}
 use Rattle.hera_top.specs.Sources.{Seen}
 
@@ -47,13 +49,22 @@ pub data IsMade (rels : List RelDecl) (v : Start) : Outcome → Type 0 where
   is_made : IsVacant v → IsMade rels v (made rels)
   is_taken : IsTaken v → IsMade rels v (refused Exists)
 
+-- the database of a folder is widened to these relations, where they narrow none of its own
+pub data IsWidened (rels : List RelDecl) (v : Start) : Outcome → Type 0 where
+  is_shut : {refusal : Refusal} → IsClosed v refusal → IsWidened rels v (refused refusal)
+  is_narrowed : {db : Database} {relation : List ℕ} → IsThere v (held db) → first_narrowed db.catalogue rels ≡ Some relation → IsWidened rels v (refused (Narrows relation))
+  is_wide : {db : Database} → IsThere v (held db) → Wider db.catalogue rels → length (half_with (widened_to db rels)) ≤ half_limit → IsWidened rels v (widened db (widened_to db rels))
+  is_too_wide : {db : Database} → IsThere v (held db) → Wider db.catalogue rels → half_limit < length (half_with (widened_to db rels)) → IsWidened rels v (too_long db)
+
 -- what a command does with an accepted script's program: `check` says that it is accepted, `list` lists its code, `eval`
--- runs it on its relations without rows, `init` makes its database, and `run` runs it on the database in a folder
+-- runs it on its relations without rows, `init` makes its database, `widen` widens the database in a folder to its
+-- relations, and `run` runs it on that database
 pub data Performs (hosts : List Host) (p : Program_tree) (v : Start) : Command → Outcome → Type 0 where
   checks : Performs hosts p v Check (prints (codes "accepted\n"))
   lists : Performs hosts p v list_command (prints (listing_of (code_of p)))
   evaluates : {turns : ℕ} → Performs hosts p v (Eval turns) (ran (run_of p (empty_state p.relations) (specs_of hosts) turns))
   makes : {outcome : Outcome} → IsMade p.relations v outcome → Performs hosts p v Init outcome
+  widens : {outcome : Outcome} → IsWidened p.relations v outcome → Performs hosts p v Widen outcome
   runs : {turns : ℕ} {outcome : Outcome} → RunsTo hosts turns p v outcome → Performs hosts p v (Run turns) outcome
 
 -- the outcome of a command for a script that may call these hosts
@@ -88,6 +99,7 @@ ReadsScript Init = Unit {0}
 ReadsScript (Run turns) = Unit {0}
 ReadsScript Dump = ⊥
 ReadsScript Checkpoint = ⊥
+ReadsScript Widen = Unit {0}
 
 -- a command that looks at a folder alone
 abbrev pub LooksAlone : Command → Type 0
@@ -99,6 +111,7 @@ LooksAlone Init = ⊥
 LooksAlone (Run turns) = ⊥
 LooksAlone Dump = Unit {0}
 LooksAlone Checkpoint = Unit {0}
+LooksAlone Widen = ⊥
 
 -- these bytes came from the source: all that was left, or more than the limit
 pub record IsRead (left_before left_now : Option (List ℕ)) (script : List ℕ) : Type 0 where

@@ -1,6 +1,5 @@
 pub mod Sources
 pub mod Dumping
 pub mod Drill
-pub mod Running
 pub mod Commands
 pub mod Told

@@ -8,9 +8,10 @@ ghost use Rattle.hera_outcome.specs.Passages.{passage, start};
 ghost use Rattle.hera_outcome.specs.Told.{Answered};
 ghost use Rattle.hera_words.specs.declared.command.Command.{Command};
 ghost use Rattle.hera_words.specs.Words.{form_of};
-ghost use Rattle.hera_top.specs.Commands.{Performs, ReadsScript, IsMade, IsApart};
+ghost use Rattle.hera_top.specs.Commands.{Performs, ReadsScript, IsMade, IsWidened, IsApart};
 
 use crate::catalogue::catalogue_of;
+use crate::folders::widen_to;
 use crate::run::run;
 use hera_code::listing;
 use hera_codegen::generate;
@@ -95,6 +96,19 @@ fn init<W: Outside>(alloc: Global, relations: &[RelDecl], outside: &mut W) -> Re
     answer
 }
 
+/// Widens the database in the folder to these relations.
+fn widen<W: Outside>(alloc: Global, relations: &[RelDecl], outside: &mut W) -> Result<Ending, Stop>
+    requires { IsCatalogue relations.now }
+    ensures answered { Answered (IsWidened relations.now (start W.Outside.own outside.old)) result (passage W.Output W.Outside.own outside.old outside.new) }
+{
+    let Ok(catalogue) = catalogue_of(alloc, relations) else {
+        return Err(Stop::Memory);
+    };
+    let answer = widen_to(alloc, &catalogue, outside);
+    drop(catalogue);
+    answer
+}
+
 /// Carries out a command on an accepted script's program.
 pub(crate) fn perform<W: Outside>(
     alloc: Global,
@@ -137,6 +151,7 @@ fn perform_on<W: Outside>(
         Command::List => list(alloc, program, outside, hosts),
         Command::Eval(turns) => eval(alloc, program, turns, outside, hosts),
         Command::Init => init(alloc, &program.relations, outside),
+        Command::Widen => widen(alloc, &program.relations, outside),
         Command::Run(_) | Command::Drill(_) | Command::Dump | Command::Checkpoint => unreachable!(),
     }
 }

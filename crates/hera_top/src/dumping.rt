@@ -29,7 +29,7 @@ fn rows_of(alloc: Global, store: &Store, rel: RelId) -> Result<RowSet, AllocErro
         layers: &layers,
         tip: None,
     };
-    view.rel(rel).collect(alloc)
+    view.indexed(rel).collect(alloc)
 }
 
 /// The lines of these rows as a relation of this schema.

@@ -1,13 +1,14 @@
 //! The commands that look at a folder alone.
 ghost use Rattle.hera_outcome.specs.Passages.{passage, start};
 ghost use Rattle.hera_outcome.specs.Told.{Answered};
-ghost use Rattle.hera_top.specs.Commands.{Finds};
+ghost use Rattle.hera_top.specs.Commands.{Finds, IsWidened};
 ghost use Rattle.hera_words.specs.declared.command.Command.{Command};
 
 use crate::dumping::text_of_store;
-use hera_outcome::{Ending, Stop, tell};
+use hera_outcome::{Ending, Refusal, Stop, tell};
+use hera_row::Catalogue;
 use hera_run::open_folder;
-use hera_store::CheckFault;
+use hera_store::{CheckFault, WidenFault};
 use hera_volume::Outside;
 use hera_words::Command;
 use rel_format::HALF_LIMIT;
@@ -41,6 +42,29 @@ pub(crate) fn checkpoint<W: Outside>(alloc: Global, outside: &mut W) -> Result<E
             Err(CheckFault::Device) => Err(Stop::Device),
             Err(CheckFault::Memory) => Err(Stop::Memory),
             Err(CheckFault::Closed) => unreachable!(),
+        },
+        Err(stop) => Err(stop),
+    }
+}
+
+/// Widens the database in the folder to this catalogue.
+pub(crate) fn widen_to<W: Outside>(
+    alloc: Global,
+    catalogue: &Catalogue,
+    outside: &mut W,
+) -> Result<Ending, Stop>
+    ensures answered { Answered (IsWidened catalogue.now (start W.Outside.own outside.old)) result (passage W.Output W.Outside.own outside.old outside.new) }
+{
+    match open_folder(alloc, outside) {
+        Ok(store) => match store.widen(outside, catalogue, HALF_LIMIT) {
+            Ok(()) => tell(outside, b"widened\n"),
+            Err(WidenFault::Narrows { relation }) => {
+                Err(Stop::Refused(Refusal::Narrows { relation }))
+            }
+            Err(WidenFault::Full { .. }) => Err(Stop::Full),
+            Err(WidenFault::Device) => Err(Stop::Device),
+            Err(WidenFault::Memory) => Err(Stop::Memory),
+            Err(WidenFault::Closed) => unreachable!(),
         },
         Err(stop) => Err(stop),
     }

@@ -98,7 +98,7 @@ pub fn a_run_is_complete<W: Outside>()
     ensures { (hosts : List Host) (turns : ℕ) (script : List ℕ) (files : FileId → List ℕ) (p : Program_tree) (db : Database) (gate : ℕ) (before now : Seen) (first last : W) (status : ℕ)
         → BeginsWith (Command.Run turns) script files before (start W.Outside.own first) → ¬ Rose before.faults now.faults
         → length script ≤ script_limit → Accepted script hosts p → Holds files db → StartsAt files db gate → AllHas db.catalogue p.relations
-        → all_fit gate (run_of (bound p db.catalogue) db.state (specs_of hosts) turns).events ≡ true
+        → all_fit (Some gate) (run_of (bound p db.catalogue) db.state (specs_of hosts) turns).events ≡ true
         → Answers hosts (Command.Run turns) before now status (passage W.Output W.Outside.own first last)
         → (status ≡ 6) ⊎ (status ≡ 8) ⊎ (status ≡ 9)
         ⊎ IsDone (carried db (run_of (bound p db.catalogue) db.state (specs_of hosts) turns).events (ends (run_of (bound p db.catalogue) db.state (specs_of hosts) turns).finish)) status (passage W.Output W.Outside.own first last) }

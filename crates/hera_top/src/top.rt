@@ -42,7 +42,12 @@ fn reads_script(command: Command) -> bool
     ensures other { IsFalse result → ¬ ReadsScript command }
 {
     match command {
-        Command::Check | Command::List | Command::Eval(_) | Command::Init | Command::Run(_) => true,
+        Command::Check
+        | Command::List
+        | Command::Eval(_)
+        | Command::Init
+        | Command::Run(_)
+        | Command::Widen => true,
         Command::Drill(_) | Command::Dump | Command::Checkpoint => false,
     }
 }
@@ -62,9 +67,12 @@ fn answer_unread<W: Outside>(
         Command::Drill(rows) => drill(alloc, rows, outside, hosts),
         Command::Dump => dump(alloc, outside),
         Command::Checkpoint => checkpoint(alloc, outside),
-        Command::Check | Command::List | Command::Eval(_) | Command::Init | Command::Run(_) => {
-            unreachable!()
-        }
+        Command::Check
+        | Command::List
+        | Command::Eval(_)
+        | Command::Init
+        | Command::Run(_)
+        | Command::Widen => unreachable!(),
     }
 }
 
@@ -98,13 +106,14 @@ fn answer<S: Source, W: Outside>(
 /// - `run DIR TURNS FILE` runs it on the database in the folder with at most TURNS turns, and stores what it commits.
 /// - `dump DIR` prints every relation of the database in the folder.
 /// - `checkpoint DIR` writes the other half of the folder anew, selects it, and prints `checkpointed`.
+/// - `widen DIR FILE` widens the database in the folder to the relations of the script of FILE, and prints `widened`.
 ///
 /// A script may call the hosts of the table.
 ///
 /// The statuses: 0 the command or the run is done, 1 the run ended in a trap, 2 the words are no listed form, 3 the
 /// script is refused, 4 the turns were spent, 5 there is a database and there should be none, or none, or it is damaged
-/// or lacks a relation, 6 a call on a file of the folder failed, 7 the script's source failed, 8 the output failed, 9
-/// there was no memory, 10 the half of a commit, of a checkpoint or in place of one of format 1 would be longer than
+/// or lacks a relation, or one of its own would be narrowed, 6 a call on a file of the folder failed, 7 the script's source failed, 8 the output failed, 9
+/// there was no memory, 10 the half of a commit, of a checkpoint, of a widening or in place of one of format 1 would be longer than
 /// 268,435,456 bytes. With 6, 8 and 9 a prefix of what would have been emitted was emitted, else all of it.
 pub fn hera<S: Source, W: Outside>(
     alloc: Global,

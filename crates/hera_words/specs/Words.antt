@@ -3,7 +3,7 @@ use Rattle.std.specs.Prelude.{ℕ, ◌+◌, ◌==◌, Bool, true, false, cond, L
 use Rattle.std.specs.Option.{option_flatten}
 use Rattle.std.specs.declared.alloc.Global.{Global}
 use Rattle.hera_words.specs.declared.command.Command.{Command}
-use Rattle.hera_words.specs.declared.command.Command.TheVariants.{Check, List as list_command, Eval, Drill, Init, Run, Dump, Checkpoint}
+use Rattle.hera_words.specs.declared.command.Command.TheVariants.{Check, List as list_command, Eval, Drill, Init, Run, Dump, Checkpoint, Widen}
 use Rattle.hera_words.specs.declared.form.Form.{Form}
 use Rattle.hera_words.specs.declared.form.Number.{Number}
 use Rattle.hera_words.specs.declared.form.Number.TheVariants.{Absent, Turns, Rows}
@@ -21,7 +21,8 @@ command_named name n =
     if bytes_eq name (codes "check") then Some Check else (if bytes_eq name (codes "list") then Some list_command else (
     if bytes_eq name (codes "eval") then Some (Eval n) else (if bytes_eq name (codes "drill") then Some (Drill n) else (
     if bytes_eq name (codes "init") then Some Init else (if bytes_eq name (codes "run") then Some (Run n) else (
-    if bytes_eq name (codes "dump") then Some Dump else (if bytes_eq name (codes "checkpoint") then Some Checkpoint else None)))))))
+    if bytes_eq name (codes "dump") then Some Dump else (if bytes_eq name (codes "checkpoint") then Some Checkpoint else (
+    if bytes_eq name (codes "widen") then Some Widen else None))))))))
 
 abbrev form : (folder : Bool) (number : Number) (files : ℕ) → Form
 form folder number files = record { folder = folder; number = number; files = files }
@@ -36,6 +37,7 @@ form_of Init = form true Absent 1
 form_of (Run turns) = form true Turns 1
 form_of Dump = form true Absent 0
 form_of Checkpoint = form true Absent 0
+form_of Widen = form true Absent 1
 
 -- ---- the words
 

@@ -22,6 +22,8 @@ pub enum Command {
     Dump,
     /// Writes the other half of the folder anew and selects it.
     Checkpoint,
+    /// Widens the database in a folder to a script's relations.
+    Widen,
 }
 
 impl Command {
@@ -38,6 +40,7 @@ impl Command {
             "run" => Some(Command::Run(number)),
             "dump" => Some(Command::Dump),
             "checkpoint" => Some(Command::Checkpoint),
+            "widen" => Some(Command::Widen),
             _ => None,
         }
     }
@@ -50,7 +53,7 @@ impl Command {
             Command::Check | Command::List => form(false, Number::Absent, 1),
             Command::Eval(_) => form(false, Number::Turns, 1),
             Command::Drill(_) => form(false, Number::Rows, 0),
-            Command::Init => form(true, Number::Absent, 1),
+            Command::Init | Command::Widen => form(true, Number::Absent, 1),
             Command::Run(_) => form(true, Number::Turns, 1),
             Command::Dump | Command::Checkpoint => form(true, Number::Absent, 0),
         }

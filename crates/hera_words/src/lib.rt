@@ -35,6 +35,7 @@ mod tests {
             ("run D 1 F", Some(Command::Run(1)), (3, 4), Some(1)),
             ("dump D", Some(Command::Dump), (0, 0), Some(1)),
             ("checkpoint D", Some(Command::Checkpoint), (0, 0), Some(1)),
+            ("widen D F", Some(Command::Widen), (2, 3), Some(1)),
             ("drill 1001", None, (0, 0), None),
             ("run D 1", None, (0, 0), None),
             ("eval 18446744073709551616 F", None, (0, 0), None),

@@ -1,101 +1,107 @@
-use Rattle.std.proofs.Common.{List, Err, inl, refl, sym, ap, subst}
+use Rattle.std.proofs.Common.{List, Err, Some, inl, sym, ap, ◌∙◌, subst}
 use Rattle.hera_meaning.specs.declared.schemas.RelDecl.{RelDecl}
 use Rattle.hera_meaning.specs.Deltas.{IsState}
 use Rattle.hera_meaning.specs.Plain.{program_of}
-use Rattle.hera_meaning.specs.Run.{finished, stopped, out_of_turns}
+use Rattle.hera_meaning.specs.Run.{run_of}
 use Rattle.hera_host.specs.Tables.{specs_of}
-use Rattle.hera_machine.specs.Standing.{stop_of}
+use Rattle.hera_volume.specs.Time.{LeavesOnly}
 use Rattle.hera_volume.proofs.Moments.{leaves-weaker}
-use Rattle.hera_store.specs.Standing.{database_of}
+use Rattle.hera_store.specs.Standing.{Standing, StandsFor, database_of}
+use Rattle.hera_outcome.specs.Answers.{number_of_ending, number_of_stop}
 use Rattle.hera_outcome.specs.Passages.{passage}
-use Rattle.hera_run.proofs.Meaning.{Compiles, proper_at, cut_of_outcome, whole_run, full_run, never_stuck, run_part, run_stop, stop_is_fault, behind_none, faults_full}
+use Rattle.hera_outcome.specs.Told.{IsToldBehind}
+use Rattle.hera_outcome.specs.Cut.{IsCut}
+use Rattle.hera_run.specs.Fitting.{fitting}
+use Rattle.hera_run.specs.Folder.{outcome_from}
+use Rattle.hera_run.proofs.Meaning.{Compiles, proper_at, cut_of_outcome, whole_over, full_run, never_over_stuck, never_over_refused, run_part, run_stop, stop_is_fault, behind_none, faults_full}
+use Rattle.hera_run.proofs.Read.{read_cut, read_none}
 use Rattle.hera_run.proofs.folder.run_bound.Goals as goal
 
-pub run_code-requires-clause-proper : goal.run_code-requires-clause-proper
-run_code-requires-clause-proper g c =
+pub run_code-outcome-requires-clause-proper : goal.run_code-outcome-requires-clause-proper
+run_code-outcome-requires-clause-proper g c =
     let p = program_of c.args.program.now in
     let hosts = specs_of c.args.hosts.now.names in
-    let db = database_of c.args.store.now in
-    let gate = c.args.store.now.end in
+    let s = c.in-Ok-over.keeper.store in
+    let is = c.in-Ok-over.ensures.store in
+    let db = database_of s in
     let means = c.code_does_what_the_program_means.ensures in
-    let state = subst (λ (rs : List RelDecl). IsState rs db.state) (sym c.requires.relations) c.requires.opens.state in
+    let state : IsState p.relations db.state = subst (λ (x : Standing). IsState p.relations (database_of x).state) (sym is) (subst (λ (rs : List RelDecl). IsState rs (database_of c.args.store).state) (sym c.requires.relations) c.requires.opens.state) in
     let compiles : Compiles p hosts db.state c.args.turns = record { only = means.only p hosts db.state c.args.turns c.requires.sound state; stores = means.stores p hosts db.state c.args.turns c.requires.sound state; prefixes = means.prefixes p hosts db.state c.args.turns c.requires.sound state } in
-    proper_at p hosts db gate c.args.turns compiles c.in-Ok.code c.deref.result.now c.args.store.now.base.catalogue c.in-Ok.ensures.code c.deref.ensures.value (sym c.requires.relations)
+    proper_at p hosts db s.end c.args.turns compiles c.in-Ok.code c.deref.result.now s.base.catalogue c.in-Ok.ensures.code c.deref.ensures.value (ap (λ (x : Standing). x.base.catalogue) is ∙ sym c.requires.relations)
+
+pub ending_of-requires-clause-refused : goal.ending_of-requires-clause-refused
+ending_of-requires-clause-refused g c =
+    let p = program_of c.args.program.now in
+    let hosts = specs_of c.args.hosts.now.names in
+    let s = c.in-Ok-over.keeper.store in
+    let is = c.in-Ok-over.ensures.store in
+    let db = database_of s in
+    let means = c.code_does_what_the_program_means.ensures in
+    let state : IsState p.relations db.state = subst (λ (x : Standing). IsState p.relations (database_of x).state) (sym is) (subst (λ (rs : List RelDecl). IsState rs (database_of c.args.store).state) (sym c.requires.relations) c.requires.opens.state) in
+    let compiles : Compiles p hosts db.state c.args.turns = record { only = means.only p hosts db.state c.args.turns c.requires.sound state; stores = means.stores p hosts db.state c.args.turns c.requires.sound state; prefixes = means.prefixes p hosts db.state c.args.turns c.requires.sound state } in
+    λ refused. never_over_refused p hosts db s.end c.args.turns compiles c.in-Ok.code c.deref.result.now _ _ _ c.in-Ok-outcome.close refused c.in-Ok-outcome.ensures.over
+
+pub ending_of-requires-clause-stuck : goal.ending_of-requires-clause-stuck
+ending_of-requires-clause-stuck g c =
+    let p = program_of c.args.program.now in
+    let hosts = specs_of c.args.hosts.now.names in
+    let s = c.in-Ok-over.keeper.store in
+    let is = c.in-Ok-over.ensures.store in
+    let db = database_of s in
+    let means = c.code_does_what_the_program_means.ensures in
+    let state : IsState p.relations db.state = subst (λ (x : Standing). IsState p.relations (database_of x).state) (sym is) (subst (λ (rs : List RelDecl). IsState rs (database_of c.args.store).state) (sym c.requires.relations) c.requires.opens.state) in
+    let compiles : Compiles p hosts db.state c.args.turns = record { only = means.only p hosts db.state c.args.turns c.requires.sound state; stores = means.stores p hosts db.state c.args.turns c.requires.sound state; prefixes = means.prefixes p hosts db.state c.args.turns c.requires.sound state } in
+    λ stuck. never_over_stuck p hosts db s.end c.args.turns compiles c.in-Ok.code c.deref.result.now _ _ _ c.in-Ok-outcome.close c.in-Ok.ensures.code c.deref.ensures.value stuck c.in-Ok-outcome.ensures.over
 
 pub returns-in_default-clause-told : goal.returns-in_default-clause-told
-returns-in_default-clause-told g c = behind_none g.W.Output g.W.Outside c.args.outside.now (database_of c.args.store.now) _ _
+returns-in_default-clause-told g c =
+    behind_none g.W.Output g.W.Outside c.args.outside.now (database_of c.args.store) _ _ (λ told. read_none g.W.Output g.W.Outside g.met.W.Outside.as_read g.met.W.Outside.only_now g.met.W.Outside.counts_now c.args.outside.now c.args.store _ told (c.requires.opens.stands told))
 
-pub returns-in-Ok-Done-clause-told : goal.returns-in-Ok-Done-clause-told
-returns-in-Ok-Done-clause-told g c =
+pub returns-in_default-over-clause-told : goal.returns-in_default-over-clause-told
+returns-in_default-over-clause-told g c =
+    behind_none g.W.Output g.W.Outside c.args.outside.now (database_of c.args.store) _ _ (λ told. read_none g.W.Output g.W.Outside g.met.W.Outside.as_read g.met.W.Outside.only_now g.met.W.Outside.counts_now c.args.outside.now c.args.store _ told (c.requires.opens.stands told))
+
+pub returns-in-Ok-outcome-clause-told : goal.returns-in-Ok-outcome-clause-told
+returns-in-Ok-outcome-clause-told g c =
     let p = program_of c.args.program.now in
     let hosts = specs_of c.args.hosts.now.names in
-    let db = database_of c.args.store.now in
-    let gate = c.args.store.now.end in
+    let s = c.in-Ok-over.keeper.store in
+    let is = c.in-Ok-over.ensures.store in
+    let db = database_of s in
     let means = c.code_does_what_the_program_means.ensures in
-    let state = subst (λ (rs : List RelDecl). IsState rs db.state) (sym c.requires.relations) c.requires.opens.state in
+    let state : IsState p.relations db.state = subst (λ (x : Standing). IsState p.relations (database_of x).state) (sym is) (subst (λ (rs : List RelDecl). IsState rs (database_of c.args.store).state) (sym c.requires.relations) c.requires.opens.state) in
     let compiles : Compiles p hosts db.state c.args.turns = record { only = means.only p hosts db.state c.args.turns c.requires.sound state; stores = means.stores p hosts db.state c.args.turns c.requires.sound state; prefixes = means.prefixes p hosts db.state c.args.turns c.requires.sound state } in
-    let v = passage g.W.Output g.W.Outside c.args.outside.now c.run_code.new.outside in
-    record {
-      ending = inl (whole_run p hosts db gate c.args.turns compiles c.in-Ok.code c.deref.result.now _ v c.run_code.new.store c.in-Ok-Done.field-0 finished c.in-Ok.ensures.code c.deref.ensures.value (ap stop_of c.in-Ok-Done.field-0-is) refl c.in-Ok-Done.ensures.whole c.in-Ok-Done.ensures.stands c.in-Ok-Done.ensures.faults);
-      moments = λ told. leaves-weaker _ _ (c.run_code.ensures.any_moment told) (λ image cut. cut_of_outcome p hosts db gate c.args.turns compiles c.in-Ok.code c.deref.result.now (g.W.Output.emitted c.args.outside.now) image c.in-Ok.ensures.code c.deref.ensures.value cut);
-    }
-
-pub returns-in-Ok-Trap-clause-told : goal.returns-in-Ok-Trap-clause-told
-returns-in-Ok-Trap-clause-told g c =
-    let p = program_of c.args.program.now in
-    let hosts = specs_of c.args.hosts.now.names in
-    let db = database_of c.args.store.now in
-    let gate = c.args.store.now.end in
-    let means = c.code_does_what_the_program_means.ensures in
-    let state = subst (λ (rs : List RelDecl). IsState rs db.state) (sym c.requires.relations) c.requires.opens.state in
-    let compiles : Compiles p hosts db.state c.args.turns = record { only = means.only p hosts db.state c.args.turns c.requires.sound state; stores = means.stores p hosts db.state c.args.turns c.requires.sound state; prefixes = means.prefixes p hosts db.state c.args.turns c.requires.sound state } in
-    let v = passage g.W.Output g.W.Outside c.args.outside.now c.run_code.new.outside in
-    record {
-      ending = inl (whole_run p hosts db gate c.args.turns compiles c.in-Ok.code c.deref.result.now _ v c.run_code.new.store c.in-Ok-Trap.field-0 (stopped c.in-Ok-Trap.field-0-0 c.in-Ok-Trap.field-0-1) c.in-Ok.ensures.code c.deref.ensures.value (ap stop_of c.in-Ok-Trap.field-0-is) refl c.in-Ok-Trap.ensures.whole c.in-Ok-Trap.ensures.stands c.in-Ok-Trap.ensures.faults);
-      moments = λ told. leaves-weaker _ _ (c.run_code.ensures.any_moment told) (λ image cut. cut_of_outcome p hosts db gate c.args.turns compiles c.in-Ok.code c.deref.result.now (g.W.Output.emitted c.args.outside.now) image c.in-Ok.ensures.code c.deref.ensures.value cut);
-    }
-
-pub returns-in-Ok-Spent-clause-told : goal.returns-in-Ok-Spent-clause-told
-returns-in-Ok-Spent-clause-told g c =
-    let p = program_of c.args.program.now in
-    let hosts = specs_of c.args.hosts.now.names in
-    let db = database_of c.args.store.now in
-    let gate = c.args.store.now.end in
-    let means = c.code_does_what_the_program_means.ensures in
-    let state = subst (λ (rs : List RelDecl). IsState rs db.state) (sym c.requires.relations) c.requires.opens.state in
-    let compiles : Compiles p hosts db.state c.args.turns = record { only = means.only p hosts db.state c.args.turns c.requires.sound state; stores = means.stores p hosts db.state c.args.turns c.requires.sound state; prefixes = means.prefixes p hosts db.state c.args.turns c.requires.sound state } in
-    let v = passage g.W.Output g.W.Outside c.args.outside.now c.run_code.new.outside in
-    record {
-      ending = inl (whole_run p hosts db gate c.args.turns compiles c.in-Ok.code c.deref.result.now _ v c.run_code.new.store c.in-Ok-Spent.field-0 out_of_turns c.in-Ok.ensures.code c.deref.ensures.value (ap stop_of c.in-Ok-Spent.field-0-is) refl c.in-Ok-Spent.ensures.whole c.in-Ok-Spent.ensures.stands c.in-Ok-Spent.ensures.faults);
-      moments = λ told. leaves-weaker _ _ (c.run_code.ensures.any_moment told) (λ image cut. cut_of_outcome p hosts db gate c.args.turns compiles c.in-Ok.code c.deref.result.now (g.W.Output.emitted c.args.outside.now) image c.in-Ok.ensures.code c.deref.ensures.value cut);
-    }
-
-pub unreachable-requires : goal.unreachable-requires
-unreachable-requires g c =
-    let p = program_of c.args.program.now in
-    let hosts = specs_of c.args.hosts.now.names in
-    let db = database_of c.args.store.now in
-    let gate = c.args.store.now.end in
-    let means = c.code_does_what_the_program_means.ensures in
-    let state = subst (λ (rs : List RelDecl). IsState rs db.state) (sym c.requires.relations) c.requires.opens.state in
-    let compiles : Compiles p hosts db.state c.args.turns = record { only = means.only p hosts db.state c.args.turns c.requires.sound state; stores = means.stores p hosts db.state c.args.turns c.requires.sound state; prefixes = means.prefixes p hosts db.state c.args.turns c.requires.sound state } in
-    never_stuck p hosts db gate c.args.turns compiles c.in-Ok.code c.deref.result.now _ _ _ c.in-Ok-Stuck.field-0 c.in-Ok.ensures.code c.deref.ensures.value (ap stop_of c.in-Ok-Stuck.field-0-is) c.in-Ok-Stuck.ensures.whole
+    let v = passage g.W.Output g.W.Outside c.args.outside.now c.run_code-outcome.new.outside in
+    let now = c.run_code-outcome.new.keeper.store in
+    subst (λ (x : Standing). IsToldBehind (outcome_from (database_of x) x.end (run_of p (database_of x).state hosts c.args.turns)) (number_of_ending c.ending_of.result) v) is (record {
+      ending = inl (whole_over p hosts db s.end c.args.turns compiles c.in-Ok.code c.deref.result.now _ v now c.in-Ok-outcome.close c.in-Ok.ensures.code c.deref.ensures.value c.ending_of.ensures c.in-Ok-outcome.ensures.over c.in-Ok-outcome.ensures.stands c.in-Ok-outcome.ensures.faults);
+      moments = λ told. leaves-weaker _ _ (c.run_code-outcome.ensures.any_moment told) (λ image cut. cut_of_outcome p hosts db s.end c.args.turns compiles c.in-Ok.code c.deref.result.now (g.W.Output.emitted c.args.outside.now) image c.in-Ok.ensures.code c.deref.ensures.value cut);
+    })
 
 pub returns-clause-told : goal.returns-clause-told
 returns-clause-told g c =
     let p = program_of c.args.program.now in
     let hosts = specs_of c.args.hosts.now.names in
-    let db = database_of c.args.store.now in
-    let gate = c.args.store.now.end in
+    let s = c.in-Ok-over.keeper.store in
+    let is = c.in-Ok-over.ensures.store in
+    let db = database_of s in
     let means = c.code_does_what_the_program_means.ensures in
-    let state = subst (λ (rs : List RelDecl). IsState rs db.state) (sym c.requires.relations) c.requires.opens.state in
+    let state : IsState p.relations db.state = subst (λ (x : Standing). IsState p.relations (database_of x).state) (sym is) (subst (λ (rs : List RelDecl). IsState rs (database_of c.args.store).state) (sym c.requires.relations) c.requires.opens.state) in
     let compiles : Compiles p hosts db.state c.args.turns = record { only = means.only p hosts db.state c.args.turns c.requires.sound state; stores = means.stores p hosts db.state c.args.turns c.requires.sound state; prefixes = means.prefixes p hosts db.state c.args.turns c.requires.sound state } in
-    let v = passage g.W.Output g.W.Outside c.args.outside.now c.run_code.new.outside in
-    record {
-      ending = run_stop p hosts db gate c.args.turns compiles c.in-Err.stop v c.in-Err.ensures.faults (run_part p hosts db gate c.args.turns compiles c.in-Ok.code c.deref.result.now _ _ c.in-Ok.ensures.code c.deref.ensures.value c.in-Err.ensures.cut)
-          (λ full. full_run p hosts db gate c.args.turns compiles c.in-Ok.code c.deref.result.now v c.run_code.new.store c.in-Ok.ensures.code c.deref.ensures.value (c.in-Err.ensures.full (ap Err full)) (λ told. c.in-Err.ensures.full_stands told (ap Err full)) (faults_full c.in-Err.stop v full c.in-Err.ensures.faults));
-      moments = λ told. leaves-weaker _ _ (c.run_code.ensures.any_moment told) (λ image cut. cut_of_outcome p hosts db gate c.args.turns compiles c.in-Ok.code c.deref.result.now (g.W.Output.emitted c.args.outside.now) image c.in-Ok.ensures.code c.deref.ensures.value cut);
-    }
+    let v = passage g.W.Output g.W.Outside c.args.outside.now c.run_code-outcome.new.outside in
+    let now = c.run_code-outcome.new.keeper.store in
+    let events = fitting (Some s.end) (run_of p db.state hosts c.args.turns).events in
+    let start = g.W.Output.emitted c.args.outside.now in
+    let moments : g.W.Outside.told → LeavesOnly g.W.Outside.moment g.W.Outside.left_since c.args.outside.now c.run_code-outcome.new.outside (IsCut events db start) = λ told.
+    leaves-weaker _ _ (c.run_code-outcome.ensures.any_moment told) (λ image cut. cut_of_outcome p hosts db s.end c.args.turns compiles c.in-Ok.code c.deref.result.now start image c.in-Ok.ensures.code c.deref.ensures.value cut) in
+    let stands : g.W.Outside.told → StandsFor (g.W.Outside.disk c.args.outside.now) s = λ told. subst (λ (x : Standing). StandsFor (g.W.Outside.disk c.args.outside.now) x) (sym is) (c.requires.opens.stands told) in
+    subst (λ (x : Standing). IsToldBehind (outcome_from (database_of x) x.end (run_of p (database_of x).state hosts c.args.turns)) (number_of_stop c.in-Err.stop) v) is (record {
+      ending = run_stop p hosts db s.end c.args.turns compiles c.in-Err.stop v c.in-Err.ensures.faults (run_part p hosts db s.end c.args.turns compiles c.in-Ok.code c.deref.result.now _ _ c.in-Ok.ensures.code c.deref.ensures.value c.in-Err.ensures.cut)
+          (λ told. read_cut g.W.Output g.W.Outside g.met.W.Outside.as_read g.met.W.Outside.only_now g.met.W.Outside.counts_now c.args.outside.now c.run_code-outcome.new.outside s events told (stands told) (moments told))
+          (λ full. full_run p hosts db s.end c.args.turns compiles c.in-Ok.code c.deref.result.now v now c.in-Ok.ensures.code c.deref.ensures.value (c.in-Err.ensures.full (ap Err full)) (λ told. c.in-Err.ensures.full_stands told (ap Err full)) (faults_full c.in-Err.stop v full c.in-Err.ensures.faults));
+      moments = moments;
+    })
 
 pub returns-clause-fault : goal.returns-clause-fault
-returns-clause-fault g c = stop_is_fault c.in-Err.stop (passage g.W.Output g.W.Outside c.args.outside.now c.run_code.new.outside) c.in-Err.ensures.faults
+returns-clause-fault g c =
+    stop_is_fault c.in-Err.stop (passage g.W.Output g.W.Outside c.args.outside.now c.run_code-outcome.new.outside) c.in-Err.ensures.faults

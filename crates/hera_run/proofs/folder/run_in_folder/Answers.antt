@@ -20,6 +20,7 @@ use Rattle.hera_outcome.specs.declared.refusal.Refusal.TheVariants.{Differing}
 use Rattle.hera_run.specs.Folder.{outcome_from, RunsTo}
 use Rattle.hera_run.specs.Opening.{IsReady, IsUnready}
 use Rattle.hera_run.proofs.Readied.{unready_answered, memory_answered, differs_answered, run_answered}
+use Rattle.hera_run.proofs.Read.{read_once}
 use Rattle.hera_run.proofs.folder.run_in_folder.Goals as goal
 
 pub returns-in-Ok-bind : goal.returns-in-Ok-bind
@@ -31,7 +32,7 @@ returns-in-Ok-bind g c =
     let same : program_of c.in-Ok-bind.program ≡ bound p db.catalogue = c.in-Ok-bind.ensures.bound ∙ ap (λ (rs : List RelDecl). bound p rs) own in
     let has = subst (λ (rs : List RelDecl). AllHas rs p.relations) own c.in-Ok-bind.ensures.has in
     record {
-      answered = run_answered g.W.Output g.W.Outside c.args.hosts.now.names c.args.turns p c.args.outside.now c.open_for.new.outside store (subst (λ (rs : List RelDecl). IsReady rs store (passage g.W.Output g.W.Outside c.args.outside.now c.open_for.new.outside)) c.deref.ensures.value c.in-Ok.ensures.ready) c.run_bound.new.outside c.run_bound.result has c.run_bound.ensures.fault
+      answered = run_answered g.W.Output g.W.Outside (read_once g.W.Output g.W.Outside g.met.W.Outside.as_read g.met.W.Outside.only_now g.met.W.Outside.counts_now) c.args.hosts.now.names c.args.turns p c.args.outside.now c.open_for.new.outside store (subst (λ (rs : List RelDecl). IsReady rs store (passage g.W.Output g.W.Outside c.args.outside.now c.open_for.new.outside)) c.deref.ensures.value c.in-Ok.ensures.ready) c.run_bound.new.outside c.run_bound.result has c.run_bound.ensures.fault
           (subst (λ (x : Program_tree). IsToldBehind (outcome_from db store.end (run_of x db.state (specs_of c.args.hosts.now.names) c.args.turns)) (number_of c.run_bound.result) (passage g.W.Output g.W.Outside c.open_for.new.outside c.run_bound.new.outside)) same c.run_bound.ensures.told);
     }
 
@@ -48,14 +49,14 @@ returns-in-Err-Differs g c =
     let same : moved c.in-Err-Differs.field-0 ≡ name = ap moved c.in-Err-Differs.field-0-is in
     record {
       answered = subst (λ (n : List ℕ). Answered (RunsTo c.args.hosts.now.names c.args.turns p (start g.W.Outside c.args.outside.now)) (Err (Refused (Differing n))) v) (sym same)
-          (differs_answered g.W.Output g.W.Outside c.args.hosts.now.names c.args.turns p c.args.outside.now c.open_for.new.outside store ready name
+          (differs_answered g.W.Output g.W.Outside (read_once g.W.Output g.W.Outside g.met.W.Outside.as_read g.met.W.Outside.only_now g.met.W.Outside.counts_now) c.args.hosts.now.names c.args.turns p c.args.outside.now c.open_for.new.outside store ready name
           (subst (λ (rs : List RelDecl). Differs rs p.relations name) own ((c.bind.ensures.differs name).0 (c.in-Err-Differs.is ∙ ap Err c.in-Err-Differs.field-0-is))));
     }
 
 pub returns-in-Ok : goal.returns-in-Ok
 returns-in-Ok g c =
-    record { answered = memory_answered g.W.Output g.W.Outside c.args.hosts.now.names c.args.turns (program_of c.args.program) c.args.outside.now c.open_for.new.outside c.in-Ok.store (subst (λ (rs : List RelDecl). IsReady rs c.in-Ok.store (passage g.W.Output g.W.Outside c.args.outside.now c.open_for.new.outside)) c.deref.ensures.value c.in-Ok.ensures.ready) }
+    record { answered = memory_answered g.W.Output g.W.Outside (read_once g.W.Output g.W.Outside g.met.W.Outside.as_read g.met.W.Outside.only_now g.met.W.Outside.counts_now) c.args.hosts.now.names c.args.turns (program_of c.args.program) c.args.outside.now c.open_for.new.outside c.in-Ok.store (subst (λ (rs : List RelDecl). IsReady rs c.in-Ok.store (passage g.W.Output g.W.Outside c.args.outside.now c.open_for.new.outside)) c.deref.ensures.value c.in-Ok.ensures.ready) }
 
 pub returns : goal.returns
 returns g c =
-    record { answered = unready_answered g.W.Output g.W.Outside c.args.hosts.now.names c.args.turns (program_of c.args.program) c.args.outside.now c.open_for.new.outside c.in-Err.stop (subst (λ (rs : List RelDecl). IsUnready rs c.in-Err.stop (passage g.W.Output g.W.Outside c.args.outside.now c.open_for.new.outside)) c.deref.ensures.value c.in-Err.ensures.unready) }
+    record { answered = unready_answered g.W.Output g.W.Outside (read_once g.W.Output g.W.Outside g.met.W.Outside.as_read g.met.W.Outside.only_now g.met.W.Outside.counts_now) c.args.hosts.now.names c.args.turns (program_of c.args.program) c.args.outside.now c.open_for.new.outside c.in-Err.stop (subst (λ (rs : List RelDecl). IsUnready rs c.in-Err.stop (passage g.W.Output g.W.Outside c.args.outside.now c.open_for.new.outside)) c.deref.ensures.value c.in-Err.ensures.unready) }

@@ -30,7 +30,7 @@ returns-in-Err-Device g c =
     let short = subst (λ (f : CheckFault). IsCheckRefusal (database_of c.in-Ok.store) half_limit f) c.in-Err-Device.field-0-is c.in-Err-Device.ensures.refusal in
     record {
       answered = stopped_answered g.W.Output g.W.Outside c.args.outside.now c.open_folder.new.outside c.in-Ok.store opened c.checkpoint.new.outside c.checkpoint.ensures.emitted (λ told. c.checkpoint.ensures.any_moment told opened.opens.unclosed)
-          c.checkpoint.ensures.output (record { later = c.checkpoint.ensures.device_later; rose = c.in-Err-Device.ensures.device is }) short;
+          c.checkpoint.ensures.output (record { later = c.checkpoint.ensures.device_later; rose = c.in-Err-Device.ensures.device is }) short (λ told. c.checkpoint.ensures.reads told opened.opens.unclosed);
     }
 
 pub returns-in-Err-Memory : goal.returns-in-Err-Memory
