@@ -1,0 +1,16 @@
+use Rattle.std.proofs.Common.{[]}
+use Rattle.std.proofs.lemmas.Result.{err_from_is_err_and}
+use Rattle.hera_code_file.specs.Reading.{many, word_at}
+use Rattle.hera_code_file.proofs.Loops.{goes_on, stops_at, is_done}
+use Rattle.hera_code_file.proofs.parts.some_places.Goals as goal
+
+pub returns-in_err-place : goal.returns-in_err-place
+returns-in_err-place c =
+    let p = err_from_is_err_and c.from_residual.result c.from_residual.ensures.1 in
+    rw (p.1, p.2) (stops_at c.in_err-place.field-0.0 (λ before. word_at) c.args.count c.loop.counter c.loop.places.items c.loop.rest.now (many (λ before. word_at) c.args.count [] c.args.bytes.now) c.loop-test.true c.in_err-place.ensures c.loop.invariant)
+
+pub loop-preserved : goal.loop-preserved
+loop-preserved c = rw c.in_ok-push.ensures.items (goes_on (λ before. word_at) c.args.count c.loop.counter c.loop.places.items c.loop.rest.now c.in_ok-place.place c.in_ok-place.behind.now (many (λ before. word_at) c.args.count [] c.args.bytes.now) c.loop-test.true c.in_ok-place.ensures c.loop.invariant)
+
+pub returns : goal.returns
+returns c = is_done (λ before. word_at) c.args.count c.loop.counter c.loop.places.items c.loop.rest.now (many (λ before. word_at) c.args.count [] c.args.bytes.now) c.loop-test.false c.loop.invariant

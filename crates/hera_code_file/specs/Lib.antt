@@ -1,0 +1,4 @@
+pub mod Printing
+pub mod Fitting
+pub mod Reading
+pub mod Files
