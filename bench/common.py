@@ -14,7 +14,7 @@ REFUSALS = b"BadUtf8 BadToken TooDeep Syntax Unknown Repeated Mismatch Impure No
 TRAPS = b"DivZero Overflow EmptyMin ApplyFail WhenFail ReadFail Assert".split()
 STATUSES = {
     "check": {0, 3}, "list": {0, 3}, "eval": {0, 1, 3, 4}, "run": {0, 1, 3, 4, 5}, "init": {0, 3, 5},
-    "dump": {0, 5}, "checkpoint": {0, 5}, "drill": {0},
+    "dump": {0, 5}, "checkpoint": {0, 5}, "widen": {0, 3, 5}, "drill": {0},
 }
 
 
@@ -55,7 +55,7 @@ def judge(command, size, text, complaint, status):
     if status == 4 and line != b"turns spent":
         return f"status 4 with the last line {line!r}"
     if status == 5 and not re.fullmatch(
-        rb"no database\n|database exists\n|damaged (select|left|right) at \d+\n|differs [^\n]+\n", text
+        rb"no database\n|database exists\n|damaged (select|left|right) at \d+\n|(differs|narrows) [^\n]+\n", text
     ):
         return f"status 5 with {text[:200]!r}"
     if command == "check" and status == 0 and text != b"accepted\n":

@@ -4,7 +4,7 @@
     bench/faults.py PROGRAM [--processes N] [--seed N] [--only PART] [--chains N]
 
 It stops at the first answer that is not allowed. Its parts:
-  calls    each call of `init`, a run of five commits, `checkpoint` and `dump` failing alone with EIO and with ENOSPC,
+  calls    each call of `init`, a run of five commits, `checkpoint`, `widen` and `dump` failing alone with EIO and with ENOSPC,
            interrupted, short, and as the program's end before and behind it; then losses of power, and what further
            commands find, where all calls go well again
   power    at each call of these commands a loss of power, with `dump` of what may be left
@@ -81,7 +81,9 @@ def wanted(command, state, rows=()):
     if command == "run":
         states = [state.union(*rows[:count]) for count in range(len(rows) + 1)]
         return Answer(b"".join(b"commit %d\n" % (n + 1) for n in range(len(rows))), 0, states)
-    return Answer(b"checkpointed\n" if command == "checkpoint" else dump_text(state), 0, [state])
+    # The script's relations are those of the database.
+    lines = {"checkpoint": b"checkpointed\n", "widen": b"widened\n"}
+    return Answer(lines.get(command) or dump_text(state), 0, [state])
 
 
 class Box(Folder):
@@ -98,7 +100,8 @@ class Box(Folder):
         self.write("script", script_of([]))
 
     def words(self, command, folder):
-        words = {"init": ["init", folder, self.script], "run": ["run", folder, "100000", self.script]}
+        words = {name: [name, folder, self.script] for name in ("init", "widen")}
+        words["run"] = ["run", folder, "100000", self.script]
         return words.get(command, [command, folder])
 
     def fill(self, folder, data):
@@ -223,8 +226,8 @@ def commands(box):
     moved = box.data()
     state = MANY | FIVE[0]
     found += [("init", (), state, moved), ("run", FIVE, frozenset(), empty), ("run", FIVE[1:], state, moved)]
-    found += [(command, (), MANY, wide) for command in ("checkpoint", "dump")]
-    return found + [(command, (), state, moved) for command in ("checkpoint", "dump")]
+    found += [(command, (), MANY, wide) for command in ("checkpoint", "widen", "dump")]
+    return found + [(command, (), state, moved) for command in ("checkpoint", "widen", "dump")]
 
 
 def plans(lines):
@@ -371,7 +374,7 @@ def try_chain(box, draw):
     """Random commands on one folder, with failures and losses of power."""
     session, row = Session(box, draw, [None]), 0
     for _ in range(draw.randint(4, 10)):
-        command = draw.choice(["init", "run", "run", "run", "checkpoint", "dump"])
+        command = draw.choice(["init", "run", "run", "run", "checkpoint", "widen", "dump"])
         rows = []
         for _ in range(draw.randint(0, 4) if command == "run" else 0):
             rows.append(frozenset(range(row, row + draw.choice([1, 1, 2, 30]))))

@@ -11,12 +11,15 @@ BENCH = os.path.dirname(os.path.abspath(__file__))
 EXAMPLES = os.path.join(BENCH, "..", "examples")
 TWO = b"relation R(a int); relation S(a int); "
 COMMITS = TWO + b"main { apply {+R(1)}; commit; apply {+R(2)}; commit; }"
+WIDE = b"relation R(a int, b text); relation S(a int); relation T(k int);"
 NONE = b"no database\n"
 # What `dump` prints after so many of the commits.
 ROWS = [
     b"relation R(a int);\nrows %d\n%srelation S(a int);\nrows 0\n" % (count, rows)
     for count, rows in enumerate([b"", b"[1]\n", b"[1]\n[2]\n"])
 ]
+# What it prints when that is widened.
+WIDENED = b'relation R(a int, b text);\nrows 2\n[1, ""]\n[2, ""]\nrelation S(a int);\nrows 0\nrelation T(k int);\nrows 0\n'
 
 
 class Refuser:
@@ -43,6 +46,8 @@ def may_be_left(name, printed):
         return [NONE, ROWS[0]]
     if name == "run":
         return ROWS[printed.count(b"\n") :][:2]
+    if name == "widen":
+        return [WIDENED] if printed else [ROWS[2], WIDENED]
     return [ROWS[2]]
 
 
@@ -74,7 +79,7 @@ def refuse_each(refuser, program, folder, name, words, whole):
 
 
 def try_program(program):
-    """Each allocation of `eval` of an example, and of init, run, dump and checkpoint of a folder."""
+    """Each allocation of `eval` of an example, and of init, run, dump, checkpoint and widen of a folder."""
     with Folder() as folder:
         refuser = Refuser(folder)
         shutil.copy(os.path.join(EXAMPLES, "supplier.hera"), folder.script)
@@ -82,11 +87,14 @@ def try_program(program):
         words = ["eval", "1000", folder.script]
         refuse_each(refuser, program, folder, "eval", words, call(program, words)[0])
         folder.write("script", COMMITS)
+        folder.write("wide", WIDE)
+        wide = os.path.join(folder.path, "wide")
         for name, words, whole in (
             ("init", ["init", folder.database, folder.script], b"created\n"),
             ("run", ["run", folder.database, "100", folder.script], b"commit 1\ncommit 2\n"),
             ("dump", ["dump", folder.database], ROWS[2]),
             ("checkpoint", ["checkpoint", folder.database], b"checkpointed\n"),
+            ("widen", ["widen", folder.database, wide], b"widened\n"),
         ):
             refuse_each(refuser, program, folder, name, words, whole)
 
@@ -102,6 +110,7 @@ SCENARIOS = [
     ("run", INIT, b"run d 100 -", COMMITS),
     ("dump", INIT + RUN, b"dump d", b""),
     ("checkpoint", INIT + RUN, b"checkpoint d", b""),
+    ("widen", INIT + RUN, b"widen d -", WIDE),
 ]
 
 

@@ -20,7 +20,7 @@ FAULT = re.compile(rb"(?:.*\n)?(?:refused|trap) (\w+) at (\d+)\n", re.DOTALL)
 TAIL = 64
 
 # How many words come before FILE in each form that ends with one.
-SCRIPT_AT = {"check": 1, "list": 1, "eval": 2, "init": 2, "run": 3}
+SCRIPT_AT = {"check": 1, "list": 1, "eval": 2, "init": 2, "widen": 2, "run": 3}
 
 MEANINGS = {
     "TooLong": "A script has at most 1,048,576 bytes.",
