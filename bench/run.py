@@ -5,11 +5,14 @@
 
 A time is the processor time (user and system) of a whole process in seconds, the best of five. From a loop's time the
 time of an empty script is taken, and from that of a walk over rows the time of the script that only makes the rows, for
-CPython as for hera. `x` is the time over CPython's. `--stored` also makes a folder of 1,000,000 rows, and asks over it.
+CPython as for hera. `x` is the time over CPython's. `--stored` also makes a folder of 1,000,000 rows, asks
+over it, writes it anew and widens it; and one of 20,000 rows with text keys, in which it seeks.
 """
 
 import argparse
 import os
+import random
+import shutil
 import subprocess
 import sys
 import tempfile
@@ -89,11 +92,27 @@ class Table:
         """The time and the peak memory of a run of each program."""
         if not self.wanted(title):
             return
+        runs = [best(words_of(program), times or self.times, statuses) for program in self.programs]
+        self.row(title, [""] + [seconds_and_peak(run) for run in runs])
+
+    def changing(self, title, folders, words):
+        """The same of a command that changes its folder: each time over a copy."""
+        if not self.wanted(title):
+            return
         figures = [""]
         for program in self.programs:
-            run = best(words_of(program), times or self.times, statuses)
-            figures.append("-" if run is None else f"{run[0]:.3f}, {run[1]:.0f} MB")
+            runs = []
+            for _ in range(self.times):
+                copy = folders[program] + "_copy"
+                shutil.rmtree(copy, ignore_errors=True)
+                shutil.copytree(folders[program], copy)
+                runs.append(best([program, words[0], copy, *words[1:]], 1))
+            figures.append(seconds_and_peak(None if None in runs else min(runs)))
         self.row(title, figures)
+
+
+def seconds_and_peak(run):
+    return "-" if run is None else f"{run[0]:.3f}, {run[1]:.0f} MB"
 
 
 def drill(table, folder, n):
@@ -121,6 +140,45 @@ def stored(table, folder):
         ("`foreach` over 1,000,000 stored rows under a delta", "stored_walk.hera"),
     ]:
         table.alone(title, lambda program: [program, "run", folders[program], TURNS, script(name)])
+    table.changing("`checkpoint` of 1,000,000 rows", folders, ["checkpoint"])
+    table.changing("`widen` of them by an int and a text", folders, ["widen", script("stored_wide.hera")])
+
+
+# A relation with a text key, and another with its keys in another order.
+TEXTS = "relation T(k text, n int);\nrelation P(i int, k text, n int);\n"
+
+
+def texts(table, folder):
+    """Seeks by a text key: 40,000 in 20,000 stored rows, and the walks alone."""
+    keys = list(range(20000))
+    other = random.Random(1).sample(keys, len(keys))
+    atoms = [f'+T("item-{key:05d}", {key})' for key in keys]
+    atoms += [f'+P({i}, "item-{key:05d}", {key})' for i, key in enumerate(other)]
+    applies = "\n".join("apply {" + ", ".join(atoms[i : i + 200]) + "};" for i in range(0, len(atoms), 200))
+    half = len(applies) // 2 + applies[len(applies) // 2 :].index("\n")
+    walk = "foreach (p in P) { if (%s) { c = c + 1; } } "
+    works = {
+        "texts_0": applies[:half] + " commit;",
+        "texts_1": applies[half:] + " commit;",
+        "texts_walk": "int c = 0; " + walk % "p.n == p.n" * 2 + "print c;",
+        "texts_seek": "int c = 0; " + walk % "[k = p.k, n = p.n] in T" * 2 + "print c;",
+    }
+    paths = {name: os.path.join(folder, name + ".hera") for name in works}
+    for name, text in works.items():
+        with open(paths[name], "w") as target:
+            target.write(TEXTS + "main {\n" + text + "\n}\n")
+    folders = {}
+    for number, program in enumerate(table.programs):
+        folders[program] = os.path.join(folder, f"texts_{number}")
+        once([program, "init", folders[program], paths["texts_0"]])
+        for name in ("texts_0", "texts_1"):
+            once([program, "run", folders[program], TURNS, paths[name]])
+        once([program, "checkpoint", folders[program]])
+    for title, name in [
+        ("two walks over 20,000 stored rows", "texts_walk"),
+        ("the same with a seek by a text key for each row", "texts_seek"),
+    ]:
+        table.alone(title, lambda program: [program, "run", folders[program], TURNS, paths[name]])
 
 
 def main():
@@ -147,6 +205,7 @@ def main():
             drill(table, folder, n)
         if options.stored:
             stored(table, folder)
+            texts(table, folder)
 
 
 if __name__ == "__main__":
