@@ -13,6 +13,3 @@ pub use prepared::{PrepareFault, Prepared};
 pub use preparing::prepare;
 pub use scanning::{Journal, ScanFault, scan};
 pub use sealing::seal;
-
-#[cfg(test)]
-mod tests;

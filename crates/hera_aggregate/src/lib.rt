@@ -14,6 +14,3 @@ pub use ends::AggEnd;
 pub use extremes::{greatest, least};
 pub use groups::group;
 pub use sums::sum;
-
-#[cfg(test)]
-mod tests;

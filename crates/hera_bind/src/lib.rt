@@ -13,6 +13,3 @@ mod numbers;
 mod statements;
 
 pub use binding::{BindFault, bind, first_missing};
-
-#[cfg(test)]
-mod tests;

@@ -5,8 +5,6 @@ mod fields;
 mod laws;
 mod reading;
 mod row_list;
-#[cfg(test)]
-mod tests;
 mod writing;
 
 pub use laws::what_is_written_is_read_back;

@@ -5,8 +5,6 @@
 mod lines;
 mod naming;
 mod reader;
-#[cfg(test)]
-mod tests;
 
 pub use lines::{GuardLine, GuardLines, LineFault, Mention, read_lines};
 pub use naming::{NameFault, guards_of};

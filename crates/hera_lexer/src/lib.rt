@@ -7,6 +7,3 @@ mod scan;
 mod script;
 
 pub use script::{LexFault, lex, one_answer};
-
-#[cfg(test)]
-mod tests;

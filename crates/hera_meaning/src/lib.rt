@@ -24,6 +24,3 @@ pub use schemas::{
 };
 pub use shapes::BodyShapes;
 pub use trees::{Arm, Body, Const, Core, Hypo, Link, Op, Program, Shape, Stmt, TrapName};
-
-#[cfg(test)]
-mod tests;

@@ -10,8 +10,6 @@ mod opening;
 mod printing;
 mod store;
 mod switching;
-#[cfg(test)]
-mod tests;
 mod widening;
 
 pub use faults::{CheckFault, CommitFault, InitFault, OpenFault, WidenFault};

@@ -3,8 +3,6 @@
 
 mod answers;
 mod table;
-#[cfg(test)]
-mod tests;
 
 pub use answers::{band, bucket, clamp, is_sku};
 pub use table::program_hosts;

@@ -175,29 +175,3 @@ fn clashes(clash_fails: bool, first: Sign, second: Sign) -> bool
         _ => clash_fails,
     }
 }
-
-#[cfg(test)]
-mod tests {
-    use super::*;
-    use hera_meaning::RelId;
-    use std::test::Fail;
-
-    #[test]
-    fn the_second_delta_wins_in_place(rt: HostRuntime) -> Result<(), Fail> {
-        let alloc = rt.alloc();
-        let plus = Delta::atom(alloc, Sign::Plus, RelId(0), b"a")?;
-        let minus = Delta::atom(alloc, Sign::Minus, RelId(0), b"a")?;
-        let mut place = plus.copy()?;
-        smash_into(&mut place, &minus)?;
-        assert!(rt; place.equal(&minus) && smash(alloc, &plus, &minus)?.equal(&minus));
-        assert!(rt; merge(alloc, &plus, &minus)?.is_fail());
-        smash_under(&mut place, &plus)?;
-        assert!(rt; place.equal(&minus));
-        let other = Delta::atom(alloc, Sign::Minus, RelId(1), b"a")?;
-        merge_into(&mut place, &other)?;
-        assert!(rt; place.equal(&merge(alloc, &other, &minus)?) && place.count() == 2);
-        merge_into(&mut place, &plus)?;
-        assert!(rt; place.is_fail());
-        Ok(())
-    }
-}

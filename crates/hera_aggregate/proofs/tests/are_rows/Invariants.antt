@@ -1,6 +1,0 @@
-use Rattle.std.proofs.Common.{All, take}
-use Rattle.hera_meaning.specs.Rows.{IsRow}
-use Rattle.hera_aggregate.proofs.tests.are_rows.Given as goal
-
-abbrev pub invariant-loop-i : goal.invariant-loop-i
-invariant-loop-i l = All (IsRow l.schema) (take l.i l.set)
