@@ -15,7 +15,7 @@ use Rattle.commit_journal.specs.Places.{Stops}
 use Rattle.commit_journal.specs.Halves.{IsDamageOfHalf}
 use Rattle.commit_journal.proofs.Wholes.{pages_damaged, journal_damaged}
 use Rattle.half_laws.specs.Behind.{StopsBehindHeader}
-use Rattle.half_laws.proofs.Headers.{header_read}
+use Rattle.rel_format.proofs.Headers.{header_read}
 use Rattle.half_laws.proofs.Pages.{pages_walked}
 use Rattle.half_laws.proofs.Halves.{is_format, damaged_is_none_of}
 

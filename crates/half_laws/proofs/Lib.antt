@@ -1,5 +1,3 @@
-pub mod Printing
-pub mod Headers
 pub mod Pagings
 pub mod Pages
 pub mod Ends

@@ -25,8 +25,8 @@ use Rattle.rel_pages.proofs.Prints.{all_front, all_back}
 use Rattle.rel_pages.proofs.PageSteps.{to_row_count, to_rows}
 use Rattle.half_writer.proofs.RowSizes.{FitsPage, fits_page}
 use Rattle.half_laws.specs.Formats.{IsFormat}
-use Rattle.half_laws.proofs.Printing.{behind, number32_printed, rel_printed, row_count_printed, row_printed, fill_printed}
-use Rattle.half_laws.proofs.Headers.{header_read}
+use Rattle.rel_format.proofs.Printing.{behind, number32_printed, rel_printed, row_count_printed, row_printed, fill_printed}
+use Rattle.rel_format.proofs.Headers.{header_read}
 use Rattle.half_laws.proofs.Pagings.{paged_rows, paged_pages, joined_long, counted_long, used_more}
 
 -- ---- ascending rows

@@ -23,7 +23,8 @@ use Rattle.hera_typed.specs.Typed.{Points}
 use Rattle.hera_typed.proofs.Asking.{some_is, none_is}
 use Rattle.hera_noted.proofs.Seen_ops.{Below, below_agrees}
 use Rattle.hera_noted.proofs.Expr_points.{kinds_in, push, pushed, walking, if_so, expr_seen, exprs_seen, after, expr_points, exprs_points, expr_many, exprs_many, Begins, begins_more, expr_begins, exprs_begin, Laid, laid_front, laid_behind, laid_first}
-use Rattle.hera_noted.proofs.Expr_flows.{IsWalkNote, Noted, NotedAll, Fits, Covered, IsFine, Flows, Comes, Followed, AllGo, flows_more, fine, plain, seen_below, seen_all, expr_flows, exprs_flows, call_fine, unless_fine, unless_comes, jump_comes, walk_fine, next_fine, back_fine, drop_fine, covered, narrow, expr_up, exprs_up}
+use Rattle.hera_noted.proofs.Expr_ends.{expr_up, exprs_up}
+use Rattle.hera_noted.proofs.Expr_flows.{IsWalkNote, Noted, NotedAll, Fits, Covered, IsFine, Flows, Comes, Followed, AllGo, flows_more, fine, plain, seen_below, seen_all, expr_flows, exprs_flows, call_fine, unless_fine, unless_comes, jump_comes, walk_fine, next_fine, back_fine, drop_fine, covered, narrow}
 
 -- ---- what goes on behind itself
 

@@ -1,5 +1,6 @@
 pub mod Seen_ops
 pub mod Expr_points
+pub mod Expr_ends
 pub mod Expr_flows
 pub mod Block_flows
 pub mod Ranges

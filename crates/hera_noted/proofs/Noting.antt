@@ -21,7 +21,8 @@ use Rattle.hera_typed.proofs.Asking.{some_is}
 use Rattle.hera_noted.specs.Spans.{target_of, is_writer, IsClosed, IsUnwritten, IsFirstWrite, IsFarthest, IsRange}
 use Rattle.hera_noted.proofs.Seen_ops.{Below, is_known}
 use Rattle.hera_noted.proofs.Expr_points.{expr_seen}
-use Rattle.hera_noted.proofs.Expr_flows.{IsWalkNote, Noted, NotedAll, NotedEvery, NotedSome, NotedLinks, NotedHypos, Fits, seen_below, expr_up, exprs_up}
+use Rattle.hera_noted.proofs.Expr_ends.{expr_up, exprs_up}
+use Rattle.hera_noted.proofs.Expr_flows.{IsWalkNote, Noted, NotedAll, NotedEvery, NotedSome, NotedLinks, NotedHypos, Fits, seen_below}
 use Rattle.hera_noted.proofs.Block_flows.{IsSetFrom, SetNoted, NotedCommand, NotedBlock, NotedArms}
 use Rattle.hera_noted.proofs.Ranges.{Mark, mark, AllMarks, SafeAt, expr_marks, exprs_marks, every_marks, some_marks, links_marks, hypos_marks}
 use Rattle.hera_noted.proofs.Block_ranges.{set_mark, command_marks, block_marks, arms_marks}

@@ -16,7 +16,8 @@ use Rattle.hera_typed.specs.Effects.{Slot_note, Body_note, slot, result, gathere
 use Rattle.hera_typed.specs.Typed.{Points}
 use Rattle.hera_typed.proofs.Asking.{some_is}
 use Rattle.hera_noted.proofs.Expr_points.{after, expr_points, expr_many, Laid, laid_front, laid_behind}
-use Rattle.hera_noted.proofs.Expr_flows.{IsWalkNote, Noted, NotedAll, Fits, Covered, Followed, Flows, seen_below, expr_flows, covered, expr_up, exprs_up}
+use Rattle.hera_noted.proofs.Expr_ends.{expr_up, exprs_up}
+use Rattle.hera_noted.proofs.Expr_flows.{IsWalkNote, Noted, NotedAll, Fits, Covered, Followed, Flows, seen_below, expr_flows, covered}
 use Rattle.hera_noted.proofs.Block_flows.{RoleFits, SetNoted, NotedCommand, NotedBlock, NotedArms, cover_after}
 
 -- ---- points laid out, and none elsewhere

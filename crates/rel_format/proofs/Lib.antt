@@ -8,3 +8,5 @@ pub mod Good
 pub mod Printed
 pub mod Fronts
 pub mod Lengths
+pub mod Printing
+pub mod Headers

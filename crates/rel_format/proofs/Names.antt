@@ -37,10 +37,10 @@ pub any_named : (attrs : List Attr) (name : Row) → list_any (λ (a : Attr). is
 any_named [] name = refl
 any_named (a ∷ attrs) name = ap (λ b. is_same name a.name || b) (any_named attrs name)
 
-or_false : (a b : Bool) → a ≡ false → b ≡ false → (a || b) ≡ false
+pub or_false : (a b : Bool) → a ≡ false → b ≡ false → (a || b) ≡ false
 or_false a b h g = rw (h, g) refl
 
-or_parts_false : (a b : Bool) → (a || b) ≡ false → (a ≡ false) × (b ≡ false)
+pub or_parts_false : (a b : Bool) → (a || b) ≡ false → (a ≡ false) × (b ≡ false)
 or_parts_false true b h = absurd cc
 or_parts_false false b h = (refl, h)
 

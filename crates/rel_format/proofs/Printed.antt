@@ -53,11 +53,11 @@ kept_is rule (Some y) x e =
     let both = cond_some (rule y) y x e in
     (ap (λ z. Some z) both.1, ap rule (sym both.1) ∙ both.0)
 
-byte_is : (rest : List ℕ) (b : ℕ) → first_byte rest ≡ Some b → take 1 rest ≡ b ∷ []
+pub byte_is : (rest : List ℕ) (b : ℕ) → first_byte rest ≡ Some b → take 1 rest ≡ b ∷ []
 byte_is [] b e = absurd (none-some b e)
 byte_is (c ∷ rest) b e = ap (λ x. x ∷ []) (same_Some c b e)
 
-piece_is : (n : ℕ) (rest name : List ℕ) → piece n rest ≡ Some name → (take n rest ≡ name) × (n ≡ length name)
+pub piece_is : (n : ℕ) (rest name : List ℕ) → piece n rest ≡ Some name → (take n rest ≡ name) × (n ≡ length name)
 piece_is n rest name e =
     let both = cond_some (nat_le n (length rest)) (take n rest) name e in
     let len = ap (λ (x : List ℕ). length x) both.1 in
@@ -91,7 +91,7 @@ kind_back n kind e =
       ]
     ]
 
-kind_is : (rest : List ℕ) (kind : Kind) → kind_field rest ≡ Some kind → take 1 rest ≡ kind_byte kind ∷ []
+pub kind_is : (rest : List ℕ) (kind : Kind) → kind_field rest ≡ Some kind → take 1 rest ≡ kind_byte kind ∷ []
 kind_is [] kind e = absurd (none-some kind e)
 kind_is (b ∷ rest) kind e = ap (λ x. x ∷ []) (kind_back b kind e)
 

@@ -1,6 +1,6 @@
 -- A header that is printed is walked to its end.
-use Rattle.std.proofs.Common.{◌≡◌, ℕ, suc, ◌+◌, Bool, true, false, List, [], ◌∷◌, ◌++◌, length, drop, map, refl, sym, ap, subst, ◌∙◌, append_assoc, arith}
-use Rattle.std.specs.Prelude.{◌||◌, All}
+use Rattle.std.proofs.Common.{◌≡◌, ℕ, suc, ◌+◌, false, List, [], ◌∷◌, ◌++◌, length, drop, map, refl, sym, ap, subst, ◌∙◌, append_assoc, arith}
+use Rattle.std.specs.Prelude.{All}
 use Rattle.std.specs.List.{flat_map}
 use Rattle.std.specs.Int.{w16, to_be_bytes}
 use Rattle.std.proofs.lemmas.List.{length-append, append-nil, drop_at, map-append}
@@ -17,20 +17,14 @@ use Rattle.rel_format.specs.Pages.{Format, kind_byte, attr_bytes, decl_bytes, he
 use Rattle.rel_format.specs.Fields.{length_field, width_field, kind_field, count_field, magic_field, new_name}
 use Rattle.rel_format.specs.Table.{RelationSoFar, at_attr, at_rels, behind_attr, with_attr, with_attrs}
 use Rattle.rel_format.specs.Places.{Reaches}
+use Rattle.rel_format.proofs.Names.{or_false, or_parts_false}
 use Rattle.rel_format.proofs.Steps.{to_attr_name, to_kind, behind_kind, to_name, to_width, to_attrs, opened, to_count, to_rels}
-use Rattle.half_laws.proofs.Printing.{behind, magic_printed, count_printed, length_printed, width_printed, name_printed, kind_printed, name_some}
+use Rattle.rel_format.proofs.Printing.{behind, magic_printed, count_printed, length_printed, width_printed, name_printed, kind_printed, name_some}
 
 -- ---- distinct names
 
-or_false : (a b : Bool) → a ≡ false → b ≡ false → (a || b) ≡ false
-or_false a b h g = rw (h, g) refl
-
-or_parts_false : (a b : Bool) → (a || b) ≡ false → (a ≡ false) × (b ≡ false)
-or_parts_false true b h = absurd cc
-or_parts_false false b h = (refl, h)
-
 -- a name is none of those before it
-apart : (xs : List Row) (y : Row) (ys : List Row) → AreDistinct (xs ++ y ∷ ys) → holds xs y ≡ false
+pub apart : (xs : List Row) (y : Row) (ys : List Row) → AreDistinct (xs ++ y ∷ ys) → holds xs y ≡ false
 apart [] y ys h = refl
 apart (x ∷ xs) y ys h =
     let both = or_parts_false (holds xs x) (holds (y ∷ ys) x) (sym (holds-append xs (y ∷ ys) x) ∙ h.0) in
