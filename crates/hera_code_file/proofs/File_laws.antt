@@ -17,7 +17,9 @@ use Rattle.hera_code_file.specs.Printing.{word, flag, list_bytes, option_bytes, 
 use Rattle.hera_code_file.specs.Fitting.{IsWord, Each, IsNamed, ShapeFits, InstrFits, SlotFits, BodyFits, FileFits}
 use Rattle.hera_code_file.specs.Reading.{◌>>=◌, Reader, field, word_at, flag_at, option_at, list_at, schema_at, shape_at, relations_at, instrs_at, slot_at, slots_at, body_at, bodies_at, magic_at, parts_at, ends, file_at}
 use Rattle.hera_code_file.proofs.Laws.{bind_ok, ok_is, Taken, then, Law, field_ok, word_law, list_law}
-use Rattle.hera_code_file.proofs.Schema_law.{field_taken, field_again, piece_is, kept_pass, piece_printed, schema_law, relations_law}
+use Rattle.rel_format.proofs.Printed.{piece_is}
+use Rattle.rel_format.proofs.Printing.{kept_pass, piece_printed}
+use Rattle.hera_code_file.proofs.Schema_law.{field_taken, field_again, schema_law, relations_law}
 use Rattle.hera_code_file.proofs.Part_laws.{flag_law, option_law, shape_law}
 use Rattle.hera_code_file.proofs.Instr_laws.{instrs_law}
 

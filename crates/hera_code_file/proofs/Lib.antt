@@ -6,4 +6,3 @@ pub mod Part_laws
 pub mod Instr_laws
 pub mod File_laws
 pub mod Noted
-pub mod Stands

@@ -26,7 +26,9 @@ use Rattle.hera_code_file.specs.Printing.{word, flag, list_bytes, option_bytes, 
 use Rattle.hera_code_file.specs.Fitting.{IsWord, IsRelation, Each, IsNamed, ShapeFits, ConstFits, AggFits}
 use Rattle.hera_code_file.specs.Reading.{◌>>=◌, Reader, field, bare, one, at_place, small, numbered, number_at, word_at, list_at, flag_at, option_at, schema_at, shape_readers, shape_at, text_len_at, text_piece, text_at, int_const, bool_const, text_const, const_readers, const_at, sign_of, sign_at, relation_id, relation_id_at, agg_readers, agg_at, places_at, aggs_at}
 use Rattle.hera_code_file.proofs.Laws.{bind_ok, ok_is, Taken, then, Law, field_ok, small_takes, half_law, word_law, double_law, Entry, Entries, entry_bare, entry_one, numbered_takes, numbered_again, one_again, list_law}
-use Rattle.hera_code_file.proofs.Schema_law.{field_taken, field_again, byte_is, piece_is, kept_pass, piece_printed, schema_law}
+use Rattle.rel_format.proofs.Printed.{byte_is, piece_is}
+use Rattle.rel_format.proofs.Printing.{kept_pass, piece_printed}
+use Rattle.hera_code_file.proofs.Schema_law.{field_taken, field_again, schema_law}
 
 -- ---- bytes
 

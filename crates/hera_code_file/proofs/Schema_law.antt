@@ -1,34 +1,30 @@
 -- Schemas and relations that are read are those that are written.
-use Rattle.std.proofs.Common.{◌≡◌, ◌≤◌, ◌<◌, ℕ, zero, suc, ◌+◌, Bool, true, false, cond, not, List, [], ◌∷◌, ◌++◌, length, map, take, drop, Option, Some, None, Result, Ok, Err, refl, sym, ap, subst, ◌∙◌, append_assoc, arith, inl, inr, ◌⊎◌, All}
-use Rattle.std.specs.Prelude.{◌==◌, ◌&&◌, ◌||◌, nat_le, nat_lt}
-use Rattle.std.specs.Option.{option_and_then}
+use Rattle.std.proofs.Common.{◌≡◌, ◌≤◌, ◌<◌, ℕ, ◌+◌, Bool, true, false, not, List, [], ◌∷◌, ◌++◌, length, map, take, drop, Option, Some, Result, Ok, refl, sym, ap, subst, ◌∙◌, append_assoc, arith, All}
+use Rattle.std.specs.Prelude.{◌&&◌, nat_le, nat_lt}
 use Rattle.std.specs.List.{flat_map}
-use Rattle.std.specs.Int.{w16, to_be_bytes, from_be_bytes}
-use Rattle.std.proofs.lemmas.Bool.{leb-true, ltb-true, le-leb, lt-ltb, eqb-true, and_parts, and_from, false≢true}
-use Rattle.std.proofs.lemmas.Option.{none-some, same_Some, cond_some}
-use Rattle.std.proofs.lemmas.List.{length-append, length-take, take-append-drop, take_at, drop_at, append-nil, map-append}
+use Rattle.std.specs.Int.{w16, to_be_bytes}
+use Rattle.std.proofs.lemmas.Bool.{leb-true, ltb-true, le-leb, lt-ltb, and_parts, and_from}
+use Rattle.std.proofs.lemmas.List.{take-append-drop, drop_at, append-nil, map-append}
 use Rattle.std.proofs.lemmas.List.Elements.{All-head, All-tail, All-cons, All-nil}
-use Rattle.std.proofs.lemmas.Nat.{be_bytes_2, from_be_bytes-to_be_bytes_2}
-use Rattle.std.proofs.lemmas.Str.{length-le-encodes}
-use Rattle.hera_sets.specs.Rows.{Row, is_same, holds}
-use Rattle.hera_sets.proofs.Members.{holds-append}
+use Rattle.hera_sets.specs.Rows.{holds}
 use Rattle.hera_meaning.specs.declared.scalars.Kind.{Kind}
-use Rattle.hera_meaning.specs.declared.scalars.Kind.TheVariants.{Int as int_kind, Bool as bool_kind, Text as text_kind}
 use Rattle.hera_meaning.specs.declared.schemas.Attr.{Attr}
 use Rattle.hera_meaning.specs.declared.schemas.RelDecl.{RelDecl}
-use Rattle.hera_meaning.specs.Identifiers.{IsIdentifier, is_word}
-use Rattle.hera_meaning.specs.Schemas.{AreDistinct, IsSchema, names_of, attr_name}
+use Rattle.hera_meaning.specs.Identifiers.{IsIdentifier}
+use Rattle.hera_meaning.specs.Schemas.{AreDistinct, names_of, attr_name}
 use Rattle.hera_meaning.specs.Catalogues.{decl_name, IsDecl, IsCatalogue}
-use Rattle.hera_meaning.proofs.Names.{same_swap, distinct_push}
-use Rattle.hera_row.proofs.FieldLemmas.{AreBytes, AreBytes-take, AreBytes-drop}
-use Rattle.rel_format.specs.Pages.{name_bytes, kind_byte, attr_bytes, decl_bytes}
-use Rattle.rel_format.specs.Fields.{kept, piece, number, first_byte, kind_of, is_identifier, name_field, new_name, length_field, width_field, count_field, kind_field}
+use Rattle.hera_meaning.proofs.Names.{distinct_push}
+use Rattle.hera_row.proofs.FieldLemmas.{AreBytes, AreBytes-drop}
+use Rattle.rel_format.specs.Pages.{kind_byte, attr_bytes, decl_bytes}
+use Rattle.rel_format.specs.Fields.{kept, piece, number, first_byte, is_identifier, name_field, new_name, length_field, width_field, count_field, kind_field}
 use Rattle.rel_format.proofs.Names.{identifier_true, identifier_passes}
-use Rattle.rel_format.proofs.Printed.{kept_is}
+use Rattle.rel_format.proofs.Headers.{apart}
+use Rattle.rel_format.proofs.Printed.{kept_is, byte_is, piece_is, kind_is}
+use Rattle.rel_format.proofs.Printing.{kind_printed, kept_pass, piece_printed, name_some}
 use Rattle.hera_code_file.specs.Printing.{schema_bytes, relations_bytes}
 use Rattle.hera_code_file.specs.Fitting.{IsNamed}
-use Rattle.hera_code_file.specs.Reading.{◌>>=◌, Reader, field, many, attr_at, schema_at, relation_at, relations_at}
-use Rattle.hera_code_file.proofs.Laws.{bind_ok, ok_is, Taken, then, Law, Step, AllBehind, Many, many_takes, many_again, field_ok, half_law}
+use Rattle.hera_code_file.specs.Reading.{◌>>=◌, field, many, attr_at, schema_at, relation_at, relations_at}
+use Rattle.hera_code_file.proofs.Laws.{bind_ok, ok_is, Taken, then, Law, Step, AllBehind, many_takes, many_again, field_ok, half_law}
 
 -- ---- single fields
 
@@ -42,63 +38,7 @@ field_taken n o bytes x rest text are e same =
 pub field_again : {A : Type 0} (n : ℕ) (o : Option A) (x : A) (text rest : List ℕ) → o ≡ Some x → length text ≡ n → field n o (text ++ rest) ≡ Ok (x, rest)
 field_again {A} n o x text rest h size = ap (λ (v : Option A). field n v (text ++ rest)) h ∙ ap (λ (t : List ℕ). Ok (x, t)) (drop_at text rest n size)
 
-pub byte_is : (bytes : List ℕ) (b : ℕ) → first_byte bytes ≡ Some b → take 1 bytes ≡ b ∷ []
-byte_is [] b e = absurd (none-some b e)
-byte_is (c ∷ bytes) b e = ap (λ (x : ℕ). x ∷ []) (same_Some c b e)
-
-pub piece_is : (n : ℕ) (bytes name : List ℕ) → piece n bytes ≡ Some name → (take n bytes ≡ name) × (n ≡ length name)
-piece_is n bytes name e =
-    let both = cond_some (nat_le n (length bytes)) (take n bytes) name e in
-    let len = ap (λ (x : List ℕ). length x) both.1 in
-    let within = leb-true n (length bytes) both.0 in
-    (both.1, omega (arith, len, length-take n bytes, within))
-
-chosen : {A : Type 0} (b : Bool) (x y z : A) → cond b x y ≡ z → ((b ≡ true) × (x ≡ z)) ⊎ ((b ≡ false) × (y ≡ z))
-chosen true x y z e = inl (refl, e)
-chosen false x y z e = inr (refl, e)
-
-kind_back : (n : ℕ) (kind : Kind) → kind_of n ≡ Some kind → n ≡ kind_byte kind
-kind_back n kind e =
-    elim (chosen (n == 1) (Some int_kind) (cond (n == 2) (Some bool_kind) (cond (n == 3) (Some text_kind) None)) (Some kind) e) [
-      | inl h ↦ eqb-true n 1 h.0 ∙ ap kind_byte (same_Some int_kind kind h.1)
-      | inr h ↦ elim (chosen (n == 2) (Some bool_kind) (cond (n == 3) (Some text_kind) None) (Some kind) h.1) [
-        | inl g ↦ eqb-true n 2 g.0 ∙ ap kind_byte (same_Some bool_kind kind g.1)
-        | inr g ↦ elim (chosen (n == 3) (Some text_kind) None (Some kind) g.1) [
-          | inl k ↦ eqb-true n 3 k.0 ∙ ap kind_byte (same_Some text_kind kind k.1)
-          | inr k ↦ absurd (none-some kind k.1)
-        ]
-      ]
-    ]
-
-kind_is : (bytes : List ℕ) (kind : Kind) → kind_field bytes ≡ Some kind → take 1 bytes ≡ kind_byte kind ∷ []
-kind_is [] kind e = absurd (none-some kind e)
-kind_is (b ∷ bytes) kind e = ap (λ (x : ℕ). x ∷ []) (kind_back b kind e)
-
-kind_printed : (kind : Kind) (tail : List ℕ) → kind_field (kind_byte kind ∷ tail) ≡ Some kind
-kind_printed int_kind tail = refl
-kind_printed bool_kind tail = refl
-kind_printed text_kind tail = refl
-
-pub kept_pass : {A : Type 0} (rule : A → Bool) (x : A) → rule x ≡ true → kept rule (Some x) ≡ Some x
-kept_pass {A} rule x h = ap (λ (v : Bool). cond v (Some x) None) h
-
-pub piece_printed : (xs tail : List ℕ) (n : ℕ) → length xs ≡ n → piece n (xs ++ tail) ≡ Some xs
-piece_printed xs tail n size =
-    let fits : n ≤ length (xs ++ tail) = omega (arith, size, length-append xs tail) in
-    ap (λ (v : Bool). cond v (Some (take n (xs ++ tail))) None) (le-leb n (length (xs ++ tail)) fits) ∙ ap (λ (l : List ℕ). Some l) (take_at xs tail n size)
-
 -- ---- names
-
-chars_some : (chars : List ℕ) → is_word chars ≡ true → 1 ≤ length chars
-chars_some [] h = absurd (false≢true h)
-chars_some (c ∷ cs) h = omega arith
-
-name_some : (name : List ℕ) → IsIdentifier name → 1 ≤ length name
-name_some name word =
-    let size = ap (λ (l : List ℕ). length l) word.spelled in
-    let some = chars_some word.chars word.word in
-    let long = length-le-encodes word.chars in
-    omega (arith, size, some, long)
 
 record NameTaken (names : List (List ℕ)) (n : ℕ) (bytes name rest : List ℕ) : Type 0 where
   pub taken : Taken bytes name rest
@@ -169,21 +109,6 @@ attr_step : Step Attr attr_at attr_bytes AttrFits
 attr_step = record { takes = attr_takes; again = attr_again }
 
 -- ---- distinct names
-
-or_false : (a b : Bool) → a ≡ false → b ≡ false → (a || b) ≡ false
-or_false a b h g = rw (h, g) refl
-
-or_parts_false : (a b : Bool) → (a || b) ≡ false → (a ≡ false) × (b ≡ false)
-or_parts_false true b h = absurd cc
-or_parts_false false b h = (refl, h)
-
--- a name is none of those before it
-apart : (xs : List Row) (y : Row) (ys : List Row) → AreDistinct (xs ++ y ∷ ys) → holds xs y ≡ false
-apart [] y ys h = refl
-apart (x ∷ xs) y ys h =
-    let both = or_parts_false (holds xs x) (holds (y ∷ ys) x) (sym (holds-append xs (y ∷ ys) x) ∙ h.0) in
-    let other = or_parts_false (is_same x y) (holds ys x) both.1 in
-    or_false (is_same y x) (holds xs y) (same_swap y x ∙ other.0) (apart xs y ys h.1)
 
 attrs_named : (before attrs : List Attr) → AreDistinct (names_of before) → AllBehind AttrFits before attrs → AreDistinct (names_of (before ++ attrs)) × All IsIdentifier (names_of attrs)
 attrs_named before [] h fits = (subst (λ (l : List Attr). AreDistinct (names_of l)) (sym (append-nil before)) h, All-nil IsIdentifier)

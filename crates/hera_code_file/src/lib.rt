@@ -1,4 +1,4 @@
-//! Code files: code with its relations and what it notes of its slots, written and read.
+//! Code files: code with its relations and what it notes of its slots, read.
 //!
 //! The definitions stand in `specs/`: `Printing` has the bytes of each part and of a whole file, `Fitting` which
 //! values have bytes, `Reading` what is read from bytes and where they break a rule, and `Files` what a file tells.
@@ -10,13 +10,7 @@ mod file;
 mod instrs;
 mod ops;
 mod parts;
-mod putting;
 mod schemas;
 mod stop;
-mod writing;
 
 pub use file::{CodeFault, CodeFile, read_code};
-pub use writing::write_code;
-
-#[cfg(test)]
-mod tests;
