@@ -10,7 +10,7 @@ use Rattle.hera_causes.specs.declared.traits.Output as output
 use Rattle.hera_volume.proofs.Moments.{leaves-none, leaves-weaker, leaves-on}
 use Rattle.hera_store.specs.Moments.{IsUntouched}
 use Rattle.hera_outcome.specs.declared.answer.Ending.{Ending}
-use Rattle.hera_outcome.specs.declared.answer.Ending.TheVariants.{Done, Trapped, Spent}
+use Rattle.hera_outcome.specs.declared.answer.Ending.TheVariants.{Done, Trapped, Spent, Broken}
 use Rattle.hera_outcome.specs.declared.answer.Stop.{Stop}
 use Rattle.hera_outcome.specs.declared.answer.Stop.TheVariants.{Refused, Device, Output, Memory, Full}
 use Rattle.hera_outcome.specs.declared.refusal.Refusal.{Refusal}
@@ -183,6 +183,7 @@ pub ending_not_six : (ending : Ending) → number_of_ending ending ≡ 6 → ⊥
 ending_not_six Done is = cc (is)
 ending_not_six Trapped is = cc (is)
 ending_not_six Spent is = cc (is)
+ending_not_six Broken is = cc (is)
 
 tells_weaker : (A B : Outcome → Type 0) (status : ℕ) (v : Passage) → ((o : Outcome) → A o → B o) → Tells A status v → Tells B status v
 tells_weaker A B status v weaker told = ⊎_elim (λ (o, comes, one). inl (o, weaker o comes, one)) (λ up. inr up) told

@@ -1,7 +1,7 @@
 -- The exit statuses as numbers.
 use Rattle.std.specs.Prelude.{ℕ, Result, Ok, Err}
 use Rattle.hera_outcome.specs.declared.answer.Ending.{Ending}
-use Rattle.hera_outcome.specs.declared.answer.Ending.TheVariants.{Done, Trapped, Spent}
+use Rattle.hera_outcome.specs.declared.answer.Ending.TheVariants.{Done, Trapped, Spent, Broken}
 use Rattle.hera_outcome.specs.declared.answer.Stop.{Stop}
 use Rattle.hera_outcome.specs.declared.answer.Stop.TheVariants.{Refused, Device, Output, Memory, Full}
 use Rattle.hera_outcome.specs.Refusals.{status_of_refusal}
@@ -10,6 +10,7 @@ abbrev pub number_of_ending : Ending → ℕ
 number_of_ending Done = 0
 number_of_ending Trapped = 1
 number_of_ending Spent = 4
+number_of_ending Broken = 11
 
 abbrev pub number_of_stop : Stop → ℕ
 number_of_stop (Refused refusal) = status_of_refusal refusal

@@ -18,10 +18,12 @@ use Rattle.hera_outcome.specs.Refusals.{line_of, status_of_refusal}
 
 -- ---- outcomes
 
--- how a list of events came to its end: as the meaning ends, or before a store for which the half is too full
+-- how a list of events came to its end: as the meaning ends, before a store for which the half is too full, or with the line
+-- of a row that breaks a guard
 pub data Ended : Type 0 where
   ends : Finish → Ended
   full : Ended
+  broken : Ended
 
 -- a refusal; a text, printed; a run over no folder; the database of these relations, made without rows; this database,
 -- printed anew into the other half; a database that is widened to another; a database too long for one of these; or
@@ -55,6 +57,7 @@ status_of_finish out_of_turns = 4
 abbrev pub status_of_ended : Ended → ℕ
 status_of_ended (ends finish) = status_of_finish finish
 status_of_ended full = 10
+status_of_ended broken = 11
 
 abbrev pub status_of_outcome : Outcome → ℕ
 status_of_outcome (refused refusal) = status_of_refusal refusal

@@ -5,7 +5,7 @@ use Rattle.hera_script.specs.Labels as script
 use Rattle.hera_volume.specs.declared.file_id.FileId.{FileId}
 use Rattle.hera_volume.specs.declared.file_id.FileId.TheVariants.{Select, Left, Right}
 use Rattle.hera_outcome.specs.declared.refusal.Refusal.{Refusal}
-use Rattle.hera_outcome.specs.declared.refusal.Refusal.TheVariants.{Usage, Unread, Script, Exists, NoDatabase, Damaged, Differing, Narrows}
+use Rattle.hera_outcome.specs.declared.refusal.Refusal.TheVariants.{Usage, Unread, Script, Exists, NoDatabase, Damaged, Differing, Narrows, NoRelation, Record}
 
 -- how the line of damage in a file begins
 abbrev pub label_of : FileId → List ℕ
@@ -22,6 +22,8 @@ line_of NoDatabase = codes "no database\n"
 line_of (Damaged file at) = end_text (label_of file) at
 line_of (Differing name) = codes "differs " ++ name ++ codes "\n"
 line_of (Narrows name) = codes "narrows " ++ name ++ codes "\n"
+line_of NoRelation = codes "no relation\n"
+line_of (Record number) = end_text (codes "refused Record") number
 
 abbrev pub status_of_refusal : Refusal → ℕ
 status_of_refusal Usage = 2
@@ -32,3 +34,5 @@ status_of_refusal NoDatabase = 5
 status_of_refusal (Damaged file at) = 5
 status_of_refusal (Differing name) = 5
 status_of_refusal (Narrows name) = 5
+status_of_refusal NoRelation = 5
+status_of_refusal (Record number) = 3

@@ -14,6 +14,8 @@ pub enum Ending {
     Trapped,
     /// A turn was due, and none was left.
     Spent,
+    /// A guard ended the run.
+    Broken,
 }
 
 impl Ending {
@@ -25,6 +27,7 @@ impl Ending {
             Ending::Done => 0,
             Ending::Trapped => 1,
             Ending::Spent => 4,
+            Ending::Broken => 11,
         }
     }
 }

@@ -27,6 +27,10 @@ pub enum Refusal {
     Differing { relation: Name },
     /// The first relation of the database that the new catalogue does not keep.
     Narrows { relation: Name },
+    /// The database has no relation of the name.
+    NoRelation,
+    /// The record of this number, from 1, is not good for the relation; or 1 where there is no record.
+    Record { number: u64 },
 }
 
 impl Refusal {
@@ -36,12 +40,13 @@ impl Refusal {
     {
         match self {
             Refusal::Usage => 2,
-            Refusal::Script { .. } => 3,
+            Refusal::Script { .. } | Refusal::Record { .. } => 3,
             Refusal::Exists
             | Refusal::NoDatabase
             | Refusal::Damaged { .. }
             | Refusal::Differing { .. }
-            | Refusal::Narrows { .. } => 5,
+            | Refusal::Narrows { .. }
+            | Refusal::NoRelation => 5,
             Refusal::Unread => 7,
         }
     }
@@ -59,6 +64,8 @@ impl Refusal {
             Refusal::Damaged { file, at } => end_line(alloc, damage_label(*file), *at),
             Refusal::Differing { relation } => named_line(alloc, b"differs ", relation),
             Refusal::Narrows { relation } => named_line(alloc, b"narrows ", relation),
+            Refusal::NoRelation => plain(alloc, b"no relation\n"),
+            Refusal::Record { number } => end_line(alloc, "refused Record", *number),
         }
     }
 }

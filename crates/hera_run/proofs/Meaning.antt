@@ -43,7 +43,7 @@ use Rattle.hera_run.proofs.Cuts.{cut-longer}
 use Rattle.hera_run.proofs.Fittings.{all_fit-append, fitting-append, fitting-all, fitting-none, all_fit-none, prefix_fitting}
 use Rattle.hera_store.proofs.Commits.{stands_holds}
 
-stores_front : (rels : List RelDecl) (front more : List Event) → AreStoresOf rels (front ++ more) → AreStoresOf rels front
+pub stores_front : (rels : List RelDecl) (front more : List Event) → AreStoresOf rels (front ++ more) → AreStoresOf rels front
 stores_front rels [] more are = tt
 stores_front rels (out bytes ∷ front) more are = stores_front rels front more are
 stores_front rels (store s d ∷ front) more are = (are.0, stores_front rels front more are.1)
@@ -57,13 +57,13 @@ front_of_both n xs ys =
     (cases_lt (length xs) n)
 
 -- a front of what the first events print is one of what all print
-front_printed : (front events : List Event) (n : ℕ) → IsPrefix front events → (m : ℕ) × (take n (printed front) ≡ take m (printed events))
+pub front_printed : (front events : List Event) (n : ℕ) → IsPrefix front events → (m : ℕ) × (take n (printed front) ≡ take m (printed events))
 front_printed front events n p =
     let (m, is) = front_of_both n (printed front) (printed p.rest) in
     (m, is ∙ ap (λ (l : List ℕ). take m l) (sym (printed-append front p.rest) ∙ ap printed p.joined))
 
 -- what is said of the code and its relations is said of the program's
-own : (F : Code → List RelDecl → Type 0) (code own_code : Code) (rels own_rels : List RelDecl) → code ≡ own_code → rels ≡ own_rels → F code rels → F own_code own_rels
+pub own : (F : Code → List RelDecl → Type 0) (code own_code : Code) (rels own_rels : List RelDecl) → code ≡ own_code → rels ≡ own_rels → F code rels → F own_code own_rels
 own F code own_code rels own_rels is its x = subst (λ (c : Code). F c own_rels) is (subst (λ (rs : List RelDecl). F code rs) its x)
 
 -- what the theorem on the compiler says of one run
@@ -157,7 +157,7 @@ module _ (p : Program_tree) (hosts : Hosts) (db : Database) (place turns : ℕ) 
         device = quiet.1;
       }
 
-  stuck_is_no_end : (finish : Finish) → stuck ≡ ended finish → ⊥
+  pub stuck_is_no_end : (finish : Finish) → stuck ≡ ended finish → ⊥
   stuck_is_no_end _ is = cc (is)
 
   never_stuck : (code : Code) (rels : List RelDecl) (before now : Option (List ℕ)) (left : Database) (end : End) → code ≡ code_of p → rels ≡ p.relations → end ≡ Stuck

@@ -105,7 +105,7 @@ module _ {D : Type 0} (q : output.Ghosts D) (w : files.Ghosts D) where
       → (w.told → LeavesOnceSynced w.disk q.emitted w.moment w.left_since w.synced_at a b) → IsGivenUp 9 (over a b)
   given_up_memory a b reads within same fine sound moments synced = record { cause = inr (refl, sound); unseen = record { emitted = same; output = fine; reads = reads; within = within; moments = moments }; syncs = λ t. syncs_all (synced t) }
 
-  still_here : (a b : D) (db : Database) → q.emitted b ≡ q.emitted a → (c : Image) → IsStill db (q.emitted b) c → IsStill db (q.emitted a) c
+  pub still_here : (a b : D) (db : Database) → q.emitted b ≡ q.emitted a → (c : Image) → IsStill db (q.emitted b) c → IsStill db (q.emitted a) c
   still_here a b db same c still = record { found = still.found; emitted = subst (λ (e : Option (List ℕ)). Keeps e (Some c.emitted)) same still.emitted }
 
   abbrev at_start : D → Start
@@ -117,7 +117,7 @@ module _ {D : Type 0} (q : output.Ghosts D) (w : files.Ghosts D) where
       let same : bytes_at b ≡ bytes_at a = λ i f. p.unseen.reads t f i in
       subst (λ (files : FileId → List ℕ). IsFound files x) same (there t)
 
-  closed_before : (a b : D) (r : Refusal) → IsPending (over a b) → IsClosed (at_start b) r → IsClosed (at_start a) r
+  pub closed_before : (a b : D) (r : Refusal) → IsPending (over a b) → IsClosed (at_start b) r → IsClosed (at_start a) r
   closed_before a b _ p (finds_none x) = finds_none (there_before a b absent p x)
   closed_before a b _ p (finds_damage {file = file} {at = at} x) = finds_damage (there_before a b (spoilt file at) p x)
 
@@ -130,7 +130,7 @@ module _ {D : Type 0} (q : output.Ghosts D) (w : files.Ghosts D) where
   never_closed b _ db t holds (finds_damage {file = file} {at = at} x) = let is = found_one (bytes_at b) (spoilt file at) (held db) (x t) holds in cc (is)
 
   -- nothing shows where nothing is told
-  pending_never : (a b : D) → (w.told → ⊥) → q.emitted b ≡ q.emitted a → q.output_faults b ≡ q.output_faults a → w.device_faults b ≡ w.device_faults a → IsPending (over a b)
+  pub pending_never : (a b : D) → (w.told → ⊥) → q.emitted b ≡ q.emitted a → q.output_faults b ≡ q.output_faults a → w.device_faults b ≡ w.device_faults a → IsPending (over a b)
   pending_never a b never same fine sound = record {
     device = sound;
     unseen = record { emitted = same; output = fine; reads = λ t. absurd (never t); within = λ t. absurd (never t); moments = λ t. absurd (never t) };
@@ -252,7 +252,7 @@ module _ {D : Type 0} (q : output.Ghosts D) (w : files.Ghosts D) where
     }
 
     -- what a stop leaves behind the opening
-    once : (c : D) (P : Image → Type 0) (t : w.told) → ((i : Image) → IsStill found_db (q.emitted a) i → P i) → LeavesOnly w.moment w.left_since b c P → LeavesOnceOpened w.disk q.emitted w.moment w.left_since w.synced_at a c P
+    pub once : (c : D) (P : Image → Type 0) (t : w.told) → ((i : Image) → IsStill found_db (q.emitted a) i → P i) → LeavesOnly w.moment w.left_since b c P → LeavesOnceOpened w.disk q.emitted w.moment w.left_since w.synced_at a c P
     once c P t weaker behind = record {
       between = b;
       before = untouched_by q w a b opened.pending.unseen t;
@@ -262,7 +262,7 @@ module _ {D : Type 0} (q : output.Ghosts D) (w : files.Ghosts D) where
       behind = behind;
     }
 
-    named_before : (t : w.told) → Names (bytes_at a Select) s.half
+    pub named_before : (t : w.told) → Names (bytes_at a Select) s.half
     named_before t = subst (λ (l : List ℕ). Names l s.half) (opened.pending.unseen.reads t Select) (opened.opens.stands t).named
 
     half_before : (t : w.told) → IsHalfTo (format_of s.base.version) (bytes_at a s.half) s.base.catalogue found_db.state s.end
@@ -284,13 +284,13 @@ module _ {D : Type 0} (q : output.Ghosts D) (w : files.Ghosts D) where
     }
 
     module _ (old : is_old s.base.version ≡ true) (has : AllHas s.base.catalogue own) where
-      old_half : (t : w.told) → IsHalf format_one (bytes_at a s.half) found_db.catalogue found_db.state
+      pub old_half : (t : w.told) → IsHalf format_one (bytes_at a s.half) found_db.catalogue found_db.state
       old_half t = subst (λ (v : Version). IsHalf (format_of v) (bytes_at a s.half) found_db.catalogue found_db.state) (old_is_one s.base.version old) (half_before t).half
 
-      starts_at : (t : w.told) (gate : ℕ) → suc gate ≡ length (half_with found_db) → length (half_with found_db) ≤ half_limit → StartsAt (bytes_at a) found_db gate
+      pub starts_at : (t : w.told) (gate : ℕ) → suc gate ≡ length (half_with found_db) → length (half_with found_db) ≤ half_limit → StartsAt (bytes_at a) found_db gate
       starts_at t gate place fits = record { half = s.half; named = named_before t; starts = inr (record { old = old_half t; place = place; fits = fits }) }
 
-      found_for : (c : D) → length (half_with found_db) ≤ half_limit → (w.told → LeavesOnly w.moment w.left_since b c (IsStill found_db (q.emitted b))) → IsFoundFor own (over a c)
+      unfoldable pub found_for : (c : D) → length (half_with found_db) ≤ half_limit → (w.told → LeavesOnly w.moment w.left_since b c (IsStill found_db (q.emitted b))) → IsFoundFor own (over a c)
       found_for c fits still = record {
         db = found_db;
         gate = length (pages_of format_two found_db.catalogue found_db.state);
@@ -300,7 +300,7 @@ module _ {D : Type 0} (q : output.Ghosts D) (w : files.Ghosts D) where
         moments = λ t. once c _ t (λ i here. here) (leaves-weaker w.moment w.left_since (still t) (still_here a b found_db opened.pending.unseen.emitted));
       }
 
-      ready_rewritten : (c : D) (next : Standing) → IsRewritten s next (over b c) → IsReady own next (over a c)
+      pub ready_rewritten : (c : D) (next : Standing) → IsRewritten s next (over b c) → IsReady own next (over a c)
       ready_rewritten c next done =
           let quiet_emitted = done.quiet.emitted ∙ opened.pending.unseen.emitted in
           let quiet_output = done.quiet.output ∙ opened.pending.unseen.output in
@@ -317,7 +317,7 @@ module _ {D : Type 0} (q : output.Ghosts D) (w : files.Ghosts D) where
             so_far = inr (found_for c done.fits done.moments);
           }
 
-      cause_before : (status : ℕ) (c : D) → IsCause status (over b c) → IsCause status (over a c)
+      pub cause_before : (status : ℕ) (c : D) → IsCause status (over b c) → IsCause status (over a c)
       cause_before status c cause = cause_on q w a b opened.pending status c cause
 
       unready_unwritten : (c : D) (stop : Stop) → IsUnwritten s stop (over b c) → IsUnready own stop (over a c)
@@ -354,7 +354,7 @@ module _ {D : Type 0} (q : output.Ghosts D) (w : files.Ghosts D) where
   -- ---- a run
 
   -- a cut at the start
-  cut_still : (db : Database) (events : List Event) (start : Option (List ℕ)) (c : Image) → IsStill db start c → IsCut events db start c
+  pub cut_still : (db : Database) (events : List Event) (start : Option (List ℕ)) (c : Image) → IsStill db start c → IsCut events db start c
   cut_still db events start c still = record {
     done = [];
     rest = events;
@@ -366,7 +366,7 @@ module _ {D : Type 0} (q : output.Ghosts D) (w : files.Ghosts D) where
     stored = inl refl;
   }
 
-  once_weaker : (a c : D) (P Q : Image → Type 0) → ((i : Image) → P i → Q i) → LeavesOnceOpened w.disk q.emitted w.moment w.left_since w.synced_at a c P → LeavesOnceOpened w.disk q.emitted w.moment w.left_since w.synced_at a c Q
+  pub once_weaker : (a c : D) (P Q : Image → Type 0) → ((i : Image) → P i → Q i) → LeavesOnceOpened w.disk q.emitted w.moment w.left_since w.synced_at a c P → LeavesOnceOpened w.disk q.emitted w.moment w.left_since w.synced_at a c Q
   once_weaker a c P Q weaker opens = record {
     between = opens.between;
     before = opens.before;
@@ -376,7 +376,7 @@ module _ {D : Type 0} (q : output.Ghosts D) (w : files.Ghosts D) where
     behind = leaves-weaker w.moment w.left_since opens.behind weaker;
   }
 
-  once_longer : (a b c : D) (P Q : Image → Type 0) → ((i : Image) → P i → Q i) → LeavesOnceOpened w.disk q.emitted w.moment w.left_since w.synced_at a b P → LeavesOnly w.moment w.left_since b c Q
+  pub once_longer : (a b c : D) (P Q : Image → Type 0) → ((i : Image) → P i → Q i) → LeavesOnceOpened w.disk q.emitted w.moment w.left_since w.synced_at a b P → LeavesOnly w.moment w.left_since b c Q
       → LeavesOnceOpened w.disk q.emitted w.moment w.left_since w.synced_at a c Q
   once_longer a b c P Q weaker opens more = record {
     between = opens.between;

@@ -49,11 +49,7 @@ pub(crate) fn speak<K: Keeper, W: Outside>(
 }
 
 /// Stores one commit. At each moment it is carried out or not.
-pub(crate) fn keep_in<W: Outside>(
-    outside: &mut W,
-    store: &mut Store,
-    delta: Delta,
-) -> Result<(), Stop>
+pub fn keep_in<W: Outside>(outside: &mut W, store: &mut Store, delta: Delta) -> Result<(), Stop>
     requires open { store.old.closed ≡ false }
     requires stands { W.told → StandsFor (W.disk outside.old) store.old }
     requires proper { IsProper store.old.base.catalogue (Action.Store delta) }

@@ -9,7 +9,7 @@ mod lines;
 mod opening;
 mod run;
 
-pub use carry::{Action, carry_out};
+pub use carry::{Action, carry_out, keep_in};
 pub use folder::run_in_folder;
 pub use keeper::{InFolder, InMemory, Keeper};
 pub use lines::{commit_line, last_line};
