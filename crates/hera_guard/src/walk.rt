@@ -160,7 +160,7 @@ pub(crate) fn first_stored(
             hosts,
             &catalogue.decl(rel).schema,
             rel,
-            &view.rel(rel),
+            &view.indexed(rel),
         )? {
             return Ok(Some(found));
         }

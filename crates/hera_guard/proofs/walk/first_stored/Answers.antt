@@ -21,7 +21,7 @@ first_in-requires-clause-rows g c =
     let state = after_all view.base.now.state (view.commits.now ++ path view.layers.now.layers view.tip) in
     let n = c.loop-number.number in
     let there = subst (λ rels. slice_get rels n ≡ Some c.decl.result.now) c.catalogue-catalogue.ensures.catalogue c.decl.ensures.decl in
-    rows_of_state view.base.now.catalogue state n c.decl.result.now c.rel.result c.requires.state there c.rel.ensures
+    rows_of_state view.base.now.catalogue state n c.decl.result.now c.indexed.result c.requires.state there c.indexed.ensures
 
 pub returns-in-Some-clause-known : goal.returns-in-Some-clause-known
 returns-in-Some-clause-known g c =
@@ -32,7 +32,7 @@ returns-in-Some-clause-known g c =
     let n = c.loop-number.number in
     let there = subst (λ rels. slice_get rels n ≡ Some c.decl.result.now) c.catalogue-catalogue.ensures.catalogue c.decl.ensures.decl in
     first_known hosts c.args.guards.now rels state (Some c.in-Some.found) c.requires.state
-    (relation_breaks hosts c.args.guards.now rels state n c.decl.result.now c.rel.result c.in-Some.found there c.rel.ensures (sym c.in_ok-found.ensures ∙ c.in-Some.is) ∙ c.loop-number.invariant)
+    (relation_breaks hosts c.args.guards.now rels state n c.decl.result.now c.indexed.result c.in-Some.found there c.indexed.ensures (sym c.in_ok-found.ensures ∙ c.in-Some.is) ∙ c.loop-number.invariant)
 
 pub returns-in-Some-clause-first : goal.returns-in-Some-clause-first
 returns-in-Some-clause-first g c =
@@ -41,7 +41,7 @@ returns-in-Some-clause-first g c =
     let state = after_all view.base.now.state (view.commits.now ++ path view.layers.now.layers view.tip) in
     let n = c.loop-number.number in
     let there = subst (λ rels. slice_get rels n ≡ Some c.decl.result.now) c.catalogue-catalogue.ensures.catalogue c.decl.ensures.decl in
-    relation_breaks (specs_of c.args.hosts.now.names) c.args.guards.now rels state n c.decl.result.now c.rel.result c.in-Some.found there c.rel.ensures (sym c.in_ok-found.ensures ∙ c.in-Some.is) ∙ c.loop-number.invariant
+    relation_breaks (specs_of c.args.hosts.now.names) c.args.guards.now rels state n c.decl.result.now c.indexed.result c.in-Some.found there c.indexed.ensures (sym c.in_ok-found.ensures ∙ c.in-Some.is) ∙ c.loop-number.invariant
 
 pub loop-number-preserved : goal.loop-number-preserved
 loop-number-preserved g c =
@@ -50,7 +50,7 @@ loop-number-preserved g c =
     let state = after_all view.base.now.state (view.commits.now ++ path view.layers.now.layers view.tip) in
     let n = c.loop-number.number in
     let there = subst (λ rels. slice_get rels n ≡ Some c.decl.result.now) c.catalogue-catalogue.ensures.catalogue c.decl.ensures.decl in
-    relation_passes (specs_of c.args.hosts.now.names) c.args.guards.now rels state n (n + 1) c.decl.result.now c.rel.result refl there c.rel.ensures (sym c.in_ok-found.ensures ∙ c.in_default.is) ∙ c.loop-number.invariant
+    relation_passes (specs_of c.args.hosts.now.names) c.args.guards.now rels state n (n + 1) c.decl.result.now c.indexed.result refl there c.indexed.ensures (sym c.in_ok-found.ensures ∙ c.in_default.is) ∙ c.loop-number.invariant
 
 pub returns-clause-first : goal.returns-clause-first
 returns-clause-first g c =
