@@ -1,0 +1,3 @@
+pub mod Weaving
+pub mod Binding
+pub mod Going
