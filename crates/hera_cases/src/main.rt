@@ -2,7 +2,8 @@
 //! and an output in memory.
 //!
 //! A case begins with a line `== NAME: WORDS`, its name and the words of its command line. Where the words name a file,
-//! its script is that file, and for the word `-` the lines up to the next case, joined by line feeds. For each case the
+//! its script is that file, and for the word `-` the lines up to the next case, joined by line feeds. Where they name two, the
+//! first has the lines of guards, which for the word `-` stand behind `=> rules `. For each case the
 //! program prints that line, what the call emitted, and a line `-- STATUS`. Cases one behind another whose words name the
 //! same folder have the same files, which are empty at the first of them.
 //!
@@ -43,7 +44,7 @@ fn try_all<R: Print + AllocGlobal>(
 ) -> io::Result<()> {
     let mut last = Vec::new(rt.alloc());
     for number in trials.first..trials.last {
-        let outcome = session.call_with_fault(rt.alloc(), words, &case.script, trials, number)?;
+        let outcome = session.call_with_fault(rt.alloc(), words, case, trials, number)?;
         if outcome != last {
             println!(rt; "-- from {number} on")?;
             rt.write_all(&outcome)?;
@@ -83,14 +84,14 @@ fn run<R: Files + Print + AllocGlobal>(
     let words = case.words(rt.alloc())?;
     session.enter(rt.alloc(), folder_name(&words))?;
     let (first, last) = files_of(&words);
-    for file in &words[first..last] {
-        case.load(rt, file.as_str())?;
+    for place in first..last {
+        case.load(rt, words[place].as_str(), place + 1 == last)?;
     }
     println!(rt; "== {}", case.heading)?;
     if follow(rt, &case, &words, session)? {
         return Ok(());
     }
-    let report = session.call(rt.alloc(), &words, &case.script)?;
+    let report = session.call(rt.alloc(), &words, &case)?;
     rt.write_all(&report)
 }
 

@@ -1,5 +1,6 @@
 ghost use Rattle.std.specs.Prelude.{◌≡◌, IfOk, length};
 
+use crate::case::Case;
 use crate::trials::{Trials, write_file};
 use hera_causes::MemSource;
 use hera_meaning::Scalar;
@@ -38,9 +39,9 @@ impl Session {
         &mut self,
         alloc: Global,
         words: &Vec<String>,
-        script: &[u8],
+        case: &Case,
     ) -> Result<Vec<u8>, AllocError> {
-        report_of(alloc, words, script, &mut self.outside)
+        report_of(alloc, words, &case.rules, &case.script, &mut self.outside)
     }
 
     /// Gives a file the bytes of a line `FILE HEX`, or cuts it by one `cut FILE LENGTH`.
@@ -75,14 +76,14 @@ impl Session {
         &self,
         alloc: Global,
         words: &Vec<String>,
-        script: &[u8],
+        case: &Case,
         trials: Trials,
         number: u64,
     ) -> io::Result<Vec<u8>> {
         let dump = words_in(alloc, &["dump", self.folder.as_str()])?;
         let mut outside = trials.copy_of(alloc, &self.outside, number)?;
-        let mut report = report_of(alloc, words, script, &mut outside)?;
-        let found = report_of(alloc, &dump, b"", &mut outside.crash(trials.fill))?;
+        let mut report = report_of(alloc, words, &case.rules, &case.script, &mut outside)?;
+        let found = report_of(alloc, &dump, b"", b"", &mut outside.crash(trials.fill))?;
         report.extend_from_slice(&found)?;
         Ok(report)
     }
@@ -132,13 +133,19 @@ fn bytes_of(alloc: Global, digits: &str) -> io::Result<Vec<u8>> {
     Ok(bytes)
 }
 
-/// As many sources of the script.
-fn sources_of(alloc: Global, script: &[u8], count: usize) -> Result<Vec<MemSource>, AllocError>
+/// So many sources: the last of the script, and those before it of the lines of guards.
+fn sources_of(
+    alloc: Global,
+    rules: &[u8],
+    script: &[u8],
+    count: usize,
+) -> Result<Vec<MemSource>, AllocError>
     ensures { IfOk result (λ sources. length sources.items ≡ count) }
 {
     let mut sources = Vec::new(alloc);
-    for _ in 0..count {
-        sources.push(MemSource::new(script.to_vec(alloc)?, Vec::new(alloc)))?;
+    for place in 0..count {
+        let text = if place + 1 == count { script } else { rules };
+        sources.push(MemSource::new(text.to_vec(alloc)?, Vec::new(alloc)))?;
     }
     Ok(sources)
 }
@@ -147,11 +154,12 @@ fn sources_of(alloc: Global, script: &[u8], count: usize) -> Result<Vec<MemSourc
 fn report_of(
     alloc: Global,
     words: &Vec<String>,
+    rules: &[u8],
     script: &[u8],
     outside: &mut MemOutside,
 ) -> Result<Vec<u8>, AllocError> {
     let (first, last) = files_of(words);
-    let mut sources = sources_of(alloc, script, last - first)?;
+    let mut sources = sources_of(alloc, rules, script, last - first)?;
     let hosts = program_hosts(
         alloc,
         Box::new(alloc, |arg: &Scalar| band(arg))?,

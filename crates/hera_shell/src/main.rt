@@ -1,8 +1,4 @@
-//! The program `hera`: its words, real files and standard output.
-//!
-//! `hera check FILE` says whether the script in the file is accepted, `hera list FILE` lists its code, and
-//! `hera eval TURNS FILE` runs it, and `hera drill N` runs a script made from a number. `hera init DIR FILE` makes a database of its relations in a folder, `hera dump DIR`
-//! prints it, `hera checkpoint DIR` writes it anew, and `hera widen DIR FILE` gives it new relations and attributes.
+//! The program `hera`: its words, real files and standard output. What each form of the words does stands at [`hera_top::hera`].
 #![tactic(auto)]
 
 ghost use Rattle.std.specs.Prelude.{◌≡◌, IfOk, length};

@@ -1,7 +1,6 @@
 -- What a command answers, of what was answered on the way.
-use Rattle.std.proofs.Common.{◌≡◌, ◌<◌, ◌+◌, arith, ◌∙◌, ℕ, suc, ⊎_elim, inl, inr, ◌⊎◌, List, [], ◌∷◌, length, true, false, Option, Some, None, Result, Ok, Err, refl, sym, ap, subst}
+use Rattle.std.proofs.Common.{◌≡◌, ◌+◌, arith, ◌∙◌, ℕ, suc, ⊎_elim, inl, inr, ◌⊎◌, List, [], ◌∷◌, length, true, false, Option, Some, None, Result, Ok, Err, refl, sym, ap, subst}
 use Rattle.std.specs.Prelude.{get_or, slice_set}
-use Rattle.hera_causes.specs.Causes.{Rose}
 use Rattle.hera_causes.specs.declared.traits.Output as output
 use Rattle.hera_meaning.specs.declared.schemas.RelDecl.{RelDecl}
 use Rattle.hera_meaning.specs.Trees.{Program_tree}
@@ -13,17 +12,16 @@ use Rattle.hera_outcome.specs.declared.answer.Stop.TheVariants.{Refused, Device,
 use Rattle.hera_outcome.specs.declared.refusal.Refusal.{Refusal}
 use Rattle.hera_outcome.specs.declared.refusal.Refusal.TheVariants.{Unread}
 use Rattle.hera_outcome.specs.Answers.{number_of, number_of_ending, IsConcluded}
-use Rattle.hera_outcome.specs.Outcomes.{refused}
-use Rattle.hera_outcome.specs.Passages.{Passage, passage, start, start_of, KeepsFiles}
+use Rattle.hera_outcome.specs.Outcomes.{Outcome, refused}
+use Rattle.hera_outcome.specs.Passages.{Passage, Start, passage, start, start_of, KeepsFiles}
 use Rattle.hera_outcome.specs.Told.{IsTold, Tells, Answered}
 use Rattle.hera_outcome.proofs.Passing.{answered_weaker, told_on}
 use Rattle.hera_run.specs.Folder.{RunsTo}
 use Rattle.hera_words.specs.declared.command.Command.{Command}
-use Rattle.hera_words.specs.declared.command.Command.TheVariants.{Check, List as list_command, Eval, Drill, Init, Run, Dump, Checkpoint, Widen}
+use Rattle.hera_words.specs.declared.command.Command.TheVariants.{Check, List as list_command, Eval, Drill, Init, Run, Dump, Checkpoint, Widen, Import, Export, Guard}
 use Rattle.hera_words.specs.Words.{form_of, files_in, folder_in}
-use Rattle.hera_top.specs.Commands.{Performs, makes, widens, runs, IsMade, IsWidened, ComesToFor, ReadsScript, LooksAlone, Finds, ComesTo, reads, drills, looks, Answers, tells, fails, IsAnswered}
-use Rattle.hera_top.specs.Drill.{drill_text, drill_turns}
-use Rattle.hera_top.specs.Sources.{Seen, first_seen}
+use Rattle.hera_top.specs.Commands.{Performs, makes, widens, runs, IsMade, IsWidened, ReadsScript, OfScript, ComesTo, Answers, tells, fails, IsAnswered}
+use Rattle.hera_top.specs.Sources.{Seen, seen, seen_of, AreStill, AreLater, OneFailed}
 
 -- ---- commands
 
@@ -40,26 +38,25 @@ widened_answers hosts p rels r v is answered = answered_weaker _ _ r v (λ o com
 pub same_performed : (hosts : List Host) (p : Program_tree) (done command : Command) (r : Result Ending Stop) (v : Passage) → done ≡ command → Answered (Performs hosts p (start_of v) done) r v → Answered (Performs hosts p (start_of v) command) r v
 same_performed hosts p done command r v is answered = subst (λ (x : Command). Answered (Performs hosts p (start_of v) x) r v) is answered
 
-pub run_has_folder : (command : Command) (turns : ℕ) → command ≡ Run turns → (form_of command).folder ≡ false → ⊥
-run_has_folder command turns is none = (let bad : true ≡ false = sym (ap (λ (x : Command). (form_of x).folder) is) ∙ none in cc (bad))
+pub has_folder : (done command : Command) → done ≡ command → (form_of done).folder ≡ true → (form_of command).folder ≡ false → ⊥
+has_folder done command is there none = (let bad : true ≡ false = sym there ∙ ap (λ (x : Command). (form_of x).folder) is ∙ none in cc (bad))
 
-pub init_has_folder : (command : Command) → command ≡ Init → (form_of command).folder ≡ false → ⊥
-init_has_folder command is none = (let bad : true ≡ false = sym (ap (λ (x : Command). (form_of x).folder) is) ∙ none in cc (bad))
-
-pub widen_has_folder : (command : Command) → command ≡ Widen → (form_of command).folder ≡ false → ⊥
-widen_has_folder command is none = (let bad : true ≡ false = sym (ap (λ (x : Command). (form_of x).folder) is) ∙ none in cc (bad))
+-- ---- sources
 
 -- a command that reads a script has one source
-pub one_source : (command : Command) (n : ℕ) → ReadsScript command → n + (files_in (Some command)).0 ≡ (files_in (Some command)).1 → 0 < n
+pub one_source : (command : Command) (n : ℕ) → ReadsScript command → n + (files_in (Some command)).0 ≡ (files_in (Some command)).1 → n ≡ 1
 one_source Check n given is = omega (arith, is)
 one_source list_command n given is = omega (arith, is)
 one_source (Eval turns) n given is = omega (arith, is)
 one_source (Drill rows) n given is = absurd given
 one_source Init n given is = omega (arith, is)
-one_source Widen n given is = omega (arith, is)
 one_source (Run turns) n given is = omega (arith, is)
 one_source Dump n given is = absurd given
 one_source Checkpoint n given is = absurd given
+one_source Widen n given is = omega (arith, is)
+one_source Import n given is = absurd given
+one_source Export n given is = absurd given
+one_source (Guard turns) n given is = absurd given
 
 pub reads_files : (command : Command) → ReadsScript command → (form_of command).files ≡ 0 → ⊥
 reads_files Check given none = cc (none)
@@ -67,57 +64,75 @@ reads_files list_command given none = cc (none)
 reads_files (Eval turns) given none = cc (none)
 reads_files (Drill rows) given none = given
 reads_files Init given none = cc (none)
-reads_files Widen given none = cc (none)
 reads_files (Run turns) given none = cc (none)
 reads_files Dump given none = given
 reads_files Checkpoint given none = given
+reads_files Widen given none = cc (none)
+reads_files Import given none = given
+reads_files Export given none = given
+reads_files (Guard turns) given none = given
 
-alone_folder : (command : Command) → LooksAlone command → (form_of command).folder ≡ false → ⊥
-alone_folder Check alone none = alone
-alone_folder list_command alone none = alone
-alone_folder (Eval turns) alone none = alone
-alone_folder (Drill rows) alone none = alone
-alone_folder Init alone none = alone
-alone_folder Widen alone none = alone
-alone_folder (Run turns) alone none = alone
-alone_folder Dump alone none = cc (none)
-alone_folder Checkpoint alone none = cc (none)
+pub from_script : (hosts : List Host) (name : List ℕ) (before now : List Seen) (s : Start) (command : Command) (o : Outcome) → ReadsScript command → OfScript hosts command s before now o → ComesTo hosts name before now s command o
+from_script hosts name before now s Check o given came = came
+from_script hosts name before now s list_command o given came = came
+from_script hosts name before now s (Eval turns) o given came = came
+from_script hosts name before now s (Drill rows) o given came = absurd given
+from_script hosts name before now s Init o given came = came
+from_script hosts name before now s (Run turns) o given came = came
+from_script hosts name before now s Dump o given came = absurd given
+from_script hosts name before now s Checkpoint o given came = absurd given
+from_script hosts name before now s Widen o given came = came
+from_script hosts name before now s Import o given came = absurd given
+from_script hosts name before now s Export o given came = absurd given
+from_script hosts name before now s (Guard turns) o given came = absurd given
 
-pub looks_has_folder : (done command : Command) → done ≡ command → LooksAlone done → (form_of command).folder ≡ false → ⊥
-looks_has_folder done command is alone none = alone_folder command (subst LooksAlone is alone) none
+still_itself : (sources : List Seen) → AreStill sources sources
+still_itself [] = tt
+still_itself (one ∷ more) = (refl, still_itself more)
 
--- ---- the first source
+pub later_itself : (sources : List Seen) → AreLater sources sources
+later_itself [] = tt
+later_itself (one ∷ more) = (omega arith, later_itself more)
 
-pub seen_first : {S : Type 0} (left : S → Option (List ℕ)) (faults : S → ℕ) (items : List S) (source : S) → 0 < length items → source ≡ get_or items 0 source
-    → ◌≡◌ {A = Seen} (record { left = left source; faults = faults source }) (first_seen left faults items)
-seen_first left faults [] source some is = absurd (omega arith)
-seen_first {S} left faults (first ∷ more) source some is = ap (λ (x : S). record { left = left x; faults = faults x }) is
+pub one_file : (command : Command) (n : ℕ) → Import ≡ command → n + (files_in (Some command)).0 ≡ (files_in (Some command)).1 → n ≡ 1
+one_file command n is given =
+    let here : n + (files_in (Some Import)).0 ≡ (files_in (Some Import)).1 = subst (λ (x : Command). n + (files_in (Some x)).0 ≡ (files_in (Some x)).1) (sym is) given in
+    omega (arith, here)
 
-pub seen_set : {S : Type 0} (left : S → Option (List ℕ)) (faults : S → ℕ) (items : List S) (source : S) → 0 < length items
-    → ◌≡◌ {A = Seen} (record { left = left source; faults = faults source }) (first_seen left faults (slice_set items 0 source))
-seen_set left faults [] source some = absurd (omega arith)
-seen_set left faults (old ∷ more) source some = refl
-
-pub same_source : (hosts : List Host) (command : Command) (b c n m : Seen) (r : Result Ending Stop) (v : Passage) → b ≡ c → n ≡ m → IsAnswered hosts command b n r v → IsAnswered hosts command c m r v
-same_source hosts command b c n m r v before now answered =
-    subst (λ (x : Seen). IsAnswered hosts command x m r v) before (subst (λ (x : Seen). IsAnswered hosts command b x r v) now answered)
+pub import_reads_files : (command : Command) → Import ≡ command → (form_of command).files ≡ 0 → ⊥
+import_reads_files command is none = (let bad : 1 ≡ 0 = ap (λ (x : Command). (form_of x).files) is ∙ none in cc (bad))
 
 -- no source was read
-pub drill_answered : (hosts : List Host) (command : Command) (rows : ℕ) (seen : Seen) (r : Result Ending Stop) (v : Passage) → command ≡ Drill rows → Answered (ComesToFor hosts (drill_text rows) (start_of v) (Eval drill_turns)) r v
-    → IsAnswered hosts command seen seen r v
-drill_answered hosts command rows seen r v is answered = record { answered = answered_weaker _ _ r v (λ o comes. drills is comes) answered; still = inl refl; later = omega arith }
+pub unread_answered : (hosts : List Host) (name : List ℕ) (done command : Command) (sources : List Seen) (r : Result Ending Stop) (v : Passage) → done ≡ command → Answered (ComesTo hosts name sources sources (start_of v) done) r v
+    → IsAnswered hosts name command sources sources r v
+unread_answered hosts name done command sources r v is answered =
+    subst (λ (x : Command). IsAnswered hosts name x sources sources r v) is (record { answered = answered; still = inl (still_itself sources); later = later_itself sources })
 
-pub looked_answered : (hosts : List Host) (done command : Command) (seen : Seen) (r : Result Ending Stop) (v : Passage) → done ≡ command → LooksAlone done → Answered (Finds (start_of v) done) r v → IsAnswered hosts command seen seen r v
-looked_answered hosts done command seen r v is alone answered =
-    subst (λ (x : Command). IsAnswered hosts x seen seen r v) is (record { answered = answered_weaker _ _ r v (λ o comes. looks alone comes) answered; still = inl refl; later = omega arith })
+-- the only source was
+seen_alone : {S : Type 0} (left : S → Option (List ℕ)) (faults : S → ℕ) (items : List S) (source : S) → length items ≡ 1 → source ≡ get_or items 0 source → seen left faults source ∷ [] ≡ seen_of left faults items
+seen_alone left faults [] source one is = absurd (omega (arith, one))
+seen_alone {S} left faults (first ∷ []) source one is = ap (λ (x : S). seen left faults x ∷ []) is
+seen_alone left faults (first ∷ second ∷ more) source one is = absurd (omega (arith, one))
+
+seen_set : {S : Type 0} (left : S → Option (List ℕ)) (faults : S → ℕ) (items : List S) (source : S) → length items ≡ 1 → seen left faults source ∷ [] ≡ seen_of left faults (slice_set items 0 source)
+seen_set left faults [] source one = absurd (omega (arith, one))
+seen_set left faults (old ∷ []) source one = refl
+seen_set left faults (old ∷ second ∷ more) source one = absurd (omega (arith, one))
+
+pub read_answered : {S : Type 0} (left : S → Option (List ℕ)) (faults : S → ℕ) (items : List S) (old new : S) (hosts : List Host) (name : List ℕ) (done command : Command) (r : Result Ending Stop) (v : Passage) → length items ≡ 1 → old ≡ get_or items 0 old
+    → done ≡ command → IsAnswered hosts name done (seen left faults old ∷ []) (seen left faults new ∷ []) r v → IsAnswered hosts name command (seen_of left faults items) (seen_of left faults (slice_set items 0 new)) r v
+read_answered left faults items old new hosts name done command r v one first is answered =
+    subst (λ (x : Command). IsAnswered hosts name x (seen_of left faults items) (seen_of left faults (slice_set items 0 new)) r v) is
+    (subst (λ (b : List Seen). IsAnswered hosts name done b (seen_of left faults (slice_set items 0 new)) r v) (seen_alone left faults items old one first)
+    (subst (λ (n : List Seen). IsAnswered hosts name done (seen left faults old ∷ []) n r v) (seen_set left faults items new one) answered))
 
 -- ---- words
 
 some_same : (a b : Command) → Some a ≡ Some b → a ≡ b
 some_same a b is = cc (is)
 
-pub same_command : (hosts : List Host) (read command : Command) (before now : Seen) (status : ℕ) (v : Passage) → Some read ≡ Some command → Answers hosts read before now status v → Answers hosts command before now status v
-same_command hosts read command before now status v is answers = subst (λ (x : Command). Answers hosts x before now status v) (some_same read command is) answers
+pub same_command : (hosts : List Host) (name : List ℕ) (read command : Command) (before now : List Seen) (status : ℕ) (v : Passage) → Some read ≡ Some command → Answers hosts name read before now status v → Answers hosts name command before now status v
+same_command hosts name read command before now status v is answers = subst (λ (x : Command). Answers hosts name x before now status v) (some_same read command is) answers
 
 pub no_folder_word : (command : Command) → folder_in (Some command) ≡ None → (form_of command).folder ≡ false
 no_folder_word Check is = refl
@@ -129,6 +144,9 @@ no_folder_word Widen is = absurd (cc (is))
 no_folder_word (Run turns) is = absurd (cc (is))
 no_folder_word Dump is = absurd (cc (is))
 no_folder_word Checkpoint is = absurd (cc (is))
+no_folder_word Import is = absurd (cc (is))
+no_folder_word Export is = absurd (cc (is))
+no_folder_word (Guard turns) is = absurd (cc (is))
 
 -- behind the words there is a place for a file
 some_file : (a b : ℕ) → ◌≡◌ {A = ℕ × ℕ} (suc a, b) (0, 0) → ⊥
@@ -146,23 +164,26 @@ no_file_word Widen is = absurd (some_file 1 3 is)
 no_file_word (Run turns) is = absurd (some_file 2 4 is)
 no_file_word Dump is = refl
 no_file_word Checkpoint is = refl
+no_file_word Import is = absurd (some_file 2 4 is)
+no_file_word Export is = refl
+no_file_word (Guard turns) is = absurd (some_file 2 5 is)
 
 -- ---- the whole answer
 
-unread_or_still : (before now : Seen) (r : Result Ending Stop) → IsConcluded r → (now.faults ≡ before.faults) ⊎ ((r ≡ Err (Refused Unread)) × Rose before.faults now.faults) → now.faults ≡ before.faults
+unread_or_still : (before now : List Seen) (r : Result Ending Stop) → IsConcluded r → AreStill before now ⊎ ((r ≡ Err (Refused Unread)) × OneFailed before now) → AreStill before now
 unread_or_still before now r concluded (inl still) = still
-unread_or_still before now r concluded (inr (is, rose)) = absurd (subst IsConcluded is concluded)
+unread_or_still before now r concluded (inr (is, failed)) = absurd (subst IsConcluded is concluded)
 
-tells_answers : (hosts : List Host) (command : Command) (before now : Seen) (status : ℕ) (v : Passage) → now.faults ≡ before.faults → Tells (ComesTo hosts before now (start_of v) command) status v → Answers hosts command before now status v
-tells_answers hosts command before now status v still told = ⊎_elim (λ (outcome, comes, one). tells comes one) (λ up. fails still up) told
+tells_answers : (hosts : List Host) (name : List ℕ) (command : Command) (before now : List Seen) (status : ℕ) (v : Passage) → AreStill before now → Tells (ComesTo hosts name before now (start_of v) command) status v → Answers hosts name command before now status v
+tells_answers hosts name command before now status v still told = ⊎_elim (λ (outcome, comes, one). tells comes one) (λ up. fails still up) told
 
-told_answer : (hosts : List Host) (command : Command) (before now : Seen) (r : Result Ending Stop) (v : Passage) → IsConcluded r → IsAnswered hosts command before now r v → Answers hosts command before now (number_of r) v
-told_answer hosts command before now (Ok ending) v concluded answer = tells_answers hosts command before now (number_of_ending ending) v (unread_or_still before now (Ok ending) concluded answer.still) answer.answered
-told_answer hosts command before now (Err (Refused refusal)) v concluded answer = absurd concluded
-told_answer hosts command before now (Err Device) v concluded answer = tells_answers hosts command before now 6 v (unread_or_still before now (Err Device) concluded answer.still) answer.answered
-told_answer hosts command before now (Err Output) v concluded answer = tells_answers hosts command before now 8 v (unread_or_still before now (Err Output) concluded answer.still) answer.answered
-told_answer hosts command before now (Err Memory) v concluded answer = tells_answers hosts command before now 9 v (unread_or_still before now (Err Memory) concluded answer.still) answer.answered
-told_answer hosts command before now (Err Full) v concluded answer = tells_answers hosts command before now 10 v (unread_or_still before now (Err Full) concluded answer.still) answer.answered
+told_answer : (hosts : List Host) (name : List ℕ) (command : Command) (before now : List Seen) (r : Result Ending Stop) (v : Passage) → IsConcluded r → IsAnswered hosts name command before now r v → Answers hosts name command before now (number_of r) v
+told_answer hosts name command before now (Ok ending) v concluded answer = tells_answers hosts name command before now (number_of_ending ending) v (unread_or_still before now (Ok ending) concluded answer.still) answer.answered
+told_answer hosts name command before now (Err (Refused refusal)) v concluded answer = absurd concluded
+told_answer hosts name command before now (Err Device) v concluded answer = tells_answers hosts name command before now 6 v (unread_or_still before now (Err Device) concluded answer.still) answer.answered
+told_answer hosts name command before now (Err Output) v concluded answer = tells_answers hosts name command before now 8 v (unread_or_still before now (Err Output) concluded answer.still) answer.answered
+told_answer hosts name command before now (Err Memory) v concluded answer = tells_answers hosts name command before now 9 v (unread_or_still before now (Err Memory) concluded answer.still) answer.answered
+told_answer hosts name command before now (Err Full) v concluded answer = tells_answers hosts name command before now 10 v (unread_or_still before now (Err Full) concluded answer.still) answer.answered
 
 concluded_or_refused : (r : Result Ending Stop) → IsConcluded r ⊎ ((refusal : Refusal) × (r ≡ Err (Refused refusal)))
 concluded_or_refused (Ok ending) = inl tt
@@ -172,22 +193,22 @@ concluded_or_refused (Err Output) = inl tt
 concluded_or_refused (Err Memory) = inl tt
 concluded_or_refused (Err Full) = inl tt
 
-module _ {D : Type 0} (q : output.Ghosts D) (w : files.Ghosts D) (a b c : D) (hosts : List Host) (command : Command) (before now : Seen) (r : Result Ending Stop) (status : ℕ) (answer : IsAnswered hosts command before now r (passage q w a b)) where
+module _ {D : Type 0} (q : output.Ghosts D) (w : files.Ghosts D) (a b c : D) (hosts : List Host) (name : List ℕ) (command : Command) (before now : List Seen) (r : Result Ending Stop) (status : ℕ) (answer : IsAnswered hosts name command before now r (passage q w a b)) where
   abbrev over : D → D → Passage
   over x y = passage q w x y
 
-  refusal_answers : (refusal : Refusal) → r ≡ Err (Refused refusal) → IsTold (refused refusal) status (over b c) → Answers hosts command before now status (over a c)
+  refusal_answers : (refusal : Refusal) → r ≡ Err (Refused refusal) → IsTold (refused refusal) status (over b c) → Answers hosts name command before now status (over a c)
   refusal_answers refusal is told =
-      let (comes, pending) = subst (λ (x : Result Ending Stop). Answered (ComesTo hosts before now (start w a) command) x (over a b)) is answer.answered in
+      let (comes, pending) = subst (λ (x : Result Ending Stop). Answered (ComesTo hosts name before now (start w a) command) x (over a b)) is answer.answered in
       tells comes (told_on q w a b pending (refused refusal) status c tt told)
 
   pub keeps_both : KeepsFiles (over a b) → KeepsFiles (over b c) → KeepsFiles (over a c)
   keeps_both first second = record { files = λ t f. second.files t f ∙ first.files t f; device = second.device ∙ first.device }
 
-  pub concluded : ((refusal : Refusal) → r ≡ Err (Refused refusal) → IsTold (refused refusal) status (over b c)) → (IsConcluded r → status ≡ number_of r) → (IsConcluded r → c ≡ b) → Answers hosts command before now status (over a c)
+  pub concluded : ((refusal : Refusal) → r ≡ Err (Refused refusal) → IsTold (refused refusal) status (over b c)) → (IsConcluded r → status ≡ number_of r) → (IsConcluded r → c ≡ b) → Answers hosts name command before now status (over a c)
   concluded told number same =
       ⊎_elim
-      (λ is. subst (λ (x : D). Answers hosts command before now status (over a x)) (sym (same is))
-      (subst (λ (n : ℕ). Answers hosts command before now n (over a b)) (sym (number is)) (told_answer hosts command before now r (over a b) is answer)))
+      (λ is. subst (λ (x : D). Answers hosts name command before now status (over a x)) (sym (same is))
+      (subst (λ (n : ℕ). Answers hosts name command before now n (over a b)) (sym (number is)) (told_answer hosts name command before now r (over a b) is answer)))
       (λ (refusal, is). refusal_answers refusal is (told refusal is))
       (concluded_or_refused r)

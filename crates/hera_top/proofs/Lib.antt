@@ -1,4 +1,5 @@
 mod Answering
+mod Guarding
 mod Distinct
 mod Drilled
 mod Dumped
@@ -12,4 +13,6 @@ mod Complete
 mod Covered
 mod Evaluated
 mod OneOutcome
+mod OneGuarded
+mod OneComes
 mod Wholes

@@ -1,5 +1,5 @@
 -- A command comes to one outcome for a script and what the files hold.
-use Rattle.std.proofs.Common.{◌≡◌, ◌≢◌, ◌≤◌, ◌<◌, ◌⊎◌, inl, inr, ℕ, Bool, true, false, List, [], length, Option, Some, refl, sym, ap, ◌∙◌, subst, arith}
+use Rattle.std.proofs.Common.{◌≡◌, ◌≢◌, ◌≤◌, ◌<◌, ◌⊎◌, inl, inr, ℕ, Bool, true, false, List, [], ◌∷◌, length, Some, None, refl, sym, ap, ◌∙◌, subst, arith}
 use Rattle.hera_meaning.specs.declared.schemas.RelDecl.{RelDecl}
 use Rattle.hera_meaning.specs.Deltas.{State}
 use Rattle.hera_meaning.specs.Run.{run_of}
@@ -25,18 +25,21 @@ use Rattle.hera_meaning.specs.Wider.{Wider, first_narrowed}
 use Rattle.hera_meaning.proofs.WiderLaws.{wider_narrows_none}
 use Rattle.std.proofs.lemmas.Option.{none-some, same_Some}
 use Rattle.hera_outcome.specs.declared.refusal.Refusal.{Refusal}
-use Rattle.hera_outcome.specs.declared.refusal.Refusal.TheVariants.{Unread, Script, Damaged, Differing, Narrows}
+use Rattle.hera_outcome.specs.declared.refusal.Refusal.TheVariants.{Unread, Script, Damaged, Differing, Narrows, Record as bad_record}
 use Rattle.hera_outcome.specs.Outcomes.{Outcome, refused, prints, renewed, widened, too_long, carried, full}
 use Rattle.hera_outcome.specs.Passages.{Start}
 use Rattle.hera_run.specs.Folder.{IsThere, IsClosed, finds_none, finds_damage, IsReplaced, StartsAt, Overfills, IsStarting, IsOverfull, outcome_from, RunsTo, closed as run_closed, differs, overflows as run_overflows, runs as run_runs}
+use Rattle.hera_row.specs.Numbers.{number_named}
+use Rattle.hera_csv.specs.Records.{records_of, bad_in}
+use Rattle.hera_csv.specs.Writers.{csv_of}
+use Rattle.hera_meaning.specs.Deltas.{schema_of, rows_at}
+use Rattle.hera_transfer.specs.Transfers.{data_limit, ExportsTo, shut, unknown, writes, IsGood, import_of, ImportsTo, closed as import_closed, lacks as import_lacks, refuses as import_refuses, overflows as import_overflows, imports}
 use Rattle.hera_words.specs.declared.command.Command.{Command}
-use Rattle.hera_words.specs.declared.command.Command.TheVariants.{Check, List as list_command, Eval, Drill, Init, Run, Dump, Checkpoint, Widen}
 use Rattle.hera_words.specs.Words.{form_of}
-use Rattle.hera_top.specs.Commands.{Performs, checks, lists, evaluates, makes, widens, runs, IsVacant, IsTaken, IsMade, is_made, is_taken, IsWidened, is_shut, is_narrowed, is_wide, is_too_wide, ComesToFor, refuses, performs, Finds, closed, dumps, renews, overflows, tables_text, ReadsScript, LooksAlone, IsRead, ComesTo, unread, reads, drills, looks}
-use Rattle.hera_top.specs.Drill.{drill_text, drill_turns}
+use Rattle.hera_top.specs.Commands.{Performs, checks, lists, evaluates, makes, widens, runs, IsVacant, IsTaken, IsMade, is_made, is_taken, IsWidened, is_shut, is_narrowed, is_wide, is_too_wide, ComesToFor, refuses, performs, Finds, closed, dumps, renews, overflows, tables_text, OfScript, unread, reads, OfFile, misses, is_too_much, takes}
 use Rattle.hera_top.specs.Sources.{Seen}
-use Rattle.hera_top.specs.Told.{BeginsWith}
-use Rattle.hera_top.proofs.Wholes.{told_outcome}
+use Rattle.hera_top.specs.Told.{HaveLeft}
+use Rattle.hera_top.proofs.Wholes.{told_outcome, whole_text, long_text}
 
 -- files hold one thing
 abbrev pub OneFound : Type 0
@@ -53,14 +56,14 @@ OneVersion = (v : Version) (bytes : List ℕ) (rels : List RelDecl) (state : Sta
 -- ---- the binding
 
 -- the first relation that a catalogue lacks is one
-differs_one : (catalogue own : List RelDecl) (a b : List ℕ) → Differs catalogue own a → Differs catalogue own b → a ≡ b
+pub differs_one : (catalogue own : List RelDecl) (a b : List ℕ) → Differs catalogue own a → Differs catalogue own b → a ≡ b
 differs_one catalogue _ _ _ (differs_here lacks) (differs_here also) = refl
 differs_one catalogue _ _ _ (differs_here lacks) (differs_later has rest) = absurd (lacks has.0 has.1 has.2 has.3 has.4)
 differs_one catalogue _ _ _ (differs_later has rest) (differs_here lacks) = absurd (lacks has.0 has.1 has.2 has.3 has.4)
 differs_one catalogue _ _ _ (differs_later has first) (differs_later also second) = differs_one catalogue _ _ _ first second
 
 -- a catalogue that has all lacks none
-lacks_none : (catalogue own : List RelDecl) (name : List ℕ) → Differs catalogue own name → AllHas catalogue own → ⊥
+pub lacks_none : (catalogue own : List RelDecl) (name : List ℕ) → Differs catalogue own name → AllHas catalogue own → ⊥
 lacks_none catalogue _ _ (differs_here lacks) given = let has = given.0 in lacks has.0 has.1 has.2 has.3 has.4
 lacks_none catalogue _ _ (differs_later has rest) given = lacks_none catalogue _ _ rest given.1
 
@@ -84,7 +87,7 @@ module _ (one : OneEnd) (version : OneVersion) (files : FileId → List ℕ) (db
       by (inr a) (inl b) = absurd (never_both version (files first.half) db.catalogue db.catalogue db.state db.state a.old b.half)
       by (inr a) (inr b) = omega (arith, a.place, b.place)
 
-  gate_same : (gate next : ℕ) → StartsAt files db gate → StartsAt files db next → gate ≡ next
+  pub gate_same : (gate next : ℕ) → StartsAt files db gate → StartsAt files db next → gate ≡ next
   gate_same gate next first second =
       let half : second.half ≡ first.half = names_one (files Select) second.half first.half second.named first.named in
       gate_from gate next first (subst (λ (f : FileId). IsHalfTo (format_of Two) (files f) db.catalogue db.state next ⊎ IsReplaced (files f) db next) half second.starts)
@@ -97,7 +100,7 @@ module _ (one : OneEnd) (version : OneVersion) (files : FileId → List ℕ) (db
       by (inl a) = never_both version (files first.half) db.catalogue db.catalogue db.state db.state old a.half
       by (inr a) = omega (arith, a.fits, past)
 
-  full_or_starts : (gate : ℕ) → Overfills files db → StartsAt files db gate → ⊥
+  pub full_or_starts : (gate : ℕ) → Overfills files db → StartsAt files db gate → ⊥
   full_or_starts gate over starts =
       let half : over.half ≡ starts.half = names_one (files Select) over.half starts.half over.named starts.named in
       full_from gate starts (subst (λ (f : FileId). IsHalf (format_of One) (files f) db.catalogue db.state) half over.old) over.past
@@ -113,7 +116,7 @@ NeverBoth = (hosts : List Host) (script : List ℕ) (p : Program_tree) (c : Caus
 abbrev pub OneProgram : Type 0
 OneProgram = (hosts : List Host) (script : List ℕ) (p q : Program_tree) → Accepted script hosts p → Accepted script hosts q → p ≡ q
 
-same_refusal : (c d : Cause) (a b : ℕ) → (c ≡ d) × (a ≡ b) → refused (Script c a) ≡ refused (Script d b)
+pub same_refusal : (c d : Cause) (a b : ℕ) → (c ≡ d) × (a ≡ b) → refused (Script c a) ≡ refused (Script d b)
 same_refusal c d a b (cause, at) = ap (λ (x : Cause). refused (Script x a)) cause ∙ ap (λ (n : ℕ). refused (Script d n)) at
 
 -- what is done with a program decides
@@ -142,6 +145,17 @@ pub one_apart : OneRefusal → NeverBoth → OneProgram → (hosts : List Host) 
     → ComesToFor hosts script s command a → ComesToFor hosts script t command b → a ≡ b
 one_apart one never program hosts command script s t a b none x y = one_for one never program hosts command script s t (λ p. done_apart hosts p s t command none) a b x y
 
+-- ---- texts
+
+-- the text of the first source
+abbrev pub first_text : List (List ℕ) → List ℕ
+first_text [] = []
+first_text (text ∷ texts) = text
+
+told_text : (b : Seen) (texts : List (List ℕ)) → HaveLeft texts (b ∷ []) → b.left ≡ Some (first_text texts)
+told_text b [] told = absurd told
+told_text b (text ∷ texts) told = told.0
+
 -- ---- folders
 
 module _ (one : OneFound) (end : OneEnd) (version : OneVersion) (files : FileId → List ℕ) (s t : Start) (told : s.told) (also : t.told) (first : (f : FileId) → (s.disks f).bytes ≡ files f) (second : (f : FileId) → (t.disks f).bytes ≡ files f) where
@@ -154,7 +168,7 @@ module _ (one : OneFound) (end : OneEnd) (version : OneVersion) (files : FileId 
   both : (x y : FilesFound) → IsThere s x → IsThere t y → x ≡ y
   both x y here there = one files x y (subst (λ (g : FileId → List ℕ). IsFound g x) read_first (here told)) (subst (λ (g : FileId → List ℕ). IsFound g y) read_second (there also))
 
-  same_db : (db other : Database) → IsThere s (held db) → IsThere t (held other) → db ≡ other
+  pub same_db : (db other : Database) → IsThere s (held db) → IsThere t (held other) → db ≡ other
   same_db db other x y = let is = both (held db) (held other) x y in cc (is)
 
   same_damage : (f g : FileId) (a b : ℕ) → spoilt f a ≡ spoilt g b → refused (Damaged f a) ≡ refused (Damaged g b)
@@ -163,30 +177,30 @@ module _ (one : OneFound) (end : OneEnd) (version : OneVersion) (files : FileId 
       let place : a ≡ b = cc (is) in
       ap (λ (h : FileId). refused (Damaged h a)) file ∙ ap (λ (n : ℕ). refused (Damaged g n)) place
 
-  one_closed : (a b : Refusal) → IsClosed s a → IsClosed t b → refused a ≡ refused b
+  pub one_closed : (a b : Refusal) → IsClosed s a → IsClosed t b → refused a ≡ refused b
   one_closed _ _ (finds_none x) (finds_none y) = refl
   one_closed _ _ (finds_none x) (finds_damage {file = f} {at = n} y) = let is = both absent (spoilt f n) x y in absurd (cc (is))
   one_closed _ _ (finds_damage {file = f} {at = n} x) (finds_none y) = let is = both (spoilt f n) absent x y in absurd (cc (is))
   one_closed _ _ (finds_damage {file = f} {at = n} x) (finds_damage {file = g} {at = m} y) = same_damage f g n m (both (spoilt f n) (spoilt g m) x y)
 
-  closed_or_held : (r : Refusal) (db : Database) → IsClosed s r → IsThere t (held db) → ⊥
+  pub closed_or_held : (r : Refusal) (db : Database) → IsClosed s r → IsThere t (held db) → ⊥
   closed_or_held _ db (finds_none x) y = let is = both absent (held db) x y in cc (is)
   closed_or_held _ db (finds_damage {file = f} {at = n} x) y = let is = both (spoilt f n) (held db) x y in cc (is)
 
-  held_or_closed : (db : Database) (r : Refusal) → IsThere s (held db) → IsClosed t r → ⊥
+  pub held_or_closed : (db : Database) (r : Refusal) → IsThere s (held db) → IsClosed t r → ⊥
   held_or_closed db _ x (finds_none y) = let is = both (held db) absent x y in cc (is)
   held_or_closed db _ x (finds_damage {file = f} {at = n} y) = let is = both (held db) (spoilt f n) x y in cc (is)
 
-  starts_first : (db : Database) (gate : ℕ) → IsStarting s db gate → StartsAt files db gate
+  pub starts_first : (db : Database) (gate : ℕ) → IsStarting s db gate → StartsAt files db gate
   starts_first db gate starts = subst (λ (g : FileId → List ℕ). StartsAt g db gate) read_first (starts told)
 
-  starts_second : (db : Database) (gate : ℕ) → IsStarting t db gate → StartsAt files db gate
+  pub starts_second : (db : Database) (gate : ℕ) → IsStarting t db gate → StartsAt files db gate
   starts_second db gate starts = subst (λ (g : FileId → List ℕ). StartsAt g db gate) read_second (starts also)
 
-  full_first : (db : Database) → IsOverfull s db → Overfills files db
+  pub full_first : (db : Database) → IsOverfull s db → Overfills files db
   full_first db over = subst (λ (g : FileId → List ℕ). Overfills g db) read_first (over told)
 
-  full_second : (db : Database) → IsOverfull t db → Overfills files db
+  pub full_second : (db : Database) → IsOverfull t db → Overfills files db
   full_second db over = subst (λ (g : FileId → List ℕ). Overfills g db) read_second (over also)
 
   module _ (hosts : List Host) (turns : ℕ) (p : Program_tree) where
@@ -279,7 +293,75 @@ module _ (one : OneFound) (end : OneEnd) (version : OneVersion) (files : FileId 
       let here : half_limit < length (half_with db) = subst (λ (d : Database). half_limit < length (half_with d)) (sym same) long in
       omega arith
 
-  one_found : (command : Command) (a b : Outcome) → Finds s command a → Finds t command b → a ≡ b
+  -- ---- relations by their names
+
+  module _ (name : List ℕ) where
+    named_or_none : (db other : Database) (rel : ℕ) → db ≡ other → number_named name db.catalogue ≡ Some rel → number_named name other.catalogue ≡ None → ⊥
+    named_or_none db other rel same named none = none-some rel (sym none ∙ subst (λ (d : Database). number_named name d.catalogue ≡ Some rel) same named)
+
+    same_number : (db other : Database) (rel number : ℕ) → db ≡ other → number_named name db.catalogue ≡ Some rel → number_named name other.catalogue ≡ Some number → rel ≡ number
+    same_number db other rel number same named also = same_Some rel number (sym (subst (λ (d : Database). number_named name d.catalogue ≡ Some rel) same named) ∙ also)
+
+    same_text : (db other : Database) (rel number : ℕ) → db ≡ other → rel ≡ number → prints (csv_of (schema_of db.catalogue rel) (rows_at db.state rel)) ≡ prints (csv_of (schema_of other.catalogue number) (rows_at other.state number))
+    same_text db other rel number same is =
+        ap (λ (d : Database). prints (csv_of (schema_of d.catalogue rel) (rows_at d.state rel))) same ∙ ap (λ (n : ℕ). prints (csv_of (schema_of other.catalogue n) (rows_at other.state n))) is
+
+    pub one_exported : (a b : Outcome) → ExportsTo name s a → ExportsTo name t b → a ≡ b
+    one_exported _ _ (shut {refusal = r} x) (shut {refusal = q} y) = one_closed r q x y
+    one_exported _ _ (shut {refusal = r} x) (unknown {db = db} y none) = absurd (closed_or_held r db x y)
+    one_exported _ _ (shut {refusal = r} x) (writes {db = db} y named) = absurd (closed_or_held r db x y)
+    one_exported _ _ (unknown {db = db} x none) (shut {refusal = r} y) = absurd (held_or_closed db r x y)
+    one_exported _ _ (unknown {db = db} x none) (unknown {db = other} y nothing) = refl
+    one_exported _ _ (unknown {db = db} x none) (writes {db = other} {rel = n} y named) = absurd (named_or_none other db n (sym (same_db db other x y)) named none)
+    one_exported _ _ (writes {db = db} {rel = m} x named) (shut {refusal = r} y) = absurd (held_or_closed db r x y)
+    one_exported _ _ (writes {db = db} {rel = m} x named) (unknown {db = other} y none) = absurd (named_or_none db other m (same_db db other x y) named none)
+    one_exported _ _ (writes {db = db} {rel = m} x named) (writes {db = other} {rel = n} y also) =
+        let same = same_db db other x y in
+        same_text db other m n same (same_number db other m n same named also)
+
+    module _ (file : List ℕ) where
+      same_bad : (db other : Database) (rel number : ℕ) → db ≡ other → number_named name db.catalogue ≡ Some rel → number_named name other.catalogue ≡ Some number → bad_in (schema_of db.catalogue rel) (records_of file) ≡ bad_in (schema_of other.catalogue number) (records_of file)
+      same_bad db other rel number same named also =
+          ap (λ (d : Database). bad_in (schema_of d.catalogue rel) (records_of file)) same
+          ∙ ap (λ (n : ℕ). bad_in (schema_of other.catalogue n) (records_of file)) (same_number db other rel number same named also)
+
+      bad_or_good : (db other : Database) (rel number at : ℕ) → db ≡ other → number_named name db.catalogue ≡ Some rel → bad_in (schema_of db.catalogue rel) (records_of file) ≡ Some at → IsGood other name file number → ⊥
+      bad_or_good db other rel number at same named bad good = none-some at (sym good.good ∙ sym (same_bad db other rel number same named good.named) ∙ bad)
+
+      same_import : (db other : Database) (rel number gate next : ℕ) → db ≡ other → rel ≡ number → gate ≡ next → outcome_from db gate (import_of db rel file) ≡ outcome_from other next (import_of other number file)
+      same_import db other rel number gate next same is place =
+          ap (λ (d : Database). outcome_from d gate (import_of d rel file)) same
+          ∙ ap (λ (n : ℕ). outcome_from other gate (import_of other n file)) is
+          ∙ ap (λ (n : ℕ). outcome_from other n (import_of other number file)) place
+
+      one_imported : (a b : Outcome) → ImportsTo name file s a → ImportsTo name file t b → a ≡ b
+      one_imported _ _ (import_closed {refusal = r} x) (import_closed {refusal = q} y) = one_closed r q x y
+      one_imported _ _ (import_closed {refusal = r} x) (import_lacks {db = other} y nothing) = absurd (closed_or_held r other x y)
+      one_imported _ _ (import_closed {refusal = r} x) (import_refuses {db = other} {rel = n} {number = j} y also worse) = absurd (closed_or_held r other x y)
+      one_imported _ _ (import_closed {refusal = r} x) (import_overflows {db = other} {rel = n} y fine over) = absurd (closed_or_held r other x y)
+      one_imported _ _ (import_closed {refusal = r} x) (imports {db = other} {rel = n} {gate = h} y fine ends) = absurd (closed_or_held r other x y)
+      one_imported _ _ (import_lacks {db = db} x none) (import_closed {refusal = q} y) = absurd (held_or_closed db q x y)
+      one_imported _ _ (import_lacks {db = db} x none) (import_lacks {db = other} y nothing) = refl
+      one_imported _ _ (import_lacks {db = db} x none) (import_refuses {db = other} {rel = n} {number = j} y also worse) = absurd (named_or_none other db n (sym (same_db db other x y)) also none)
+      one_imported _ _ (import_lacks {db = db} x none) (import_overflows {db = other} {rel = n} y fine over) = absurd (named_or_none other db n (sym (same_db db other x y)) fine.named none)
+      one_imported _ _ (import_lacks {db = db} x none) (imports {db = other} {rel = n} {gate = h} y fine ends) = absurd (named_or_none other db n (sym (same_db db other x y)) fine.named none)
+      one_imported _ _ (import_refuses {db = db} {rel = m} {number = i} x named bad) (import_closed {refusal = q} y) = absurd (held_or_closed db q x y)
+      one_imported _ _ (import_refuses {db = db} {rel = m} {number = i} x named bad) (import_lacks {db = other} y nothing) = absurd (named_or_none db other m (same_db db other x y) named nothing)
+      one_imported _ _ (import_refuses {db = db} {rel = m} {number = i} x named bad) (import_refuses {db = other} {rel = n} {number = j} y also worse) = ap (λ (k : ℕ). refused (bad_record k)) (same_Some i j (sym bad ∙ same_bad db other m n (same_db db other x y) named also ∙ worse))
+      one_imported _ _ (import_refuses {db = db} {rel = m} {number = i} x named bad) (import_overflows {db = other} {rel = n} y fine over) = absurd (bad_or_good db other m n i (same_db db other x y) named bad fine)
+      one_imported _ _ (import_refuses {db = db} {rel = m} {number = i} x named bad) (imports {db = other} {rel = n} {gate = h} y fine ends) = absurd (bad_or_good db other m n i (same_db db other x y) named bad fine)
+      one_imported _ _ (import_overflows {db = db} {rel = m} x good past) (import_closed {refusal = q} y) = absurd (held_or_closed db q x y)
+      one_imported _ _ (import_overflows {db = db} {rel = m} x good past) (import_lacks {db = other} y nothing) = absurd (named_or_none db other m (same_db db other x y) good.named nothing)
+      one_imported _ _ (import_overflows {db = db} {rel = m} x good past) (import_refuses {db = other} {rel = n} {number = j} y also worse) = absurd (bad_or_good other db n m j (sym (same_db db other x y)) also worse good)
+      one_imported _ _ (import_overflows {db = db} {rel = m} x good past) (import_overflows {db = other} {rel = n} y fine over) = ap (λ (d : Database). carried d [] full) (same_db db other x y)
+      one_imported _ _ (import_overflows {db = db} {rel = m} x good past) (imports {db = other} {rel = n} {gate = h} y fine ends) = absurd (full_or_starts end version files db h (full_first db past) (subst (λ (d : Database). StartsAt files d h) (sym (same_db db other x y)) (starts_second other h ends)))
+      one_imported _ _ (imports {db = db} {rel = m} {gate = g} x good starts) (import_closed {refusal = q} y) = absurd (held_or_closed db q x y)
+      one_imported _ _ (imports {db = db} {rel = m} {gate = g} x good starts) (import_lacks {db = other} y nothing) = absurd (named_or_none db other m (same_db db other x y) good.named nothing)
+      one_imported _ _ (imports {db = db} {rel = m} {gate = g} x good starts) (import_refuses {db = other} {rel = n} {number = j} y also worse) = absurd (bad_or_good other db n m j (sym (same_db db other x y)) also worse good)
+      one_imported _ _ (imports {db = db} {rel = m} {gate = g} x good starts) (import_overflows {db = other} {rel = n} y fine over) = absurd (full_or_starts end version files other g (full_second other over) (subst (λ (d : Database). StartsAt files d g) (same_db db other x y) (starts_first db g starts)))
+      one_imported _ _ (imports {db = db} {rel = m} {gate = g} x good starts) (imports {db = other} {rel = n} {gate = h} y fine ends) = let same = same_db db other x y in same_import db other m n g h same (same_number db other m n same good.named fine.named) (gate_same end version files db g h (starts_first db g starts) (subst (λ (d : Database). StartsAt files d h) (sym same) (starts_second other h ends)))
+
+  pub one_found : (command : Command) (a b : Outcome) → Finds s command a → Finds t command b → a ≡ b
   one_found command _ _ (closed {refusal = r} x) (closed {refusal = q} y) = one_closed r q x y
   one_found _ _ _ (closed {refusal = r} x) (dumps {db = db} y) = absurd (closed_or_held r db x y)
   one_found _ _ _ (closed {refusal = r} x) (renews {db = db} y short) = absurd (closed_or_held r db x y)
@@ -293,50 +375,30 @@ module _ (one : OneFound) (end : OneEnd) (version : OneVersion) (files : FileId 
   one_found _ _ _ (overflows {db = db} x long) (renews {db = other} y short) = absurd (fits_or_not other db (sym (same_db db other x y)) short long)
   one_found _ _ _ (overflows {db = db} x long) (overflows {db = other} y too) = ap too_long (same_db db other x y)
 
--- ---- commands
+  -- ---- sources
 
-reads_or_looks : (command : Command) → ReadsScript command → LooksAlone command → ⊥
-reads_or_looks Check reads_one alone = alone
-reads_or_looks list_command reads_one alone = alone
-reads_or_looks (Eval turns) reads_one alone = alone
-reads_or_looks (Drill rows) reads_one alone = alone
-reads_or_looks Init reads_one alone = alone
-reads_or_looks Widen reads_one alone = alone
-reads_or_looks (Run turns) reads_one alone = alone
-reads_or_looks Dump reads_one alone = reads_one
-reads_or_looks Checkpoint reads_one alone = reads_one
+  pub one_of_file : (name : List ℕ) (texts : List (List ℕ)) (before now later after : List Seen) (a b : Outcome) → HaveLeft texts before → HaveLeft texts later → OfFile name s before now a → OfFile name t later after b → a ≢ refused Unread → b ≢ refused Unread → a ≡ b
+  one_of_file name texts _ _ _ _ _ b x y (misses is) second_one not_a not_b = absurd (not_a refl)
+  one_of_file name texts _ _ _ _ _ _ x y (is_too_much file read long) (misses is) not_a not_b = absurd (not_b refl)
+  one_of_file name texts _ _ _ _ _ _ x y (is_too_much file read long) (is_too_much other_file also_read past) not_a not_b = refl
+  one_of_file name texts _ _ _ _ _ _ x y (is_too_much {b = p} {n = q} file read long) (takes {b = m} {n = k} other_file also_read short came) not_a not_b =
+      let over = long_text data_limit (first_text texts) file p q (told_text p texts x) read long in
+      let whole = ap length (whole_text data_limit (first_text texts) other_file m k (told_text m texts y) also_read short) in
+      absurd (omega (arith, over, whole, short))
+  one_of_file name texts _ _ _ _ a _ x y (takes file read short came) (misses is) not_a not_b = absurd (not_b refl)
+  one_of_file name texts _ _ _ _ a _ x y (takes {b = p} {n = q} file read short came) (is_too_much {b = m} {n = k} other_file also_read long) not_a not_b =
+      let over = long_text data_limit (first_text texts) other_file m k (told_text m texts y) also_read long in
+      let whole = ap length (whole_text data_limit (first_text texts) file p q (told_text p texts x) read short) in
+      absurd (omega (arith, over, whole, short))
+  one_of_file name texts _ _ _ _ a b x y (takes {b = p} {n = q} file read short came) (takes {b = m} {n = k} other_file also_read fits too) not_a not_b =
+      let here = whole_text data_limit (first_text texts) file p q (told_text p texts x) read short in
+      let there = whole_text data_limit (first_text texts) other_file m k (told_text m texts y) also_read fits in
+      one_imported name file a b came (subst (λ (l : List ℕ). ImportsTo name l t b) (sym there ∙ here) too)
 
-drill_reads : (command : Command) (rows : ℕ) → command ≡ Drill rows → ReadsScript command → ⊥
-drill_reads command rows is reads_one = subst ReadsScript is reads_one
-
-drill_looks : (command : Command) (rows : ℕ) → command ≡ Drill rows → LooksAlone command → ⊥
-drill_looks command rows is alone = subst LooksAlone is alone
-
-whole_for : (hosts : List Host) (command : Command) (script bytes : List ℕ) (before now : Seen) (s : Start) (o : Outcome) → before.left ≡ Some script → IsRead before.left now.left bytes → ComesToFor hosts bytes s command o → ComesToFor hosts script s command o
-whole_for hosts command script bytes before now s o is read came = told_outcome hosts command script bytes now.left s o (subst (λ (l : Option (List ℕ)). IsRead l now.left bytes) is read) came
-
-pub one_comes : OneRefusal → NeverBoth → OneProgram → OneFound → OneEnd → OneVersion
-    → (hosts : List Host) (command : Command) (script : List ℕ) (files : FileId → List ℕ) (before now later after : Seen) (s t : Start) (a b : Outcome)
-    → BeginsWith command script files before s → BeginsWith command script files later t → ComesTo hosts before now s command a → ComesTo hosts later after t command b
-    → a ≢ refused Unread → b ≢ refused Unread → a ≡ b
-one_comes one never program found end version hosts command script files before now later after s t _ b x y (unread reads_one is) second not_a not_b = absurd (not_a refl)
-one_comes one never program found end version hosts command script files before now later after s t a _ x y (reads reads_one bytes read still came) (unread also is) not_a not_b = absurd (not_b refl)
-one_comes one never program found end version hosts command script files before now later after s t a b x y (reads reads_one bytes read still came) (reads also others seen kept too) not_a not_b =
-    one_for one never program hosts command script s t (one_done found end version files s t x.files_told y.files_told x.reads y.reads hosts command) a b
-    (whole_for hosts command script bytes before now s a (x.script_told reads_one) read came) (whole_for hosts command script others later after t b (y.script_told also) seen too)
-one_comes one never program found end version hosts command script files before now later after s t a b x y (reads reads_one bytes read still came) (drills {rows} is too) not_a not_b = absurd (drill_reads command rows is reads_one)
-one_comes one never program found end version hosts command script files before now later after s t a b x y (reads reads_one bytes read still came) (looks alone too) not_a not_b = absurd (reads_or_looks command reads_one alone)
-one_comes one never program found end version hosts command script files before now later after s t a _ x y (drills {rows} is came) (unread also gone) not_a not_b = absurd (not_b refl)
-one_comes one never program found end version hosts command script files before now later after s t a b x y (drills {rows} is came) (reads also others seen kept too) not_a not_b = absurd (drill_reads command rows is also)
-one_comes one never program found end version hosts command script files before now later after s t a b x y (drills {rows} is came) (drills {rows = n} same too) not_a not_b =
-    let rows_same : rows ≡ n = drill_rows rows n (sym is ∙ same) in
-    one_apart one never program hosts (Eval drill_turns) (drill_text n) s t a b refl (subst (λ (k : ℕ). ComesToFor hosts (drill_text k) s (Eval drill_turns) a) rows_same came) too
-  where
-    drill_rows : (m k : ℕ) → Drill m ≡ Drill k → m ≡ k
-    drill_rows m k e = cc (e)
-one_comes one never program found end version hosts command script files before now later after s t a b x y (drills {rows} is came) (looks alone too) not_a not_b = absurd (drill_looks command rows is alone)
-one_comes one never program found end version hosts command script files before now later after s t a _ x y (looks alone came) (unread also gone) not_a not_b = absurd (not_b refl)
-one_comes one never program found end version hosts command script files before now later after s t a b x y (looks alone came) (reads also others seen kept too) not_a not_b = absurd (reads_or_looks command also alone)
-one_comes one never program found end version hosts command script files before now later after s t a b x y (looks alone came) (drills {rows} is too) not_a not_b = absurd (drill_looks command rows is alone)
-one_comes one never program found end version hosts command script files before now later after s t a b x y (looks alone came) (looks too_alone too) not_a not_b =
-    one_found found end version files s t x.files_told y.files_told x.reads y.reads command a b came too
+  pub one_of_script : OneRefusal → NeverBoth → OneProgram → (hosts : List Host) (command : Command) (texts : List (List ℕ)) (before now later after : List Seen) (a b : Outcome)
+      → HaveLeft texts before → HaveLeft texts later → OfScript hosts command s before now a → OfScript hosts command t later after b → a ≢ refused Unread → b ≢ refused Unread → a ≡ b
+  one_of_script refusal never program hosts command texts _ _ _ _ _ b x y (unread is) second_one not_a not_b = absurd (not_a refl)
+  one_of_script refusal never program hosts command texts _ _ _ _ a _ x y (reads script read came) (unread is) not_a not_b = absurd (not_b refl)
+  one_of_script refusal never program hosts command texts _ _ _ _ a b x y (reads {b = p} {n = q} script read came) (reads {b = m} {n = k} other_script also_read too) not_a not_b =
+      one_for refusal never program hosts command (first_text texts) s t (one_done hosts command) a b
+      (told_outcome hosts command (first_text texts) script p q s a (told_text p texts x) read came) (told_outcome hosts command (first_text texts) other_script m k t b (told_text m texts y) also_read too)

@@ -1,16 +1,23 @@
 -- What the statuses tell.
-use Rattle.std.proofs.Common.{◌≡◌, ◌≤◌, ℕ, ⊎_elim, inl, inr, ◌⊎◌, List, refl, sym, ◌∙◌, arith}
+use Rattle.std.proofs.Common.{◌≡◌, ◌≤◌, ℕ, Bool, true, false, cond, ⊎_elim, inl, inr, ◌⊎◌, List, Some, refl, sym, ◌∙◌, arith}
 use Rattle.hera_causes.specs.Causes.{Rose}
 use Rattle.hera_meaning.specs.Run.{Finish, finished, stopped, out_of_turns}
 use Rattle.hera_meaning.specs.Trees.{Program_tree}
 use Rattle.hera_host.specs.Tables.{Host}
-use Rattle.hera_outcome.specs.Outcomes.{Outcome, Ended, ends, full, status_of_finish, status_of_ended, status_of_outcome}
+use Rattle.hera_outcome.specs.Outcomes.{Outcome, Ended, ends, full, broken, status_of_finish, status_of_ended, status_of_outcome}
 use Rattle.hera_outcome.specs.Passages.{Passage, Start, start_of}
 use Rattle.hera_outcome.specs.Told.{IsTold}
 use Rattle.hera_run.specs.Folder.{finds_none, finds_damage, RunsTo, closed as run_closed, differs, overflows as run_overflows, runs as run_runs}
+use Rattle.hera_run.specs.Fitting.{all_fit}
+use Rattle.hera_transfer.specs.Transfers.{ExportsTo, shut, unknown, writes, import_of, ImportsTo, closed as import_closed, lacks, refuses as import_refuses, overflows as import_overflows, imports}
+use Rattle.hera_guard_lines.specs.declared.lines.GuardLine.{GuardLine}
+use Rattle.hera_guarded.specs.Guarding.{GuardsTo, barred, closed as guarded_closed, unfit, differs as guarded_differs, unknown as guarded_unknown, mismatched, overflows as guarded_overflows, runs as guarded_runs}
 use Rattle.hera_words.specs.declared.command.Command.{Command}
-use Rattle.hera_top.specs.Commands.{Performs, checks, lists, evaluates, makes, widens, runs, is_made, is_taken, is_shut, is_narrowed, is_wide, is_too_wide, ComesToFor, refuses, performs, Finds, closed, dumps, renews, overflows, ComesTo, unread, reads, drills, looks, Answers, tells, fails}
-use Rattle.hera_top.specs.Sources.{Seen}
+use Rattle.hera_words.specs.declared.command.Command.TheVariants.{Check, List as list_command, Eval, Drill, Init, Run, Dump, Checkpoint, Widen, Import, Export, Guard}
+use Rattle.hera_top.specs.Commands.{Performs, checks, lists, evaluates, makes, widens, runs, is_made, is_taken, is_shut, is_narrowed, is_wide, is_too_wide, ComesToFor, refuses, performs, Finds, closed, dumps, renews, overflows, OfScript, unread, reads, OfFile, misses, is_too_much, takes, ComesTo, Answers, tells, fails}
+use Rattle.hera_top.specs.Drill.{drill_text, drill_turns}
+use Rattle.hera_top.specs.Guarding.{misses_rules, refuses_rules, GuardsFor, refuses as guards_refuse, performs as guards_perform, misses_script, reads_script, OfRules, no_lines, has_lines}
+use Rattle.hera_top.specs.Sources.{Seen, OneFailed, this_failed, later_failed}
 
 -- the statuses of words, of files, of a source and of the output
 abbrev IsOdd : ℕ → Type 0
@@ -21,6 +28,9 @@ plain n two six seven eight odd = ⊎_elim two (λ more. ⊎_elim six (λ last. 
 
 plain_0 : IsOdd 0 → ⊥
 plain_0 odd = plain 0 (λ h. cc (h)) (λ h. cc (h)) (λ h. cc (h)) (λ h. cc (h)) odd
+
+plain_3 : IsOdd 3 → ⊥
+plain_3 odd = plain 3 (λ h. cc (h)) (λ h. cc (h)) (λ h. cc (h)) (λ h. cc (h)) odd
 
 plain_5 : IsOdd 5 → ⊥
 plain_5 odd = plain 5 (λ h. cc (h)) (λ h. cc (h)) (λ h. cc (h)) (λ h. cc (h)) odd
@@ -36,13 +46,14 @@ finish_plain out_of_turns odd = plain 4 (λ h. cc (h)) (λ h. cc (h)) (λ h. cc 
 ended_plain : (e : Ended) → IsOdd (status_of_ended e) → ⊥
 ended_plain (ends f) odd = finish_plain f odd
 ended_plain full odd = plain_10 odd
+ended_plain broken odd = plain 11 (λ h. cc (h)) (λ h. cc (h)) (λ h. cc (h)) (λ h. cc (h)) odd
 
 -- ---- outcomes
 
 run_plain : (hosts : List Host) (turns : ℕ) (p : Program_tree) (s : Start) (o : Outcome) → RunsTo hosts turns p s o → IsOdd (status_of_outcome o) → ⊥
 run_plain hosts turns p s _ (run_closed (finds_none there)) odd = plain_5 odd
 run_plain hosts turns p s _ (run_closed (finds_damage there)) odd = plain_5 odd
-run_plain hosts turns p s _ (differs there lacks) odd = plain_5 odd
+run_plain hosts turns p s _ (differs there first_one) odd = plain_5 odd
 run_plain hosts turns p s _ (run_overflows there over has) odd = plain_10 odd
 run_plain hosts turns p s _ (run_runs there starts has) odd = ended_plain _ odd
 
@@ -70,47 +81,104 @@ found_plain s _ _ (dumps there) odd = plain_0 odd
 found_plain s _ _ (renews there short) odd = plain_0 odd
 found_plain s _ _ (overflows there long) odd = plain_10 odd
 
--- an outcome of such a status is that the source failed
-pub comes_odd : (hosts : List Host) (before now : Seen) (s : Start) (command : Command) (o : Outcome) → ComesTo hosts before now s command o → IsOdd (status_of_outcome o) → (status_of_outcome o ≡ 7) × Rose before.faults now.faults
-comes_odd hosts before now s command _ (unread reads_one is) odd = (refl, is.rose)
-comes_odd hosts before now s command o (reads reads_one script read still came) odd = absurd (script_plain hosts script s command o came odd)
-comes_odd hosts before now s command o (drills {rows} is came) odd = absurd (script_plain hosts _ s _ o came odd)
-comes_odd hosts before now s command o (looks alone came) odd = absurd (found_plain s command o came odd)
+exported_plain : (name : List ℕ) (s : Start) (o : Outcome) → ExportsTo name s o → IsOdd (status_of_outcome o) → ⊥
+exported_plain name s _ (shut (finds_none there)) odd = plain_5 odd
+exported_plain name s _ (shut (finds_damage there)) odd = plain_5 odd
+exported_plain name s _ (unknown there none) odd = plain_5 odd
+exported_plain name s _ (writes there named) odd = plain_0 odd
+
+by_fit_plain : (b : Bool) → IsOdd (status_of_ended (cond b (ends finished) full)) → ⊥
+by_fit_plain true odd = plain_0 odd
+by_fit_plain false odd = plain_10 odd
+
+import_plain : (name file : List ℕ) (s : Start) (o : Outcome) → ImportsTo name file s o → IsOdd (status_of_outcome o) → ⊥
+import_plain name file s _ (import_closed (finds_none there)) odd = plain_5 odd
+import_plain name file s _ (import_closed (finds_damage there)) odd = plain_5 odd
+import_plain name file s _ (lacks there none) odd = plain_5 odd
+import_plain name file s _ (import_refuses there named bad) odd = plain 3 (λ h. cc (h)) (λ h. cc (h)) (λ h. cc (h)) (λ h. cc (h)) odd
+import_plain name file s _ (import_overflows there good over) odd = plain_10 odd
+import_plain name file s _ (imports {db} {rel} {gate} there good starts) odd = by_fit_plain (all_fit (Some gate) (import_of db rel file).events) odd
+
+guarded_plain : (hosts : List Host) (lines : List GuardLine) (turns : ℕ) (p : Program_tree) (s : Start) (o : Outcome) → GuardsTo hosts lines turns p s o → IsOdd (status_of_outcome o) → ⊥
+guarded_plain hosts lines turns p s _ (barred (guarded_closed (finds_none there))) odd = plain_5 odd
+guarded_plain hosts lines turns p s _ (barred (guarded_closed (finds_damage there))) odd = plain_5 odd
+guarded_plain hosts lines turns p s _ (barred (unfit there (guarded_differs first_one))) odd = plain_5 odd
+guarded_plain hosts lines turns p s _ (barred (unfit there (guarded_unknown has first))) odd = plain_3 odd
+guarded_plain hosts lines turns p s _ (barred (unfit there (mismatched has first))) odd = plain_3 odd
+guarded_plain hosts lines turns p s _ (guarded_overflows there over has mean) odd = plain_10 odd
+guarded_plain hosts lines turns p s _ (guarded_runs there starts has mean) odd = ended_plain _ odd
+
+guards_plain : (hosts : List Host) (lines : List GuardLine) (turns : ℕ) (script : List ℕ) (s : Start) (o : Outcome) → GuardsFor hosts lines turns script s o → IsOdd (status_of_outcome o) → ⊥
+guards_plain hosts lines turns script s _ (guards_refuse refusal) odd = plain_3 odd
+guards_plain hosts lines turns script s o (guards_perform {p = p} short accepted came) odd = guarded_plain hosts lines turns p s o came odd
+
+-- an outcome of such a status is that a source failed
+abbrev IsFailure : (before now : List Seen) → Outcome → Type 0
+IsFailure before now o = (status_of_outcome o ≡ 7) × OneFailed before now
+
+script_odd : (hosts : List Host) (command : Command) (s : Start) (before now : List Seen) (o : Outcome) → OfScript hosts command s before now o → IsOdd (status_of_outcome o) → IsFailure before now o
+script_odd hosts command s _ _ _ (unread is) odd = (refl, this_failed is.rose)
+script_odd hosts command s _ _ o (reads script read came) odd = absurd (script_plain hosts script s command o came odd)
+
+file_odd : (name : List ℕ) (s : Start) (before now : List Seen) (o : Outcome) → OfFile name s before now o → IsOdd (status_of_outcome o) → IsFailure before now o
+file_odd name s _ _ _ (misses is) odd = (refl, this_failed is.rose)
+file_odd name s _ _ _ (is_too_much file read long) odd = absurd (plain 3 (λ h. cc (h)) (λ h. cc (h)) (λ h. cc (h)) (λ h. cc (h)) odd)
+file_odd name s _ _ o (takes file read short came) odd = absurd (import_plain name file s o came odd)
+
+rules_odd : (hosts : List Host) (turns : ℕ) (s : Start) (before now : List Seen) (o : Outcome) → OfRules hosts turns s before now o → IsOdd (status_of_outcome o) → IsFailure before now o
+rules_odd hosts turns s _ _ _ (no_lines (misses_rules is)) odd = (refl, this_failed is.rose)
+rules_odd hosts turns s _ _ _ (no_lines (refuses_rules rules read refusal)) odd = absurd (plain_3 odd)
+rules_odd hosts turns s _ _ _ (has_lines are (misses_script is)) odd = (refl, later_failed (this_failed is.rose))
+rules_odd hosts turns s _ _ o (has_lines {lines = lines} are (reads_script script read came)) odd = absurd (guards_plain hosts lines turns script s o came odd)
+
+pub comes_odd : (hosts : List Host) (name : List ℕ) (before now : List Seen) (s : Start) (command : Command) (o : Outcome) → ComesTo hosts name before now s command o → IsOdd (status_of_outcome o) → IsFailure before now o
+comes_odd hosts name before now s Check o came odd = script_odd hosts Check s before now o came odd
+comes_odd hosts name before now s list_command o came odd = script_odd hosts list_command s before now o came odd
+comes_odd hosts name before now s (Eval turns) o came odd = script_odd hosts (Eval turns) s before now o came odd
+comes_odd hosts name before now s (Drill rows) o came odd = absurd (script_plain hosts (drill_text rows) s (Eval drill_turns) o came odd)
+comes_odd hosts name before now s Init o came odd = script_odd hosts Init s before now o came odd
+comes_odd hosts name before now s (Run turns) o came odd = script_odd hosts (Run turns) s before now o came odd
+comes_odd hosts name before now s Dump o came odd = absurd (found_plain s Dump o came odd)
+comes_odd hosts name before now s Checkpoint o came odd = absurd (found_plain s Checkpoint o came odd)
+comes_odd hosts name before now s Widen o came odd = script_odd hosts Widen s before now o came odd
+comes_odd hosts name before now s Import o came odd = file_odd name s before now o came odd
+comes_odd hosts name before now s Export o came odd = absurd (exported_plain name s o came odd)
+comes_odd hosts name before now s (Guard turns) o came odd = rules_odd hosts turns s before now o came odd
 
 -- ---- answers
 
-module _ (hosts : List Host) (before now : Seen) (command : Command) (status : ℕ) (v : Passage) where
-  pub no_usage : Answers hosts command before now status v → status ≡ 2 → ⊥
+module _ (hosts : List Host) (name : List ℕ) (before now : List Seen) (command : Command) (status : ℕ) (v : Passage) where
+  pub no_usage : Answers hosts name command before now status v → status ≡ 2 → ⊥
   no_usage (tells {outcome} comes told) is =
       ⊎_elim
-      (λ done. let seven = (comes_odd hosts before now (start_of v) command outcome comes (inl (sym done.own_status ∙ is))).0 in let bad : 2 ≡ 7 = sym is ∙ done.own_status ∙ seven in cc (bad))
+      (λ done. let seven = (comes_odd hosts name before now (start_of v) command outcome comes (inl (sym done.own_status ∙ is))).0 in let bad : 2 ≡ 7 = sym is ∙ done.own_status ∙ seven in cc (bad))
       (λ cut.
       ⊎_elim (λ six. let bad : 2 ≡ 6 = sym is ∙ six.0 in cc (bad)) (λ later. ⊎_elim (λ eight. let bad : 2 ≡ 8 = sym is ∙ eight.0 in cc (bad)) (λ nine. let bad : 2 ≡ 9 = sym is ∙ nine.0 in cc (bad)) later) cut.cause)
       told.ending
   no_usage (fails still up) is = ⊎_elim (λ six. let bad : 2 ≡ 6 = sym is ∙ six.0 in cc (bad)) (λ nine. let bad : 2 ≡ 9 = sym is ∙ nine.0 in cc (bad)) up.cause
 
-  pub device_rose : Answers hosts command before now status v → status ≡ 6 → Rose v.device_before v.device_now
+  pub device_rose : Answers hosts name command before now status v → status ≡ 6 → Rose v.device_before v.device_now
   device_rose (tells {outcome} comes told) is =
       ⊎_elim
-      (λ done. let seven = (comes_odd hosts before now (start_of v) command outcome comes (inr (inl (sym done.own_status ∙ is)))).0 in let bad : 6 ≡ 7 = sym is ∙ done.own_status ∙ seven in absurd (cc (bad)))
+      (λ done. let seven = (comes_odd hosts name before now (start_of v) command outcome comes (inr (inl (sym done.own_status ∙ is)))).0 in let bad : 6 ≡ 7 = sym is ∙ done.own_status ∙ seven in absurd (cc (bad)))
       (λ cut.
       ⊎_elim (λ six. six.1.rose) (λ later. ⊎_elim (λ eight. let bad : 6 ≡ 8 = sym is ∙ eight.0 in absurd (cc (bad))) (λ nine. let bad : 6 ≡ 9 = sym is ∙ nine.0 in absurd (cc (bad))) later) cut.cause)
       told.ending
   device_rose (fails still up) is = ⊎_elim (λ six. six.1.rose) (λ nine. let bad : 6 ≡ 9 = sym is ∙ nine.0 in absurd (cc (bad))) up.cause
 
-  pub output_rose : Answers hosts command before now status v → status ≡ 8 → Rose v.output_before v.output_now
+  pub output_rose : Answers hosts name command before now status v → status ≡ 8 → Rose v.output_before v.output_now
   output_rose (tells {outcome} comes told) is =
       ⊎_elim
-      (λ done. let seven = (comes_odd hosts before now (start_of v) command outcome comes (inr (inr (inr (sym done.own_status ∙ is))))).0 in let bad : 8 ≡ 7 = sym is ∙ done.own_status ∙ seven in absurd (cc (bad)))
+      (λ done. let seven = (comes_odd hosts name before now (start_of v) command outcome comes (inr (inr (inr (sym done.own_status ∙ is))))).0 in let bad : 8 ≡ 7 = sym is ∙ done.own_status ∙ seven in absurd (cc (bad)))
       (λ cut.
       ⊎_elim (λ six. let bad : 8 ≡ 6 = sym is ∙ six.0 in absurd (cc (bad))) (λ later. ⊎_elim (λ eight. eight.1.rose) (λ nine. let bad : 8 ≡ 9 = sym is ∙ nine.0 in absurd (cc (bad))) later) cut.cause)
       told.ending
   output_rose (fails still up) is = ⊎_elim (λ six. let bad : 8 ≡ 6 = sym is ∙ six.0 in absurd (cc (bad))) (λ nine. let bad : 8 ≡ 9 = sym is ∙ nine.0 in absurd (cc (bad))) up.cause
 
-  pub source_rose : Answers hosts command before now status v → status ≡ 7 → Rose before.faults now.faults
+  pub source_rose : Answers hosts name command before now status v → status ≡ 7 → OneFailed before now
   source_rose (tells {outcome} comes told) is =
       ⊎_elim
-      (λ done. (comes_odd hosts before now (start_of v) command outcome comes (inr (inr (inl (sym done.own_status ∙ is))))).1)
+      (λ done. (comes_odd hosts name before now (start_of v) command outcome comes (inr (inr (inl (sym done.own_status ∙ is))))).1)
       (λ cut.
       ⊎_elim (λ six. let bad : 7 ≡ 6 = sym is ∙ six.0 in absurd (cc (bad))) (λ later. ⊎_elim (λ eight. let bad : 7 ≡ 8 = sym is ∙ eight.0 in absurd (cc (bad))) (λ nine. let bad : 7 ≡ 9 = sym is ∙ nine.0 in absurd (cc (bad))) later) cut.cause)
       told.ending
@@ -126,13 +194,13 @@ told_output_later o status v told =
     ⊎_elim (λ done. let is = done.output in omega (arith, is))
     (λ cut. ⊎_elim (λ six. let is = six.2 in omega (arith, is)) (λ later. ⊎_elim (λ eight. eight.1.later) (λ nine. let is = nine.1 in omega (arith, is)) later) cut.cause) told.ending
 
-pub device_later : (hosts : List Host) (before now : Seen) (command : Command) (status : ℕ) (v : Passage) → Answers hosts command before now status v → v.device_before ≤ v.device_now
-device_later hosts before now command status v (tells {outcome} comes told) = told_device_later outcome status v told
-device_later hosts before now command status v (fails still up) = ⊎_elim (λ six. six.1.later) (λ nine. let is = nine.1 in omega (arith, is)) up.cause
+pub device_later : (hosts : List Host) (name : List ℕ) (before now : List Seen) (command : Command) (status : ℕ) (v : Passage) → Answers hosts name command before now status v → v.device_before ≤ v.device_now
+device_later hosts name before now command status v (tells {outcome} comes told) = told_device_later outcome status v told
+device_later hosts name before now command status v (fails still up) = ⊎_elim (λ six. six.1.later) (λ nine. let is = nine.1 in omega (arith, is)) up.cause
 
-pub output_later : (hosts : List Host) (before now : Seen) (command : Command) (status : ℕ) (v : Passage) → Answers hosts command before now status v → v.output_before ≤ v.output_now
-output_later hosts before now command status v (tells {outcome} comes told) = told_output_later outcome status v told
-output_later hosts before now command status v (fails still up) = let is = up.unseen.output in omega (arith, is)
+pub output_later : (hosts : List Host) (name : List ℕ) (before now : List Seen) (command : Command) (status : ℕ) (v : Passage) → Answers hosts name command before now status v → v.output_before ≤ v.output_now
+output_later hosts name before now command status v (tells {outcome} comes told) = told_output_later outcome status v told
+output_later hosts name before now command status v (fails still up) = let is = up.unseen.output in omega (arith, is)
 
 -- the words are refused
 pub usage_output_rose : (o : Outcome) (status : ℕ) (v : Passage) → status_of_outcome o ≡ 2 → IsTold o status v → status ≡ 8 → Rose v.output_before v.output_now

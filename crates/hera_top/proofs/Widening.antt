@@ -1,5 +1,5 @@
 -- A widening: the database before it, and the widened one.
-use Rattle.std.proofs.Common.{◌≡◌, ◌≤◌, ◌<◌, ◌⊎◌, ℕ, inl, inr, ⊎_elim, List, [], length, take, Option, Some, Result, Ok, Err, IfOk, refl, sym, ap, ◌∙◌, subst}
+use Rattle.std.proofs.Common.{◌≡◌, ◌≤◌, ◌<◌, ◌⊎◌, ℕ, inl, inr, List, [], length, take, Option, Some, Result, Ok, Err, IfOk, refl, sym, ap, ◌∙◌, subst}
 use Rattle.std.specs.Prelude.{codes}
 use Rattle.std.specs.Io.KnownBytes.{Appends, Keeps}
 use Rattle.std.proofs.KnownBytes.{Appends-nil}
@@ -24,7 +24,7 @@ use Rattle.hera_outcome.specs.declared.answer.Stop.{Stop}
 use Rattle.hera_outcome.specs.declared.answer.Stop.TheVariants.{Refused, Device, Output, Memory, Full}
 use Rattle.hera_outcome.specs.declared.refusal.Refusal.TheVariants.{Narrows}
 use Rattle.hera_outcome.specs.Answers.{number_of_ending}
-use Rattle.hera_outcome.specs.Outcomes.{widened, too_long, IsWidening, FilesAfter}
+use Rattle.hera_outcome.specs.Outcomes.{widened, too_long, IsWidening}
 use Rattle.hera_outcome.specs.Passages.{Passage, passage, start, start_of, LeavesOnceOpened, KeepsFiles, Stores, syncs_all}
 use Rattle.hera_outcome.specs.Told.{HasRisen, Says, IsTold, Answered}
 use Rattle.hera_outcome.proofs.Passing.{untouched_by, given_up_there}

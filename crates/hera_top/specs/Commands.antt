@@ -1,7 +1,5 @@
 -- What a command comes to, and how it answers.
-use Rattle.std.specs.Prelude.{◌≡◌, ◌≢◌, ◌≤◌, ◌<◌, ◌⊎◌, ◌++◌, ℕ, List, [], ◌∷◌, length, codes, Option, Some, Result, Err}
-use Rattle.std.specs.Io.KnownBytes.{Consumes, IsAtEnd}
-use Rattle.hera_causes.specs.Causes.{Rose}
+use Rattle.std.specs.Prelude.{◌≡◌, ◌≢◌, ◌≤◌, ◌<◌, ◌⊎◌, ◌++◌, ℕ, List, [], ◌∷◌, length, codes, Some, Result, Err}
 use Rattle.hera_meaning.specs.declared.schemas.RelDecl.{RelDecl}
 use Rattle.hera_meaning.specs.Deltas.{State}
 use Rattle.hera_meaning.specs.Wider.{Wider, first_narrowed}
@@ -15,6 +13,7 @@ use Rattle.hera_rules.specs.Accepted.{Accepted}
 use Rattle.rel_format.specs.Journal.{half_limit}
 use Rattle.rel_pages.specs.Stored.{empty_state}
 use Rattle.hera_script.specs.declared.cause.Cause.{Cause}
+use Rattle.hera_script.specs.declared.cause.Cause.TheVariants.{TooLong}
 use Rattle.hera_script.specs.Refusing.{IsRefused}
 use Rattle.hera_syntax.specs.Tokens.{script_limit}
 use Rattle.hera_store.specs.Databases.{Database, held}
@@ -30,10 +29,12 @@ use Rattle.hera_outcome.specs.Outcomes.{Outcome, refused, prints, ran, made, ren
 use Rattle.hera_outcome.specs.Passages.{Passage, Start, start_of, KeepsFiles}
 use Rattle.hera_outcome.specs.Told.{IsTold, IsGivenUp, Answered}
 use Rattle.hera_run.specs.Folder.{IsThere, IsClosed, RunsTo}
+use Rattle.hera_transfer.specs.Transfers.{data_limit, ExportsTo, ImportsTo}
 use Rattle.hera_words.specs.declared.command.Command.{Command}
-use Rattle.hera_words.specs.declared.command.Command.TheVariants.{Check, List as list_command, Eval, Drill, Init, Run, Dump, Checkpoint, Widen}
+use Rattle.hera_words.specs.declared.command.Command.TheVariants.{Check, List as list_command, Eval, Drill, Init, Run, Dump, Checkpoint, Widen, Import, Export, Guard}
 use Rattle.hera_top.specs.Drill.{drill_text, drill_turns}
-use Rattle.hera_top.specs.Sources.{Seen}
+use Rattle.hera_top.specs.Guarding.{OfRules}
+use Rattle.hera_top.specs.Sources.{Seen, IsRead, IsUnread, AreStill, AreLater, OneFailed}
 
 -- ---- with a program
 
@@ -87,9 +88,9 @@ pub data Finds (v : Start) : Command → Outcome → Type 0 where
   renews : {db : Database} → IsThere v (held db) → length (half_with db) ≤ half_limit → Finds v Checkpoint (renewed db)
   overflows : {db : Database} → IsThere v (held db) → half_limit < length (half_with db) → Finds v Checkpoint (too_long db)
 
--- ---- with a source
+-- ---- with sources
 
--- a command that reads a script from its source
+-- a command that reads one script
 abbrev pub ReadsScript : Command → Type 0
 ReadsScript Check = Unit {0}
 ReadsScript list_command = Unit {0}
@@ -100,50 +101,48 @@ ReadsScript (Run turns) = Unit {0}
 ReadsScript Dump = ⊥
 ReadsScript Checkpoint = ⊥
 ReadsScript Widen = Unit {0}
+ReadsScript Import = ⊥
+ReadsScript Export = ⊥
+ReadsScript (Guard turns) = ⊥
 
--- a command that looks at a folder alone
-abbrev pub LooksAlone : Command → Type 0
-LooksAlone Check = ⊥
-LooksAlone list_command = ⊥
-LooksAlone (Eval turns) = ⊥
-LooksAlone (Drill rows) = ⊥
-LooksAlone Init = ⊥
-LooksAlone (Run turns) = ⊥
-LooksAlone Dump = Unit {0}
-LooksAlone Checkpoint = Unit {0}
-LooksAlone Widen = ⊥
+-- what it comes to: its source fails, or it goes on with the script that came
+pub data OfScript (hosts : List Host) (command : Command) (v : Start) : (before now : List Seen) → Outcome → Type 0 where
+  unread : {b n : Seen} → IsUnread script_limit b n → OfScript hosts command v (b ∷ []) (n ∷ []) (refused Unread)
+  reads : {b n : Seen} {outcome : Outcome} (script : List ℕ) → IsRead script_limit b n script → ComesToFor hosts script v command outcome → OfScript hosts command v (b ∷ []) (n ∷ []) outcome
 
--- these bytes came from the source: all that was left, or more than the limit
-pub record IsRead (left_before left_now : Option (List ℕ)) (script : List ℕ) : Type 0 where
-  pub consumed : Consumes left_before left_now script
-  pub ended : IsAtEnd left_now ⊎ (script_limit < length script)
+-- what an import comes to: its source fails, the file that came is too long, or its rows go to the relation of this name
+pub data OfFile (name : List ℕ) (v : Start) : (before now : List Seen) → Outcome → Type 0 where
+  misses : {b n : Seen} → IsUnread data_limit b n → OfFile name v (b ∷ []) (n ∷ []) (refused Unread)
+  is_too_much : {b n : Seen} (file : List ℕ) → IsRead data_limit b n file → data_limit < length file → OfFile name v (b ∷ []) (n ∷ []) (refused (Script TooLong data_limit))
+  takes : {b n : Seen} {outcome : Outcome} (file : List ℕ) → IsRead data_limit b n file → length file ≤ data_limit → ImportsTo name file v outcome → OfFile name v (b ∷ []) (n ∷ []) outcome
 
--- the source failed before more than the limit came
-pub record IsUnread (before now : Seen) : Type 0 where
-  pub script : List ℕ
-  pub consumed : Consumes before.left now.left script
-  pub short : length script ≤ script_limit
-  pub rose : Rose before.faults now.faults
-
--- what a command comes to, the script before the folder; the drill's script is its own
-pub data ComesTo (hosts : List Host) (before now : Seen) (v : Start) (command : Command) : Outcome → Type 0 where
-  unread : ReadsScript command → IsUnread before now → ComesTo hosts before now v command (refused Unread)
-  reads : {outcome : Outcome} → ReadsScript command → (script : List ℕ) → IsRead before.left now.left script → now.faults ≡ before.faults → ComesToFor hosts script v command outcome
-      → ComesTo hosts before now v command outcome
-  drills : {rows : ℕ} {outcome : Outcome} → command ≡ Drill rows → ComesToFor hosts (drill_text rows) v (Eval drill_turns) outcome → ComesTo hosts before now v command outcome
-  looks : {outcome : Outcome} → LooksAlone command → Finds v command outcome → ComesTo hosts before now v command outcome
+-- what each command comes to, its sources before the folder; the drill's script is its own. The name is that of a relation,
+-- among the words.
+abbrev pub ComesTo : (hosts : List Host) (name : List ℕ) (before now : List Seen) (v : Start) → Command → Outcome → Type 0
+ComesTo hosts name before now v Check = OfScript hosts Check v before now
+ComesTo hosts name before now v list_command = OfScript hosts list_command v before now
+ComesTo hosts name before now v (Eval turns) = OfScript hosts (Eval turns) v before now
+ComesTo hosts name before now v (Drill rows) = ComesToFor hosts (drill_text rows) v (Eval drill_turns)
+ComesTo hosts name before now v Init = OfScript hosts Init v before now
+ComesTo hosts name before now v (Run turns) = OfScript hosts (Run turns) v before now
+ComesTo hosts name before now v Dump = Finds v Dump
+ComesTo hosts name before now v Checkpoint = Finds v Checkpoint
+ComesTo hosts name before now v Widen = OfScript hosts Widen v before now
+ComesTo hosts name before now v Import = OfFile name v before now
+ComesTo hosts name before now v Export = ExportsTo name v
+ComesTo hosts name before now v (Guard turns) = OfRules hosts turns v before now
 
 -- How a command answers: its outcome was told; or before it was known a call on a file failed, or there was no memory, and
 -- nothing was done that shows.
-pub data Answers (hosts : List Host) (command : Command) (before now : Seen) (status : ℕ) (v : Passage) : Type 0 where
-  tells : {outcome : Outcome} → ComesTo hosts before now (start_of v) command outcome → IsTold outcome status v → Answers hosts command before now status v
-  fails : now.faults ≡ before.faults → IsGivenUp status v → Answers hosts command before now status v
+pub data Answers (hosts : List Host) (name : List ℕ) (command : Command) (before now : List Seen) (status : ℕ) (v : Passage) : Type 0 where
+  tells : {outcome : Outcome} → ComesTo hosts name before now (start_of v) command outcome → IsTold outcome status v → Answers hosts name command before now status v
+  fails : AreStill before now → IsGivenUp status v → Answers hosts name command before now status v
 
--- the same of an answer whose refusal is still to be told; no fault of the source was counted but one that is refused
-pub record IsAnswered (hosts : List Host) (command : Command) (before now : Seen) (answer : Result Ending Stop) (v : Passage) : Type 0 where
-  pub answered : Answered (ComesTo hosts before now (start_of v) command) answer v
-  pub still : (now.faults ≡ before.faults) ⊎ ((answer ≡ Err (Refused Unread)) × Rose before.faults now.faults)
-  pub later : before.faults ≤ now.faults
+-- the same of an answer whose refusal is still to be told; no source failed but at the refusal that says so
+pub record IsAnswered (hosts : List Host) (name : List ℕ) (command : Command) (before now : List Seen) (answer : Result Ending Stop) (v : Passage) : Type 0 where
+  pub answered : Answered (ComesTo hosts name before now (start_of v) command) answer v
+  pub still : AreStill before now ⊎ ((answer ≡ Err (Refused Unread)) × OneFailed before now)
+  pub later : AreLater before now
 
 -- a command without a folder: no call on a file was made that shows, and none is told
 pub record IsApart (answer : Result Ending Stop) (v : Passage) : Type 0 where

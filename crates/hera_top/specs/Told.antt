@@ -1,20 +1,20 @@
--- A call whose source and files are told.
-use Rattle.std.specs.Prelude.{◌≡◌, ℕ, List, [], Some}
+-- A call whose sources and files are told.
+use Rattle.std.specs.Prelude.{◌≡◌, ℕ, List, Some, map}
+use Rattle.std.specs.List.{AllZip}
 use Rattle.hera_volume.specs.declared.file_id.FileId.{FileId}
 use Rattle.hera_outcome.specs.Passages.{Start}
-use Rattle.hera_words.specs.declared.command.Command.{Command}
-use Rattle.hera_top.specs.Commands.{ReadsScript}
 use Rattle.hera_top.specs.Sources.{Seen}
 
--- a source that has this script left, and one that has nothing left
-abbrev pub full_source : List ℕ → Seen
-full_source script = record { left = Some script; faults = 0 }
+-- sources that have these texts left, and have never failed
+abbrev pub full_sources : List (List ℕ) → List Seen
+full_sources texts = map (λ (text : List ℕ). record { left = Some text; faults = 0 }) texts
 
-abbrev pub drained : Seen
-drained = record { left = Some []; faults = 0 }
+-- sources have these texts left, one each
+abbrev pub HaveLeft : (texts : List (List ℕ)) (before : List Seen) → Type 0
+HaveLeft texts before = AllZip (λ (b : Seen) (text : List ℕ). b.left ≡ Some text) before texts
 
--- as the call begins the source of a command that reads one has this script left, and the files read so
-pub record BeginsWith (command : Command) (script : List ℕ) (files : FileId → List ℕ) (before : Seen) (v : Start) : Type 0 where
-  pub script_told : ReadsScript command → before.left ≡ Some script
+-- as the call begins the sources have these texts left, and the files read so
+pub record BeginsWith (texts : List (List ℕ)) (files : FileId → List ℕ) (before : List Seen) (v : Start) : Type 0 where
+  pub texts_told : HaveLeft texts before
   pub files_told : v.told
   pub reads : (f : FileId) → (v.disks f).bytes ≡ files f

@@ -152,6 +152,12 @@ fn perform_on<W: Outside>(
         Command::Eval(turns) => eval(alloc, program, turns, outside, hosts),
         Command::Init => init(alloc, &program.relations, outside),
         Command::Widen => widen(alloc, &program.relations, outside),
-        Command::Run(_) | Command::Drill(_) | Command::Dump | Command::Checkpoint => unreachable!(),
+        Command::Run(_)
+        | Command::Drill(_)
+        | Command::Dump
+        | Command::Checkpoint
+        | Command::Import
+        | Command::Export
+        | Command::Guard(_) => unreachable!(),
     }
 }

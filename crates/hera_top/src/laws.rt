@@ -1,6 +1,6 @@
 //! Laws of the definitions that the contract of `hera` cites. The functions do nothing: their clauses are the laws.
 
-ghost use Rattle.std.specs.Prelude.{◌≡◌, ◌≢◌, ◌≤◌, ◌↔◌, ◌⊎◌, ℕ, true, false, List, Option, Some, length, codes};
+ghost use Rattle.std.specs.Prelude.{◌≡◌, ◌≢◌, ◌≤◌, ◌↔◌, ◌⊎◌, ℕ, true, false, List, [], ◌∷◌, Some, length, codes};
 ghost use Rattle.hera_causes.specs.Causes.{Rose};
 ghost use Rattle.hera_meaning.specs.Run.{Report, run_of};
 ghost use Rattle.hera_meaning.specs.Trees.{Program_tree};
@@ -23,12 +23,13 @@ ghost use Rattle.hera_run.specs.Fitting.{all_fit};
 ghost use Rattle.hera_run.specs.Folder.{StartsAt};
 ghost use Rattle.hera_words.specs.declared.command.Command.{Command};
 ghost use Rattle.hera_words.specs.Words.{form_of};
-ghost use Rattle.hera_top.specs.Commands.{ComesToFor, ComesTo, ReadsScript, IsRead, Answers};
-ghost use Rattle.hera_top.specs.Sources.{Seen};
-ghost use Rattle.hera_top.specs.Told.{BeginsWith, full_source, drained};
+ghost use Rattle.hera_top.specs.Commands.{ComesToFor, ComesTo, ReadsScript, Answers};
+ghost use Rattle.hera_top.specs.Sources.{Seen, IsRead, OneFailed};
+ghost use Rattle.hera_top.specs.Told.{BeginsWith, full_sources};
 
 use half_laws::laws::{a_half_has_one_catalogue_and_state, a_half_has_one_version};
 use hera_bind::laws::a_program_is_bound_to_its_own_relations;
+use hera_guarded::rules_have_one_answer;
 use hera_readings::{faults_have_places, some_tokens, some_tree};
 use hera_rules::typing_is_exact;
 use hera_script::{a_script_has_one_answer, accepted_programs_are_sound};
@@ -58,36 +59,38 @@ pub fn some_outcome<W: Outside>()
     typing_is_exact();
 }
 
-/// A command comes to one outcome for a script, where it reads one, what the files hold, the table of hosts and the turns:
-/// two calls that begin with the same of these come to the same, but where a source failed before the script was read.
+/// A command comes to one outcome for the texts of its sources, what the files hold, the table of hosts and the turns: two
+/// calls that begin with the same of these come to the same, but where a source failed before its text was read.
 pub fn one_outcome_in_a_folder<W: Outside>()
-    ensures { (hosts : List Host) (command : Command) (script : List ℕ) (files : FileId → List ℕ) (before now later after : Seen) (first second : W) (a b : Outcome)
-        → BeginsWith command script files before (start W.Outside.own first)
-        → BeginsWith command script files later (start W.Outside.own second)
-        → ComesTo hosts before now (start W.Outside.own first) command a
-        → ComesTo hosts later after (start W.Outside.own second) command b
+    ensures { (hosts : List Host) (name : List ℕ) (command : Command) (texts : List (List ℕ)) (files : FileId → List ℕ) (before now later after : List Seen) (first second : W) (a b : Outcome)
+        → BeginsWith texts files before (start W.Outside.own first)
+        → BeginsWith texts files later (start W.Outside.own second)
+        → ComesTo hosts name before now (start W.Outside.own first) command a
+        → ComesTo hosts name later after (start W.Outside.own second) command b
         → a ≢ refused Refusal.Unread → b ≢ refused Refusal.Unread → a ≡ b }
 {
     a_script_has_one_answer();
     one_thing_is_found();
     a_half_has_one_version();
     a_half_has_one_catalogue_and_state();
+    rules_have_one_answer();
 }
 
 /// Completeness. Let no call on a source, a file or the output fail. Then a command does the whole of what it comes to for
-/// its script and what the files hold, or there was no memory (9).
+/// the texts of its sources and what the files hold, or there was no memory (9).
 pub fn a_call_is_complete<W: Outside>()
-    ensures { (hosts : List Host) (command : Command) (script : List ℕ) (files : FileId → List ℕ) (before now : Seen) (first last : W) (status : ℕ) (outcome : Outcome)
-        → BeginsWith command script files before (start W.Outside.own first)
-        → ¬ Rose before.faults now.faults → ¬ Rose (W.device_faults first) (W.device_faults last) → ¬ Rose (W.output_faults first) (W.output_faults last)
-        → ComesTo hosts (full_source script) drained (start W.Outside.own first) command outcome → outcome ≢ refused Refusal.Unread
-        → Answers hosts command before now status (passage W.Output W.Outside.own first last)
+    ensures { (hosts : List Host) (name : List ℕ) (command : Command) (texts : List (List ℕ)) (files : FileId → List ℕ) (before now after : List Seen) (first last : W) (status : ℕ) (outcome : Outcome)
+        → BeginsWith texts files before (start W.Outside.own first)
+        → ¬ OneFailed before now → ¬ Rose (W.device_faults first) (W.device_faults last) → ¬ Rose (W.output_faults first) (W.output_faults last)
+        → ComesTo hosts name (full_sources texts) after (start W.Outside.own first) command outcome → outcome ≢ refused Refusal.Unread
+        → Answers hosts name command before now status (passage W.Output W.Outside.own first last)
         → (status ≡ 9) ⊎ IsDone outcome status (passage W.Output W.Outside.own first last) }
 {
     a_script_has_one_answer();
     one_thing_is_found();
     a_half_has_one_version();
     a_half_has_one_catalogue_and_state();
+    rules_have_one_answer();
 }
 
 /// Completeness of `run`. Let a script be accepted, the files hold a database with all relations that it declares, whose
@@ -95,11 +98,11 @@ pub fn a_call_is_complete<W: Outside>()
 /// `run` does the whole of what the script means, and ends as that ends, but where a call on a file failed (6), the output
 /// did (8) or there was no memory (9).
 pub fn a_run_is_complete<W: Outside>()
-    ensures { (hosts : List Host) (turns : ℕ) (script : List ℕ) (files : FileId → List ℕ) (p : Program_tree) (db : Database) (gate : ℕ) (before now : Seen) (first last : W) (status : ℕ)
-        → BeginsWith (Command.Run turns) script files before (start W.Outside.own first) → ¬ Rose before.faults now.faults
+    ensures { (hosts : List Host) (name : List ℕ) (turns : ℕ) (script : List ℕ) (files : FileId → List ℕ) (p : Program_tree) (db : Database) (gate : ℕ) (before now : List Seen) (first last : W) (status : ℕ)
+        → BeginsWith (script ∷ []) files before (start W.Outside.own first) → ¬ OneFailed before now
         → length script ≤ script_limit → Accepted script hosts p → Holds files db → StartsAt files db gate → AllHas db.catalogue p.relations
         → all_fit (Some gate) (run_of (bound p db.catalogue) db.state (specs_of hosts) turns).events ≡ true
-        → Answers hosts (Command.Run turns) before now status (passage W.Output W.Outside.own first last)
+        → Answers hosts name (Command.Run turns) before now status (passage W.Output W.Outside.own first last)
         → (status ≡ 6) ⊎ (status ≡ 8) ⊎ (status ≡ 9)
         ⊎ IsDone (carried db (run_of (bound p db.catalogue) db.state (specs_of hosts) turns).events (ends (run_of (bound p db.catalogue) db.state (specs_of hosts) turns).finish)) status (passage W.Output W.Outside.own first last) }
 {
@@ -107,12 +110,13 @@ pub fn a_run_is_complete<W: Outside>()
     one_thing_is_found();
     a_half_has_one_version();
     a_half_has_one_catalogue_and_state();
+    rules_have_one_answer();
 }
 
 /// Where a source tells what it has left, the outcome of what came from it is the outcome of all of that.
 pub fn told_outcome<W: Outside>()
-    ensures { (hosts : List Host) (command : Command) (script bytes : List ℕ) (left : Option (List ℕ)) (first : W) (outcome : Outcome)
-        → IsRead (Some script) left bytes → ComesToFor hosts bytes (start W.Outside.own first) command outcome → ComesToFor hosts script (start W.Outside.own first) command outcome }
+    ensures { (hosts : List Host) (command : Command) (script bytes : List ℕ) (before now : Seen) (first : W) (outcome : Outcome)
+        → before.left ≡ Some script → IsRead script_limit before now bytes → ComesToFor hosts bytes (start W.Outside.own first) command outcome → ComesToFor hosts script (start W.Outside.own first) command outcome }
 {}
 
 /// What `eval` comes to for a script is its refusal, or what the script means with these hosts and so many turns, on its

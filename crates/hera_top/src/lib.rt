@@ -6,10 +6,12 @@ mod commands;
 mod drill;
 mod dumping;
 mod folders;
+mod guard;
 pub mod laws;
 mod run;
 mod script;
 mod top;
+mod transfers;
 
 pub use hera_words::{Command, files_of, folder_of};
 pub use top::hera;

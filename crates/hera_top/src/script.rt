@@ -1,10 +1,11 @@
 //! Scripts: read from a source, accepted, and handed to a command.
-ghost use Rattle.std.specs.Prelude.{◌≡◌, ◌≤◌, false, length};
+ghost use Rattle.std.specs.Prelude.{◌≡◌, ◌≤◌, ℕ, List, [], ◌∷◌, false, length};
 ghost use Rattle.hera_syntax.specs.Tokens.{script_limit};
 ghost use Rattle.hera_outcome.specs.Passages.{passage, start};
 ghost use Rattle.hera_outcome.specs.Told.{Answered};
 ghost use Rattle.hera_words.specs.Words.{form_of};
 ghost use Rattle.hera_top.specs.Commands.{ComesToFor, ReadsScript, IsAnswered, IsApart};
+ghost use Rattle.hera_top.specs.Sources.{seen};
 
 use crate::commands::perform;
 use hera_causes::{ReadFail, Source, read_all};
@@ -47,7 +48,7 @@ pub(crate) fn answer_source<S: Source, W: Outside>(
     hosts: &HostTable,
 ) -> Result<Ending, Stop>
     requires reads { ReadsScript command }
-    ensures answered { IsAnswered hosts.now.names command (record { left = S.left source.old; faults = S.faults source.old }) (record { left = S.left source.new; faults = S.faults source.new }) result (passage W.Output W.Outside.own outside.old outside.new) }
+    ensures answered { (name : List ℕ) → IsAnswered hosts.now.names name command (seen S.left S.faults source.old ∷ []) (seen S.left S.faults source.new ∷ []) result (passage W.Output W.Outside.own outside.old outside.new) }
     ensures apart { (form_of command).folder ≡ false → IsApart result (passage W.Output W.Outside.own outside.old outside.new) }
 {
     match read_all(alloc, source, SCRIPT_LIMIT) {
@@ -59,7 +60,7 @@ pub(crate) fn answer_source<S: Source, W: Outside>(
 }
 
 /// The refusal of a script that is too long.
-fn too_long() -> Stop
+pub(crate) fn too_long() -> Stop
     ensures { result ≡ Stop.Refused (Refusal.Script Cause.TooLong script_limit) }
 {
     Stop::Refused(Refusal::Script {

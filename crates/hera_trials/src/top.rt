@@ -35,7 +35,7 @@ fn check(
     status: u8,
 ) {
     let (first, last) = files_of(words);
-    assert!(rt; first < 3);
+    assert!(rt; first < 4);
     assert!(rt; sources.len() + first == last);
     let mut outside = MemOutside::new(alloc, Vec::new(alloc), None, pieces);
     let answer = hera(alloc, words, sources, &mut outside, &HostTable::new(alloc));
@@ -92,6 +92,30 @@ fn faults_end_the_call(rt: HostRuntime) -> Result<(), Fail> {
             &words,
             &mut sources,
             emissions.to_vec(alloc)?,
+            output,
+            status,
+        );
+    }
+    Ok(())
+}
+
+#[test]
+fn a_file_is_read_before_the_folder(rt: HostRuntime) -> Result<(), Fail> {
+    let alloc = rt.alloc();
+    let words = words_in(alloc, &["import", "d", "R", "f"])?;
+    let cases: [(usize, &[Piece], &[u8], u8); 2] = [
+        (67_108_865, &[], b"refused TooLong at 67108864\n", 3),
+        (7, &[Piece::Take(1), Piece::Fail], b"script unread\n", 7),
+    ];
+    for (count, reads, output, status) in cases {
+        let file = vec![in alloc; b'1'; count]?;
+        let mut sources = source_of(alloc, &file, reads)?;
+        check(
+            &rt,
+            alloc,
+            &words,
+            &mut sources,
+            Vec::new(alloc),
             output,
             status,
         );

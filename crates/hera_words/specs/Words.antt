@@ -3,7 +3,7 @@ use Rattle.std.specs.Prelude.{ℕ, ◌+◌, ◌==◌, Bool, true, false, cond, L
 use Rattle.std.specs.Option.{option_flatten}
 use Rattle.std.specs.declared.alloc.Global.{Global}
 use Rattle.hera_words.specs.declared.command.Command.{Command}
-use Rattle.hera_words.specs.declared.command.Command.TheVariants.{Check, List as list_command, Eval, Drill, Init, Run, Dump, Checkpoint, Widen}
+use Rattle.hera_words.specs.declared.command.Command.TheVariants.{Check, List as list_command, Eval, Drill, Init, Run, Dump, Checkpoint, Widen, Import, Export, Guard}
 use Rattle.hera_words.specs.declared.form.Form.{Form}
 use Rattle.hera_words.specs.declared.form.Number.{Number}
 use Rattle.hera_words.specs.declared.form.Number.TheVariants.{Absent, Turns, Rows}
@@ -22,10 +22,16 @@ command_named name n =
     if bytes_eq name (codes "eval") then Some (Eval n) else (if bytes_eq name (codes "drill") then Some (Drill n) else (
     if bytes_eq name (codes "init") then Some Init else (if bytes_eq name (codes "run") then Some (Run n) else (
     if bytes_eq name (codes "dump") then Some Dump else (if bytes_eq name (codes "checkpoint") then Some Checkpoint else (
-    if bytes_eq name (codes "widen") then Some Widen else None))))))))
+    if bytes_eq name (codes "widen") then Some Widen else (if bytes_eq name (codes "import") then Some Import else (
+    if bytes_eq name (codes "export") then Some Export else (
+    if bytes_eq name (codes "guard") then Some (Guard n) else None)))))))))))
 
-abbrev form : (folder : Bool) (number : Number) (files : ℕ) → Form
-form folder number files = record { folder = folder; number = number; files = files }
+abbrev pub form : (folder : Bool) (number : Number) (files : ℕ) → Form
+form folder number files = record { folder = folder; relation = false; number = number; files = files }
+
+-- a folder, a relation of it and so many files
+abbrev pub of_a_relation : (files : ℕ) → Form
+of_a_relation files = record { folder = true; relation = true; number = Absent; files = files }
 
 -- the words behind its name
 abbrev pub form_of : Command → Form
@@ -38,12 +44,18 @@ form_of (Run turns) = form true Turns 1
 form_of Dump = form true Absent 0
 form_of Checkpoint = form true Absent 0
 form_of Widen = form true Absent 1
+form_of Import = of_a_relation 1
+form_of Export = of_a_relation 0
+form_of (Guard turns) = form true Turns 2
 
 -- ---- the words
 
--- where the number stands, and the first file, behind the name
+-- where the relation stands, and the number, and the first file, behind the name
+abbrev pub relation_place : Form → ℕ
+relation_place f = cond f.folder 1 0
+
 abbrev pub number_place : Form → ℕ
-number_place f = cond f.folder 1 0
+number_place f = relation_place f + cond f.relation 1 0
 
 abbrev pub files_place : Form → ℕ
 files_place f = number_place f + width_of f.number
@@ -79,3 +91,8 @@ files_in (Some command) = if (form_of command).files == 0 then (0, 0) else (1 + 
 abbrev pub folder_in : Option Command → Option ℕ
 folder_in None = None
 folder_in (Some command) = cond (form_of command).folder (Some 1) None
+
+-- the name of a relation, empty where there is none
+abbrev pub relation_in : Option Command → List (List ℕ) → List ℕ
+relation_in None words = []
+relation_in (Some command) words = cond (form_of command).relation (word_at (1 + relation_place (form_of command)) words) []

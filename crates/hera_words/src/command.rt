@@ -1,5 +1,5 @@
 ghost use Rattle.std.specs.Prelude.{◌≡◌};
-ghost use Rattle.hera_words.specs.Words.{command_named, form_of};
+ghost use Rattle.hera_words.specs.Words.{command_named, form_of, form, of_a_relation};
 
 use crate::form::{Form, Number};
 
@@ -24,6 +24,12 @@ pub enum Command {
     Checkpoint,
     /// Widens the database in a folder to a script's relations.
     Widen,
+    /// Puts the rows of a file of comma-separated values into a relation of the database in a folder.
+    Import,
+    /// Prints a relation of the database in a folder as comma-separated values.
+    Export,
+    /// Runs a script on the database in a folder with at most so many turns, under the guards of a script before it.
+    Guard(u64),
 }
 
 impl Command {
@@ -41,6 +47,9 @@ impl Command {
             "dump" => Some(Command::Dump),
             "checkpoint" => Some(Command::Checkpoint),
             "widen" => Some(Command::Widen),
+            "import" => Some(Command::Import),
+            "export" => Some(Command::Export),
+            "guard" => Some(Command::Guard(number)),
             _ => None,
         }
     }
@@ -55,18 +64,34 @@ impl Command {
             Command::Drill(_) => form(false, Number::Rows, 0),
             Command::Init | Command::Widen => form(true, Number::Absent, 1),
             Command::Run(_) => form(true, Number::Turns, 1),
+            Command::Guard(_) => form(true, Number::Turns, 2),
             Command::Dump | Command::Checkpoint => form(true, Number::Absent, 0),
+            Command::Import => of_a_relation(1),
+            Command::Export => of_a_relation(0),
         }
     }
 }
 
-/// The form with these words.
+/// The form with these words, and no relation.
 fn form(folder: bool, number: Number, files: usize) -> Form
-    ensures { result ≡ record { folder = folder; number = number; files = files } }
+    ensures { result ≡ form folder number files }
 {
     Form {
         folder,
+        relation: false,
         number,
+        files,
+    }
+}
+
+/// The form with a folder, a relation and so many files.
+fn of_a_relation(files: usize) -> Form
+    ensures { result ≡ of_a_relation files }
+{
+    Form {
+        folder: true,
+        relation: true,
+        number: Number::Absent,
         files,
     }
 }

@@ -8,7 +8,9 @@ ghost use Rattle.hera_words.specs.Numbers.{turns_of, rows_of, width_of, number_i
 pub(crate) struct Form {
     /// Whether a folder comes first.
     pub(crate) folder: bool,
-    /// The number behind it.
+    /// Whether the name of a relation comes behind it.
+    pub(crate) relation: bool,
+    /// The number behind that.
     pub(crate) number: Number,
     /// How many files come last.
     pub(crate) files: usize,

@@ -6,46 +6,4 @@ mod form;
 mod words;
 
 pub use command::Command;
-pub use words::{files_of, folder_of, read_words};
-
-#[cfg(test)]
-mod tests {
-    use super::*;
-    use std::alloc::{AllocError, Global};
-    use std::test::Fail;
-
-    /// The words of a line, cut at its blanks.
-    fn words_of(alloc: Global, line: &str) -> Result<Vec<String>, AllocError> {
-        let mut words = Vec::new(alloc);
-        for word in line.split(' ') {
-            words.push(String::from_str(alloc, word)?)?;
-        }
-        Ok(words)
-    }
-
-    #[test]
-    fn each_form_has_its_places(rt: HostRuntime) -> Result<(), Fail> {
-        let alloc = rt.alloc();
-        let table = [
-            ("check F", Some(Command::Check), (1, 2), None),
-            ("list F", Some(Command::List), (1, 2), None),
-            ("eval 007 F", Some(Command::Eval(7)), (2, 3), None),
-            ("drill 1000", Some(Command::Drill(1000)), (0, 0), None),
-            ("init D F", Some(Command::Init), (2, 3), Some(1)),
-            ("run D 1 F", Some(Command::Run(1)), (3, 4), Some(1)),
-            ("dump D", Some(Command::Dump), (0, 0), Some(1)),
-            ("checkpoint D", Some(Command::Checkpoint), (0, 0), Some(1)),
-            ("widen D F", Some(Command::Widen), (2, 3), Some(1)),
-            ("drill 1001", None, (0, 0), None),
-            ("run D 1", None, (0, 0), None),
-            ("eval 18446744073709551616 F", None, (0, 0), None),
-        ];
-        for (line, command, files, folder) in table {
-            let words = words_of(alloc, line)?;
-            assert!(rt; read_words(words.as_slice()) == command);
-            assert_eq!(rt; files_of(&words), files);
-            assert_eq!(rt; folder_of(&words), folder);
-        }
-        Ok(())
-    }
-}
+pub use words::{files_of, folder_of, read_words, relation_of};

@@ -2,17 +2,24 @@ ghost use Rattle.std.specs.Prelude.{◌≡◌, ◌≤◌, ◌<◌, ◌+◌, None
 ghost use Rattle.hera_words.specs.declared.form.Form.{Form};
 ghost use Rattle.std.specs.Option.{option_flatten};
 ghost use Rattle.hera_words.specs.Numbers.{number_in};
-ghost use Rattle.hera_words.specs.Words.{words_of, word_at, command_named, form_of, number_place, files_place, command_by, command_of, files_in, folder_in};
+ghost use Rattle.hera_words.specs.Words.{words_of, word_at, command_named, form_of, relation_place, number_place, files_place, command_by, command_of, files_in, folder_in, relation_in};
 
 use crate::Command;
 use crate::form::Form;
 
 impl Form {
+    /// Where the relation stands behind the name.
+    fn relation_place(&self) -> usize
+        ensures { result ≡ relation_place self.now }
+    {
+        usize::from(self.folder)
+    }
+
     /// Where the number stands behind the name.
     fn number_place(&self) -> usize
         ensures { result ≡ number_place self.now }
     {
-        usize::from(self.folder)
+        self.relation_place() + usize::from(self.relation)
     }
 
     /// Where the first file stands behind the name.
@@ -98,5 +105,22 @@ pub fn folder_of(words: &Vec<String>) -> Option<usize>
     match read_words(words) {
         Some(command) if command.form().folder => Some(1),
         _ => None,
+    }
+}
+
+/// The name of a relation among the words, empty where there is none or the words are no listed form. It takes no memory.
+pub fn relation_of(words: &Vec<String>) -> &str
+    ensures { result.now ≡ relation_in (command_of (words_of words.now.items)) (words_of words.now.items) }
+{
+    match read_words(words) {
+        Some(command) => {
+            let form = command.form();
+            if form.relation {
+                word_at(words, 1 + form.relation_place())
+            } else {
+                ""
+            }
+        }
+        None => "",
     }
 }

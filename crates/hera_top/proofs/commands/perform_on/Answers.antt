@@ -5,7 +5,7 @@ use Rattle.hera_outcome.specs.Outcomes.{prints}
 use Rattle.hera_outcome.proofs.Passing.{pending_none, tell_answered, says_no_device}
 use Rattle.hera_words.specs.declared.command.Command.TheVariants as commands
 use Rattle.hera_top.specs.Commands.{checks}
-use Rattle.hera_top.proofs.Answering.{same_performed, made_answers, widened_answers, init_has_folder, widen_has_folder}
+use Rattle.hera_top.proofs.Answering.{same_performed, made_answers, widened_answers, has_folder}
 use Rattle.hera_top.proofs.commands.perform_on.Goals as goal
 
 pub returns-in-Check-clause-answered : goal.returns-in-Check-clause-answered
@@ -37,7 +37,7 @@ returns-in-Init-clause-answered g c =
     (made_answers c.args.hosts.now.names (program_of c.args.program.now) _ _ _ c.deref.ensures.value c.init.ensures.answered)
 
 pub returns-in-Init-clause-apart : goal.returns-in-Init-clause-apart
-returns-in-Init-clause-apart g c = λ none. absurd (init_has_folder c.args.command c.in-Init.is none)
+returns-in-Init-clause-apart g c = λ none. absurd (has_folder commands.Init c.args.command (sym c.in-Init.is) refl none)
 
 pub widen-requires : goal.widen-requires
 widen-requires g c = subst IsCatalogue (sym c.deref-in-Widen.ensures.value) c.requires.sound.shaped.relations
@@ -48,4 +48,4 @@ returns-in-Widen-clause-answered g c =
     (widened_answers c.args.hosts.now.names (program_of c.args.program.now) _ _ _ c.deref-in-Widen.ensures.value c.widen.ensures.answered)
 
 pub returns-in-Widen-clause-apart : goal.returns-in-Widen-clause-apart
-returns-in-Widen-clause-apart g c = λ none. absurd (widen_has_folder c.args.command c.in-Widen.is none)
+returns-in-Widen-clause-apart g c = λ none. absurd (has_folder commands.Widen c.args.command (sym c.in-Widen.is) refl none)
