@@ -16,6 +16,11 @@ STATUSES = {
     "check": {0, 3}, "list": {0, 3}, "eval": {0, 1, 3, 4}, "run": {0, 1, 3, 4, 5}, "init": {0, 3, 5},
     "dump": {0, 5}, "checkpoint": {0, 5}, "widen": {0, 3, 5}, "drill": {0},
 }
+# The words of the commands that not every program has, with a folder D and a file F.
+FORMS = {
+    "import": ["import", "D", "R", "F"], "export": ["export", "D", "R"], "guard": ["guard", "D", "1", "F", "F"],
+    "weave": ["weave", "D", "1", "1", "F"], "pack": ["pack", "F"], "exec": ["exec", "1", "F"],
+}
 
 
 class Wrong(Exception):
@@ -96,6 +101,14 @@ class Folder:
             except FileNotFoundError:
                 files.append(b"")
         return files
+
+
+def has_command(program, name):
+    """Whether the program knows this command."""
+    with Folder() as folder:
+        folder.write("script", b"")
+        places = {"D": folder.database, "F": folder.script}
+        return call(program, [places.get(word, word) for word in FORMS[name]])[2] != 2
 
 
 def in_processes(part, unit, work, arguments, processes):

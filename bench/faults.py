@@ -4,15 +4,16 @@
     bench/faults.py PROGRAM [--processes N] [--seed N] [--only PART] [--chains N]
 
 It stops at the first answer that is not allowed. Its parts:
-  calls    each call of `init`, a run of five commits, `checkpoint`, `widen` and `dump` failing alone with EIO and with ENOSPC,
-           interrupted, short, and as the program's end before and behind it; then losses of power, and what further
-           commands find, where all calls go well again
+  calls    each call of `init`, a run of five commits, `checkpoint`, `widen`, `import`, `export`, a guarded run and `dump`
+           failing alone with EIO and with ENOSPC, interrupted, short, and as the program's end before and behind it; then
+           losses of power, and what further commands find, where all calls go well again
   power    at each call of these commands a loss of power, with `dump` of what may be left
   streams  closed and full standard streams, and a limit on the length of files
   chains   random commands with such failures and losses of power, one after the other
 
 A database's state is the set of its rows; each commit puts in one row that no other has. What may be found is the rows of
-the commits that were acknowledged, or these and the next one. The disk of a loss of power is that of bench/disk.py.
+the commits that were acknowledged, or these and the next one. The disk of a loss of power is that of bench/disk.py. A
+command that the program doesn't have is left out.
 """
 
 import argparse
@@ -24,13 +25,15 @@ import signal
 import subprocess
 import sys
 
-from common import Folder, Wrong, call, in_processes
+from common import FORMS, Folder, Wrong, call, has_command, in_processes
 from disk import INTERRUPTED, NAMES, Disk
 
 BENCH = os.path.dirname(os.path.abspath(__file__))
 UNREAD = b"script unread\n"
 KILLED = -signal.SIGKILL
 RELATION = b"relation R(a int, b text);\n"
+# The commands that put rows in.
+FILLING = ("run", "guard", "import")
 # Rows with long texts, put in by one commit, so that a half has several pages.
 MANY = frozenset(range(10000, 10060))
 
@@ -70,6 +73,11 @@ def script_of(rows):
     return RELATION + b"main {\n" + text + b"}\n"
 
 
+def file_of(rows):
+    """A file of comma-separated values with these rows."""
+    return b"a,b\n" + b"".join(b"%d,%s\n" % (row, text_of(row)) for row in sorted(rows))
+
+
 def wanted(command, state, rows=()):
     """The answer of a command to a database with this state, where nothing fails."""
     if command == "init":
@@ -78,9 +86,14 @@ def wanted(command, state, rows=()):
         return Answer(b"database exists\n", 5, [state])
     if state is None:
         return Answer(b"no database\n", 5, [None])
-    if command == "run":
+    if command in ("run", "guard"):
         states = [state.union(*rows[:count]) for count in range(len(rows) + 1)]
         return Answer(b"".join(b"commit %d\n" % (n + 1) for n in range(len(rows))), 0, states)
+    if command == "import":
+        some = frozenset().union(*rows)
+        return Answer(b"imported %d\n" % len(some), 0, [state, state | some])
+    if command == "export":
+        return Answer(file_of(state), 0, [state])
     # The script's relations are those of the database.
     lines = {"checkpoint": b"checkpointed\n", "widen": b"widened\n"}
     return Answer(lines.get(command) or dump_text(state), 0, [state])
@@ -95,14 +108,28 @@ class Box(Folder):
         self.folder = os.path.join(self.path, "up", "d")
         self.image = os.path.join(self.path, "image")
         self.log = os.path.join(self.path, "log")
+        self.file, self.rules = os.path.join(self.path, "file"), os.path.join(self.path, "rules")
         self.made = 0
+        self.has = {name: has_command(program, name) for name in FORMS}
         os.mkdir(self.image)
         self.write("script", script_of([]))
+        # Lines of guards that no row breaks: there are none.
+        self.write("rules", b"// no lines\n")
 
     def words(self, command, folder):
         words = {name: [name, folder, self.script] for name in ("init", "widen")}
         words["run"] = ["run", folder, "100000", self.script]
+        words["guard"] = ["guard", folder, "100000", self.rules, self.script]
+        words["import"] = ["import", folder, "R", self.file]
+        words["export"] = ["export", folder, "R"]
         return words.get(command, [command, folder])
+
+    def prepare(self, command, rows):
+        """Writes the script or the file from which a command takes these rows."""
+        if command in ("run", "guard"):
+            self.write("script", script_of(rows))
+        if command == "import":
+            self.write("file", file_of(frozenset().union(*rows)))
 
     def fill(self, folder, data):
         """Puts files into the folder, and takes away those that are missing."""
@@ -131,8 +158,7 @@ class Box(Folder):
 
     def ask(self, command, rows=(), plan="", **more):
         """Calls the program with a plan of failures, and gives its answer and the lines of its calls."""
-        if command == "run":
-            self.write("script", script_of(rows))
+        self.prepare(command, rows)
         if os.path.exists(self.log):
             os.unlink(self.log)
         environment = {"LD_PRELOAD": self.library, "FAULTS": plan, "FAULTS_LOG": self.log}
@@ -226,8 +252,11 @@ def commands(box):
     moved = box.data()
     state = MANY | FIVE[0]
     found += [("init", (), state, moved), ("run", FIVE, frozenset(), empty), ("run", FIVE[1:], state, moved)]
-    found += [(command, (), MANY, wide) for command in ("checkpoint", "widen", "dump")]
-    return found + [(command, (), state, moved) for command in ("checkpoint", "widen", "dump")]
+    for rest, files in ((MANY, wide), (state, moved)):
+        found += [(command, (), rest, files) for command in ("checkpoint", "widen", "dump")]
+        more = [("import", FIVE[1:], rest, files), ("export", (), rest, files), ("guard", FIVE[1:], rest, files)]
+        found += [case for case in more if box.has[case[0]]]
+    return found
 
 
 def plans(lines):
@@ -256,7 +285,7 @@ def blame(box, clean, number):
         return {status, 8}
     if descriptor == "1":
         return {8}
-    return {7} if path == box.script else {6}
+    return {7} if path in (box.script, box.file, box.rules) else {6}
 
 
 def try_call(box, draw, case, plan, clean, number):
@@ -332,8 +361,7 @@ def try_stream(box, case, what, **more):
     """A command with standard streams of this kind, or such a limit, and what it leaves."""
     command, rows, state, data = case
     session = Session(box, random.Random(0), [state], data)
-    if command == "run":
-        box.write("script", script_of(rows))
+    box.prepare(command, rows)
     streams = {"stdin": subprocess.DEVNULL, "stdout": subprocess.PIPE, "stderr": subprocess.PIPE, **more}
     done = subprocess.run([box.program, *box.words(command, box.folder)], **streams)
     text, status = done.stdout or b"", done.returncode
@@ -373,10 +401,12 @@ def random_plan(draw):
 def try_chain(box, draw):
     """Random commands on one folder, with failures and losses of power."""
     session, row = Session(box, draw, [None]), 0
+    known = ["init", "run", "run", "run", "checkpoint", "widen", "dump"]
+    known += [name for name in ("import", "import", "export", "guard") if box.has[name]]
     for _ in range(draw.randint(4, 10)):
-        command = draw.choice(["init", "run", "run", "run", "checkpoint", "widen", "dump"])
+        command = draw.choice(known)
         rows = []
-        for _ in range(draw.randint(0, 4) if command == "run" else 0):
+        for _ in range(draw.randint(0, 4) if command in FILLING else 0):
             rows.append(frozenset(range(row, row + draw.choice([1, 1, 2, 30]))))
             row = max(rows[-1]) + 1
         session.do(command, rows, random_plan(draw) if draw.random() < 0.6 else "")

@@ -1,19 +1,27 @@
 #!/usr/bin/env python3
-"""Feeds hostile scripts, folders and refused allocations to the built program, and stops at the first answer that the
-README's table of statuses has not: a crash, a hang, another status, or a text that does not belong to its status.
+"""Feeds hostile scripts, folders, files and refused allocations to the built program, and stops at the first answer that
+the table of statuses in docs/LANGUAGE.md has not: a crash, a hang, another status, or a text that does not belong to it.
 
-    bench/hostile.py PROGRAM [--seconds N] [--processes N] [--seed N] [--only PART] [--cases PROGRAM]
+    bench/hostile.py PROGRAM [--seconds N] [--count N] [--processes N] [--seed N] [--only PART] [--cases PROGRAM]
 
 Its parts:
   bytes    each byte of the 43-byte half of docs/FORMATS.md, in either format, set to each of 256 values, and each cut of it,
            by `dump`
   halves   databases well formed and damaged, by `dump` and `checkpoint`
   scripts  random bytes, token soups, broken examples and phrases of the grammar, by `check`, `list`, `eval`, `init`, `run`
+  folders  random commands one after the other on one folder, with each byte of its files
+  csv      files of comma-separated values, good and bad, by `import` and `export`
+  rules    scripts of guards over databases and runs, by `guard`
+  orders   words for ORDER and woven scripts, by `weave`: those that commit are as runs one after another
+  code     packed scripts, whole and spoiled, by `pack` and `exec`
   memory   each allocation of a command refused in turn: on a script, and on init, run, dump and checkpoint of a folder
   crash    the same over files in memory, with a crash behind each (with --cases, the built program of hera_cases)
 
-What `dump` prints is compared with bench/reader.py, which is written from the documents alone. The part halves, and the
-part scripts, take N seconds each, in N processes at a time.
+What the program says is compared with readers that are written from the documents alone: of halves bench/reader.py, of
+scripts bench/script.py, bench/rules.py and bench/meaning.py, of files and guards bench/tables.py (with Python's `csv`),
+of code bench/code_file.py, of all commands together bench/commands.py. The parts from halves on take N seconds each, or
+with --count go on until they have tried N inputs, in N processes at a time. A part whose command the program doesn't have
+is left out.
 """
 
 import argparse
@@ -24,9 +32,13 @@ import signal
 import sys
 import time
 
+import beside_scripts
+import code_file
+import meaning
 import memory
 import reader
-from common import Folder, Wrong, call, in_processes, judge
+import rules
+from common import Folder, Wrong, call, has_command, in_processes, judge
 from inputs import Halves, Scripts
 
 
@@ -111,11 +123,21 @@ def try_script(program, folder, script, turns):
     checked = ask(program, script, ["check", folder.script])
     if (status == 3) != (checked[1] == 3) or (status == 3 and ran != checked[0]):
         raise Wrong(f"eval and check of the script {script!r}: {ran!r} {status}, {checked}")
+    compare_script(script, turns, ran, status)
     if checked[1] == 3:
         return 2
     if ask(program, script, ["list", folder.script])[1] != 0:
         raise Wrong(f"list of the script {script!r}")
     return 3
+
+
+def compare_script(script, turns, ran, status):
+    """The readers refuse the script for the same fault at the same place, or accept it with the same meaning."""
+    wanted = rules.check(script)
+    if wanted[1] == 0:
+        wanted = meaning.evaluate(script, int(turns))[:2]
+    if (ran, status) != wanted:
+        raise Wrong(f"eval {turns} of the script {script!r}: {ran!r} {status}, wanted {wanted}")
 
 
 def try_run(program, folder, script, turns):
@@ -136,34 +158,44 @@ def try_run(program, folder, script, turns):
 
 # What a call may take of memory, in bytes: far more than any of these scripts wants.
 MEMORY = 4 << 30
-PARTS = {"bytes": try_bytes, "halves": try_halves, "scripts": try_scripts}
+PARTS = {"bytes": try_bytes, "halves": try_halves, "scripts": try_scripts, **beside_scripts.PARTS}
+# The command without which a part is left out.
+NEEDS = {"csv": "import", "rules": "guard", "orders": "weave", "code": "exec"}
 
 
-def work(part, program, processes, seconds, seed, number, answers):
-    """One process of a part: counts its inputs until the time is over, or something is wrong."""
+def work(part, options, number, answers):
+    """One process of a part: counts its inputs until it has enough of them, or something is wrong."""
     signal.signal(signal.SIGINT, signal.SIG_IGN)
-    draw, count, end = random.Random(f"{seed} {number}"), 0, time.monotonic() + seconds
+    draw, count, end = random.Random(f"{options.seed} {number}"), 0, time.monotonic() + options.seconds
+    share = options.count and -(-options.count // options.processes)
     with Folder() as folder:
         try:
-            for inputs in PARTS[part](program, folder, draw, number, processes):
+            for inputs in PARTS[part](options.program, folder, draw, number, options.processes):
                 count += inputs
-                if time.monotonic() > end:
-                    break
+                if count >= share if share else time.monotonic() > end:
+                    # The part `bytes` has an end of its own.
+                    if part != "bytes":
+                        break
             answers.put((count, None))
         except Wrong as wrong:
             answers.put((count, str(wrong)))
+        except Exception as fault:
+            answers.put((count, f"the driver failed: {fault!r}"))
 
 
 def run_part(part, options):
     """A part in several processes."""
-    arguments = (part, options.program, options.processes, options.seconds, options.seed)
-    in_processes(part, "inputs", work, arguments, options.processes)
+    if part in NEEDS and not has_command(options.program, NEEDS[part]):
+        print(f"{part}: left out, the program has no `{NEEDS[part]}`", flush=True)
+        return
+    in_processes(part, "inputs", work, (part, options), options.processes)
 
 
 def main():
     parser = argparse.ArgumentParser()
     parser.add_argument("program")
     parser.add_argument("--seconds", type=float, default=120)
+    parser.add_argument("--count", type=int, default=0)
     parser.add_argument("--processes", type=int, default=2)
     parser.add_argument("--seed", default="1")
     parser.add_argument("--only", choices=[*PARTS, "memory", "crash"])
@@ -172,6 +204,7 @@ def main():
     options.program = os.path.abspath(options.program)
     resource.setrlimit(resource.RLIMIT_AS, (MEMORY, MEMORY))
     reader.check_itself()
+    code_file.check_itself()
     try:
         for part in PARTS:
             if options.only in (None, part):

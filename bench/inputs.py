@@ -6,6 +6,7 @@ import random
 import re
 
 from reader import EXAMPLES, PAGES
+from typed_phrases import TypedPhrases
 
 KEYWORDS = (
     "relation func proc main int bool text delta rel tuple if else while foreach in print apply commit rollback assert "
@@ -132,9 +133,10 @@ class Scripts:
     def __init__(self, draw):
         self.draw = draw
         self.examples = examples()
-        self.phrases = Phrases(draw)
+        self.phrases, self.typed_phrases = Phrases(draw), TypedPhrases(draw)
         self.kinds = [
             self.bytes, self.soup, self.pieces, self.damaged, self.nested, self.long, self.phrase, self.broken_phrase,
+            self.typed, self.typed, self.typed, self.broken_typed,
         ]
 
     def draw_one(self):
@@ -184,6 +186,15 @@ class Scripts:
 
     def phrase(self):
         return self.phrases.script()
+
+    def typed(self):
+        return self.typed_phrases.script()
+
+    def broken_typed(self):
+        """A script that kept the rules of typing, with one piece taken for another one of it."""
+        pieces = pieces_of(self.typed_phrases.script())
+        pieces[self.draw.randrange(len(pieces))] = self.draw.choice(pieces)
+        return b"".join(pieces)
 
     def broken_phrase(self):
         """A script of the grammar with one piece changed."""

@@ -137,14 +137,19 @@ def read_journal(fields, catalogue, state):
     return [sorted(rows) for rows in state]
 
 
-def read_half(data):
-    """The catalogue and the state of a half."""
+def read_whole(data):
+    """The catalogue and the state of a half, and where its last gate stands."""
     if len(data) > LONGEST:
         raise Damaged(LONGEST)
     fields = Fields(data)
     size, catalogue = read_header(fields)
-    state = read_pages(fields, size, catalogue)
-    return catalogue, read_journal(fields, catalogue, state)
+    state = read_journal(fields, catalogue, read_pages(fields, size, catalogue))
+    return catalogue, state, fields.at - 1
+
+
+def read_half(data):
+    """The catalogue and the state of a half."""
+    return read_whole(data)[:2]
 
 
 def quoted(text):

@@ -62,6 +62,11 @@ def plan():
     print(taken)
 
 
+def plan_whole():
+    plan_fill()
+    plan()
+
+
 def pair_fill():
     table("P", "k", "v")
     table("Q", "k", "w")
@@ -118,7 +123,7 @@ QUERIES = {
     "group": "select count(*) from (select v, count(*) from P group by v)",
 }
 WORKS = {
-    it.__name__: it for it in (plan_fill, plan, pair_fill, join, drill, commits, shuffled)
+    it.__name__: it for it in (plan_fill, plan, plan_whole, pair_fill, join, drill, commits, shuffled)
 }
 if WORK in QUERIES:
     print(one(QUERIES[WORK]))

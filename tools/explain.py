@@ -5,9 +5,12 @@
 
 Standard output and the status are the program's own, and what it prints goes on as it comes. Where its last line is
 `refused NAME at OFFSET` or `trap NAME at OFFSET`, what follows on standard error is the place as FILE:LINE:COLUMN (columns
-count characters), that line with a caret under it, and a sentence on what the name means.
+count characters), that line with a caret under it, and a sentence on what the name means. Of a file of comma-separated
+values it is the line on which the record begins. Of a guarded run a refusal may be that of either file: it is the one of
+the script where `check` says the same.
 """
 
+import csv
 import os
 import re
 import signal
@@ -20,7 +23,7 @@ FAULT = re.compile(rb"(?:.*\n)?(?:refused|trap) (\w+) at (\d+)\n", re.DOTALL)
 TAIL = 64
 
 # How many words come before FILE in each form that ends with one.
-SCRIPT_AT = {"check": 1, "list": 1, "eval": 2, "init": 2, "widen": 2, "run": 3}
+SCRIPT_AT = {"check": 1, "list": 1, "eval": 2, "init": 2, "widen": 2, "run": 3, "import": 3, "guard": 4}
 
 MEANINGS = {
     "TooLong": "A script has at most 1,048,576 bytes.",
@@ -43,6 +46,8 @@ MEANINGS = {
     "WhenFail": "The delta behind `when` is `fail`: `isfail` asks before.",
     "ReadFail": "The delta that is read is `fail`: `isfail` asks before.",
     "Assert": "The condition does not hold here.",
+    "Record": "The first record has the names of the attributes in their order, and each other one a field for each: of an "
+    "int an optional `-` and digits, of a bool `true` or `false`, of a text at most 1,023 bytes.",
 }
 
 WORDS = (
@@ -87,15 +92,41 @@ def explained(file, name, offset):
     return f"{file}:{number}:{len(before) + 1}: {name}\n{line}\n{under}^\n{meaning}\n"
 
 
-def explain(words, tail):
+def explained_record(file, number):
+    """The lines on the record with this number, which is not good."""
+    with open(file, encoding="utf-8-sig", errors="replace", newline="") as source:
+        records, line = csv.reader(source), 1
+        for record in records:
+            number -= bool(record)
+            if number == 0:
+                return f"{file}:{line}: Record\n{','.join(record)}\n{MEANINGS['Record']}\n"
+            line = records.line_num + 1
+    return f"{file}: Record\n{MEANINGS['Record']}\n"
+
+
+def faulty_file(program, words, fault):
+    """The file in which the fault lies: of a guarded run it may be that of the guards."""
+    file = script_of(words)
+    if file and words[0] == "guard" and fault.startswith(b"refused"):
+        said = subprocess.run([program, "check", file], stdout=subprocess.PIPE, stdin=subprocess.DEVNULL).stdout
+        return file if said == fault else words[3]
+    return file
+
+
+def explain(program, words, tail):
     """Says what the last line means, where it is a fault of the script."""
     fault = FAULT.fullmatch(tail)
-    file = script_of(words)
-    if fault and file:
-        try:
-            sys.stderr.write(explained(file, fault[1].decode(), int(fault[2])))
-        except OSError:
-            pass
+    if not fault:
+        return
+    name, offset = fault[1].decode(), int(fault[2])
+    try:
+        file = faulty_file(program, words, tail.splitlines(True)[-1])
+        if file and name == "Record":
+            sys.stderr.write(explained_record(file, offset))
+        elif file and not (words[0] == "import" and name == "TooLong"):
+            sys.stderr.write(explained(file, name, offset))
+    except (OSError, csv.Error):
+        pass
 
 
 def start(command, output):
@@ -157,7 +188,7 @@ def main():
         status, tail = run_through(command)
     else:
         os.execv(command[0], command)
-    explain(command[1:], tail)
+    explain(command[0], command[1:], tail)
     if status < 0:
         signal.signal(-status, signal.SIG_DFL)
         os.kill(os.getpid(), -status)

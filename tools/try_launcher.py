@@ -26,6 +26,14 @@ FAULTS = [
 ]
 
 
+# A file for `import` into a relation of one int, and what stands on the terminal behind it.
+FILES = [
+    ("a bad record", "a\n1\n\nx\n", "s.csv:4: Record\nx\nThe first record has"),
+    ("no record", "", "s.csv: Record\n"),
+    ("a record of two lines", 'a\n"1\n2"\n', "s.csv:2: Record\n"),
+]
+
+
 def on_a_terminal(command, folder, output):
     """Runs it with standard error on a terminal. Its status, output and what the terminal got."""
     mine, its = pty.openpty()
@@ -65,19 +73,43 @@ def wrong_in(program, folder):
             output.seek(0)
             if (status, output.read()) != own[:2] or told not in shown:
                 yield f"{name}: into a file: {status} {shown}"
+    yield from wrong_in_files(program, hera, folder)
     for words in ([], ["help"]):
         status, printed, shown = run([hera, *words], folder)
-        if (status, printed) != (2, b"usage\n") or "hera run DIR TURNS FILE" not in shown:
+        if (status, printed) != (2, b"usage\n") or "hera import DIR R FILE" not in shown:
             yield f"forms: {words} {status} {printed} {shown}"
     used = os.path.join(folder, "used")
     os.mkdir(used)
     held = os.open(used, os.O_RDONLY)
     fcntl.flock(held, fcntl.LOCK_EX)
-    if run([hera, "dump", used], folder) != (6, b"", f"hera: another command is using the folder {used}\n"):
-        yield "a folder in use"
+    for words in (["dump", used], ["import", used, "R", "s.csv"], ["export", used, "R"], ["guard", used, "1", "r", "s.hera"]):
+        if run([hera, *words], folder) != (6, b"", f"hera: another command is using the folder {used}\n"):
+            yield f"a folder in use: {words[0]}"
     os.close(held)
     if run([hera, "dump", used], folder) != (5, b"no database\n", ""):
         yield "a folder that is free again"
+
+
+def write(folder, name, text):
+    with open(os.path.join(folder, name), "w") as file:
+        file.write(text)
+
+
+def wrong_in_files(program, hera, folder):
+    """The tries of `import` and `guard` that were not right, where the program has these."""
+    write(folder, "s.hera", "relation R(a int); main { print 1 / 0; }")
+    run([program, "init", "d", "s.hera"], folder)
+    write(folder, "rules", "R.a: bucket;\n")
+    tries = [(text, told, ["import", "d", "R", "s.csv"]) for _, text, told in FILES]
+    tries.append(("", "rules:1:6: Mismatch\nR.a: bucket;\n", ["guard", "d", "100", "rules", "s.hera"]))
+    for text, told, words in tries:
+        write(folder, "s.csv", text)
+        own = run([program, *words], folder)
+        if own[0] == 2:
+            continue
+        status, printed, shown = on_a_terminal([hera, *words], folder, subprocess.PIPE)
+        if (status, printed) != own[:2] or told not in shown:
+            yield f"{words} of {text!r}: {status} {printed} {shown}"
 
 
 def main():
