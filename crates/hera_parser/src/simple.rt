@@ -81,8 +81,9 @@ pub(crate) fn commit(parser: &mut Parser<'_>) -> Result<StmtTree, Stop>
     ensures shorter { OnOk result (length parser.new < length parser.old) }
 {
     let word = parser.keep(COMMIT)?;
-    let label = some_text(parser)?;
-    parser.skip(SEMICOLON)?;
+    let label = some_text(parser);
+    let part = parser.joined_until(word, label, SEMICOLON)?;
+    let (word, label) = part;
     Ok(StmtTree::commit(word, label))
 }
 

@@ -87,7 +87,9 @@ impl<'a> Parser<'a> {
         ensures shorter { OnOk result (length self.new < length self.old) }
     {
         let op = self.keep(level.operators())?;
-        let operand = self.operand(alloc, level)?;
+        let operand = self.operand(alloc, level);
+        let both = joined(op, operand)?;
+        let (op, operand) = both;
         Ok(Tail::new(op, operand))
     }
 
@@ -119,7 +121,9 @@ impl<'a> Parser<'a> {
             return Ok(Prefix::plain(plain));
         }
         let op = self.keep(PREFIX_OPS)?;
-        let operand = self.post(alloc)?;
+        let operand = self.post(alloc);
+        let both = joined(op, operand)?;
+        let (op, operand) = both;
         Ok(Prefix::new(op, operand))
     }
 
@@ -236,8 +240,7 @@ impl<'a> Parser<'a> {
     {
         let head = self.bracketed(words)?;
         let over = self.level(alloc, Level::Whens);
-        let part = self.boxed_until(alloc, head, over, end)?;
-        Ok(part)
+        self.boxed_until(alloc, head, over, end)
     }
 
     /// A projection.

@@ -22,11 +22,12 @@ impl<'a> Parser<'a> {
         ensures shorter { OnOk result (length self.new < length self.old) }
     {
         let first = self.keep(NAME)?;
-        let mut rest = Vec::new(alloc);
+        let mut items = Items::new(alloc, first);
         'rest: while self.takes(COMMA) {
-            let item = self.keep(NAME)?;
-            rest.push(item)?;
+            let item = self.keep(NAME);
+            items = items.with(item)?;
         }
+        let Items { first, rest } = items;
         Ok(Names::new(first, rest))
     }
 
@@ -37,8 +38,7 @@ impl<'a> Parser<'a> {
         ensures shorter { OnOk result (length self.new < length self.old) }
     {
         let word = self.keep(words)?;
-        let head = self.kept_behind(word, PAREN)?;
-        Ok(head)
+        self.kept_behind(word, PAREN)
     }
 
     /// A name and the terminal that stands behind it.
@@ -48,8 +48,7 @@ impl<'a> Parser<'a> {
         ensures shorter { OnOk result (length self.new < length self.old) }
     {
         let name = self.keep(NAME)?;
-        let name = self.ended_by(name, end)?;
-        Ok(name)
+        self.ended_by(name, end)
     }
 
     /// A sign, a name and a bracket.
@@ -60,8 +59,7 @@ impl<'a> Parser<'a> {
     {
         let sign = self.keep(SIGNS)?;
         let head = self.kept_behind(sign, NAME)?;
-        let head = self.kept_behind(head, PAREN)?;
-        Ok(head)
+        self.kept_behind(head, PAREN)
     }
 
     /// `'bulk' '(' ('+' | '-') name ','`
@@ -73,8 +71,7 @@ impl<'a> Parser<'a> {
         let head = self.bracketed(BULK)?;
         let head = self.kept_behind(head, SIGNS)?;
         let head = self.kept_behind(head, NAME)?;
-        let head = self.ended_by(head, COMMA)?;
-        Ok(head)
+        self.ended_by(head, COMMA)
     }
 
     /// `'rows' '(' name ')' '{'`
@@ -84,8 +81,7 @@ impl<'a> Parser<'a> {
         ensures shorter { OnOk result (length self.new < length self.old) }
     {
         let named = self.naming(ROWS, CLOSE_PAREN)?;
-        let head = self.kept_behind(named, BRACE)?;
-        Ok(head)
+        self.kept_behind(named, BRACE)
     }
 
     /// A keyword, a bracket, a name and the terminal that stands behind it.
@@ -98,11 +94,9 @@ impl<'a> Parser<'a> {
         ensures sticks { IsErrOf result Stop.Syntax → Sticks (keep words.now ∷ keep phrases.paren ∷ keep phrases.name ∷ leave end ∷ []) self.old self.new }
         ensures shorter { OnOk result (length self.new < length self.old) }
     {
-        let word = self.keep(words)?;
-        let head = self.kept_behind(word, PAREN)?;
+        let head = self.bracketed(words)?;
         let head = self.kept_behind(head, NAME)?;
-        let head = self.ended_by(head, end)?;
-        Ok(head)
+        self.ended_by(head, end)
     }
 
     /// `name '=' name`
@@ -111,9 +105,10 @@ impl<'a> Parser<'a> {
         ensures sticks { IsErrOf result Stop.Syntax → Sticks (phrase phrases.renaming ∷ []) self.old self.new }
         ensures shorter { OnOk result (length self.new < length self.old) }
     {
-        let new = self.keep(NAME)?;
-        self.skip(EQUALS)?;
-        let old = self.keep(NAME)?;
+        let new = self.name_before(EQUALS)?;
+        let old = self.keep(NAME);
+        let both = joined(new, old)?;
+        let (new, old) = both;
         Ok(Renaming::new(new, old))
     }
 
@@ -143,10 +138,7 @@ impl<'a> Parser<'a> {
             let count = self.keep(COUNT)?;
             return Ok(AggTree::count(count));
         }
-        let word = self.keep(FOLD_WORDS)?;
-        let head = self.kept_behind(word, PAREN)?;
-        let head = self.kept_behind(head, NAME)?;
-        let head = self.ended_by(head, CLOSE_PAREN)?;
+        let head = self.naming(FOLD_WORDS, CLOSE_PAREN)?;
         let ((word, bracket), name) = head;
         Ok(AggTree::of(word, bracket, name))
     }
@@ -191,13 +183,12 @@ impl<'a> Parser<'a> {
         ensures sticks { IsErrOf result Stop.Syntax → Sticks (phrase phrases.field ∷ []) self.old self.new }
         ensures no_longer { OnOk result (length self.new ≤ length self.old) }
     {
+        let given = Box::new(alloc, part)?;
         if !self.next_is(&[DOT]) {
-            let plain = Box::new(alloc, part)?;
-            return Ok((plain, None));
+            return Ok((given, None));
         }
         self.skip(DOT)?;
         let name = self.keep(NAME)?;
-        let given = Box::new(alloc, part)?;
         Ok((given, Some(name)))
     }
 }

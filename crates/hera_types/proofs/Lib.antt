@@ -1,7 +1,6 @@
 pub mod Block_lemmas
 pub mod Decided
 pub mod Made
-pub mod Names
 pub mod Returning
 pub mod Steps
 pub mod Turns

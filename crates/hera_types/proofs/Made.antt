@@ -1,5 +1,5 @@
 -- Bodies that are made of their blocks.
-use Rattle.std.proofs.Common.{◌≡◌, ℕ, ◌+◌, List, [], ◌∷◌, length, map, refl, sym, ap, ◌∙◌, Bool, true, false, cond}
+use Rattle.std.proofs.Common.{◌≡◌, ℕ, ◌+◌, List, [], ◌∷◌, length, refl, sym, ap, ◌∙◌, Bool, true, false, cond}
 use Rattle.std.specs.Prelude.{Option, Some, None, Result, Ok, Err, is_some}
 use Rattle.hera_meaning.specs.declared.trees.Shape.{Shape}
 use Rattle.hera_meaning.specs.Trees.{Command, Block, Body_tree}
@@ -7,20 +7,16 @@ use Rattle.hera_host.specs.Tables.{Host}
 use Rattle.hera_meaning.specs.Sound.{returns}
 use Rattle.hera_rules.specs.declared.env.Local.{Local}
 use Rattle.hera_rules.specs.declared.env.FuncSig.{FuncSig}
-use Rattle.hera_rules.specs.declared.env.ProcSig.{ProcSig}
-use Rattle.hera_rules.specs.declared.words.Word.{Word}
-use Rattle.hera_meaning.specs.declared.schemas.RelDecl.{RelDecl}
-use Rattle.hera_meaning.specs.Catalogues.{decl_name}
 use Rattle.hera_rules.specs.declared.fault.TypeFault.{TypeFault}
 use Rattle.hera_rules.specs.declared.fault.TypeFault.TheVariants.{NoReturn as no_return}
 use Rattle.hera_rules.specs.Environments.{Env}
-use Rattle.hera_rules.specs.Phrases.{Acts, Func_phrase, Proc_phrase, Script}
+use Rattle.hera_rules.specs.Phrases.{Acts, Func_phrase, Script}
 use Rattle.hera_rules.specs.Commands.{block_from}
 use Rattle.hera_rules.specs.Statements.{slots_of_acts}
 use Rattle.hera_rules.specs.Checked.{and_then}
 use Rattle.hera_rules.specs.CheckedActs.{check_acts}
 use Rattle.hera_rules.specs.CheckedScripts.{check_body, check_funcs, check_procs, check_script}
-use Rattle.hera_rules.specs.Programs.{relations_row, names_row, funcs_row, procs_row, returns_row, body_with, env_row, program_with}
+use Rattle.hera_rules.specs.Programs.{returns_row, body_with, env_row, program_with}
 use Rattle.hera_types.specs.Passes.{body_row, func_body_row}
 
 pub body_done : (g : Env) (r : Option Shape) (params ls : List Local) (n s : ℕ) (f : Bool) (b : Block) (block : Acts) {cs : List Command} →
@@ -98,31 +94,3 @@ module _ (hosts : List Host) (s : Script) where
   pub script_done : {g : Env} {funcs all : List Body_tree} {b : Body_tree} → env_row hosts s ≡ Ok g → check_funcs g [] g.funcs s.funcs ≡ Ok funcs → check_procs g funcs g.procs s.procs ≡ Ok all →
       body_row g None [] s.main ≡ Ok b → check_script hosts s ≡ Ok (record { relations = g.relations; bodies = b ∷ all })
   script_done {g = g} {all = all} {b = b} e x y h = rw (e, x, y) (main_is g s all (check_body g None [] s.main) b h)
-
--- what names mean: the first three passes
-module _ (hosts : List Host) (s : Script) where
-  pub env_funcs_named : {rels : List RelDecl} {ws : List Word} {f : TypeFault} → relations_row [] s.relations ≡ Ok rels → map (λ (f : Func_phrase). f.name) s.funcs ≡ ws →
-      names_row (map decl_name rels) ws ≡ Err f → env_row hosts s ≡ Err f
-  env_funcs_named e w x = rw (e, w, x) refl
-
-  pub env_procs_named : {rels : List RelDecl} {ws vs : List Word} {some : List (List ℕ)} {f : TypeFault} → relations_row [] s.relations ≡ Ok rels → map (λ (f : Func_phrase). f.name) s.funcs ≡ ws →
-      names_row (map decl_name rels) ws ≡ Ok some → map (λ (p : Proc_phrase). p.name) s.procs ≡ vs → names_row some vs ≡ Err f → env_row hosts s ≡ Err f
-  env_procs_named e w x v y = rw (e, w, x, v, y) refl
-
-  -- the names are all new, and these are taken
-  pub record Named (rels : List RelDecl) (taken : List (List ℕ)) : Type 0 where
-    pub some : List (List ℕ)
-    pub declared : relations_row [] s.relations ≡ Ok rels
-    pub funcs : names_row (map decl_name rels) (map (λ (f : Func_phrase). f.name) s.funcs) ≡ Ok some
-    pub procs : names_row some (map (λ (p : Proc_phrase). p.name) s.procs) ≡ Ok taken
-
-  pub env_funcs : {rels : List RelDecl} {taken : List (List ℕ)} {f : TypeFault} → Named rels taken → funcs_row rels taken [] s.funcs ≡ Err f → env_row hosts s ≡ Err f
-  env_funcs n e = rw (n.declared, n.funcs, n.procs, e) refl
-
-  pub env_procs : {rels : List RelDecl} {taken : List (List ℕ)} {funcs : List FuncSig} {f : TypeFault} → Named rels taken → funcs_row rels taken [] s.funcs ≡ Ok funcs →
-      procs_row rels taken (length funcs) [] s.procs ≡ Err f → env_row hosts s ≡ Err f
-  env_procs n e k = rw (n.declared, n.funcs, n.procs, e, k) refl
-
-  pub env_done : {rels : List RelDecl} {taken : List (List ℕ)} {funcs : List FuncSig} {procs : List ProcSig} → Named rels taken → funcs_row rels taken [] s.funcs ≡ Ok funcs →
-      procs_row rels taken (length funcs) [] s.procs ≡ Ok procs → env_row hosts s ≡ Ok (record { relations = rels; funcs = funcs; procs = procs; hosts = hosts })
-  env_done n e k = rw (n.declared, n.funcs, n.procs, e, k) refl

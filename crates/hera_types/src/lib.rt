@@ -3,11 +3,9 @@
 
 mod blocks;
 mod bodies;
-mod param_list;
-mod relations;
 mod scripts;
-mod signatures;
 mod statements;
 
 pub use hera_rules::TypeFault;
-pub use scripts::{elaborate, globals_of};
+pub use hera_types_globals::globals_of;
+pub use scripts::elaborate;

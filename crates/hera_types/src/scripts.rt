@@ -6,8 +6,7 @@ ghost use Rattle.hera_meaning.specs.Plain.{program_of};
 ghost use Rattle.hera_meaning.specs.Sound.{Sound};
 ghost use Rattle.hera_rules.specs.Agrees.{Gives};
 ghost use Rattle.hera_rules.specs.CheckedScripts.{check_script};
-ghost use Rattle.hera_rules.specs.Environments.{env_of};
-ghost use Rattle.hera_rules.specs.Programs.{ElabScript, FirstFault, env_row};
+ghost use Rattle.hera_rules.specs.Programs.{ElabScript, FirstFault};
 ghost use Rattle.hera_rules.specs.ReadActs.{script_of};
 ghost use Rattle.hera_rules.specs.declared.fault.TypeFault.{TypeFault};
 ghost use Rattle.hera_syntax.specs.Tokens.{HaveValues, script_limit};
@@ -15,14 +14,12 @@ ghost use Rattle.hera_syntax.specs.Trees.{IsTextOf};
 ghost use Rattle.hera_syntax.specs.declared.token.Token.{Token};
 
 use crate::bodies::{func_bodies, main_body, proc_bodies};
-use crate::relations::relations_of;
-use crate::signatures::{funcs_of, procs_of, relation_names, with_funcs, with_procs};
 use hera_host::{HostNames, HostTable};
 use hera_meaning::{Body, Program};
-use hera_rules::{Globals, TypeFault};
+use hera_rules::TypeFault;
 use hera_sound::typed_programs_are_sound;
 use hera_syntax::Tree;
-use hera_types_parts::GlobalNames;
+use hera_types_globals::globals_of;
 use std::alloc::{AllocError, Global};
 
 /// The program of a script, or its first fault in the order of checking.
@@ -51,30 +48,6 @@ fn checked(alloc: Global, tree: &Tree, hosts: &HostNames) -> Result<Program, Typ
     put_first(&mut bodies, main)?;
     let relations = globals.into_relations().into_decls();
     Ok(Program { relations, bodies })
-}
-
-/// What the global names of a script mean, or the first fault among them: the first three passes, which look at the
-/// relations, then at the names of funcs and procs, then at their signatures. `Memory` tells nothing of the script.
-pub fn globals_of<'a>(
-    alloc: Global,
-    tree: &Tree,
-    hosts: &'a HostNames,
-) -> Result<GlobalNames<'a>, TypeFault>
-    ensures { Gives env_of result (env_row hosts.now (script_of tree.now)) }
-{
-    let relations = relations_of(alloc, &tree.relations)?;
-    let own = relation_names(alloc, &relations)?;
-    let some = with_funcs(alloc, own, &tree.funcs)?;
-    let taken = with_procs(alloc, some, &tree.procs)?;
-    let funcs = funcs_of(alloc, &relations, &taken, &tree.funcs)?;
-    let procs = procs_of(alloc, &relations, &taken, funcs.len(), &tree.procs)?;
-    let globals = Globals {
-        relations,
-        funcs,
-        procs,
-        hosts,
-    };
-    Ok(GlobalNames::new(alloc, globals)?)
 }
 
 /// A body more, in front of these.

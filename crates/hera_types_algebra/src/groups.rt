@@ -4,7 +4,7 @@ ghost use Rattle.hera_meaning.specs.Forms.{agg_kind};
 ghost use Rattle.hera_meaning.specs.Plain.{expr_of};
 ghost use Rattle.hera_rules.specs.Agrees.{Gives, typing_of};
 ghost use Rattle.hera_rules.specs.Rules.{agg_attr, agg_in, agg_words, aggs_in, either, group_attrs, group_row, measured_words, places_in, repeat_in, result_fault, stranger_in, sums_int};
-ghost use Rattle.hera_types_algebra.specs.Operations.{over_one};
+ghost use Rattle.hera_types_parts.specs.Operations.{over_one};
 ghost use Rattle.hera_types_algebra.specs.Tests.{group_fault_in};
 ghost use Rattle.hera_types_parts.specs.Tests.{Tests};
 ghost use Rattle.std.specs.List.{list_all};
@@ -13,12 +13,11 @@ ghost use Rattle.hera_meaning.specs.declared.trees.Op.TheVariants as ops;
 ghost use Rattle.hera_meaning.specs.declared.trees.Shape.TheVariants as shapes;
 ghost use Rattle.hera_rules.specs.declared.fault.TypeFault.TheVariants as fault;
 
-use crate::operations::{Operation, on_one};
 use hera_meaning::{Agg, Aggs, Attr, Kind, Op, Schema, Shape};
 use hera_rules::{Aggregate, Fold, Measured, TypeFault, Typed, Word};
 use hera_types_parts::{
-    NameSet, add_attrs, distinct_names, kind_named, made, measured, place_named_or, place_of_name,
-    places_of, put, same_kind, stranger_of, word,
+    NameSet, Operation, add_attrs, distinct_names, kind_named, made, measured, on_one,
+    place_named_or, place_of_name, places_of, put, same_kind, stranger_of, word,
 };
 use std::alloc::{AllocError, Global};
 

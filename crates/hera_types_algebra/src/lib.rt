@@ -5,11 +5,9 @@
 #![tactic(auto)]
 
 mod groups;
-mod operations;
 mod renames;
 mod set_operators;
 
 pub use groups::check_group;
-pub use operations::{Operation, on_one, on_two};
 pub use renames::check_rename;
 pub use set_operators::{check_pair, check_project};

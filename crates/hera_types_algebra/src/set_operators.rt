@@ -6,7 +6,7 @@ ghost use Rattle.hera_meaning.specs.Scalars.{is_same_kind};
 ghost use Rattle.hera_rules.specs.Agrees.{Gives, typing_of};
 ghost use Rattle.hera_rules.specs.Rules.{attr_in, join_type, kinds_agree, pair_row, places_in, project_row, sets_of};
 ghost use Rattle.hera_sets.specs.Rows.{is_same};
-ghost use Rattle.hera_types_algebra.specs.Operations.{over_one, over_two};
+ghost use Rattle.hera_types_parts.specs.Operations.{over_one, over_two};
 ghost use Rattle.hera_types_algebra.specs.Tests.{are_same_rels};
 ghost use Rattle.std.specs.List.{list_all};
 ghost use Rattle.std.specs.Prelude.{IfErr, IfOk, OnOk, [], cond, map, not, ◌++◌, ◌∷◌, ◌||◌, ◌≡◌};
@@ -14,13 +14,12 @@ ghost use Rattle.hera_meaning.specs.declared.trees.Op.TheVariants as ops;
 ghost use Rattle.hera_meaning.specs.declared.trees.Shape.TheVariants as shapes;
 ghost use Rattle.hera_rules.specs.declared.fault.TypeFault.TheVariants as fault;
 
-use crate::operations::{Operation, on_one, on_two};
 use hera_meaning::{Attr, Op, Schema, Shape};
 use hera_rules::{Pair, TypeFault, Typed, Word};
 use hera_sets::is_same;
 use hera_types_parts::{
-    add_attrs, binary, distinct_names, into_core, made, place_of_name, places_of, put, same_kind,
-    same_schema, stranger_of,
+    Operation, add_attrs, binary, distinct_names, into_core, made, on_one, on_two, place_of_name,
+    places_of, put, same_kind, same_schema, stranger_of,
 };
 use std::alloc::{AllocError, Global};
 

@@ -59,8 +59,8 @@ pub fn check_call(
         if !take_params(func.params.items(), &values) {
             return Err(TypeFault::Mismatch { at: token.at });
         }
-        let shape = func.result.copy()?;
         let args = cores(alloc, values)?;
+        let shape = func.result.copy()?;
         return Ok(Typed {
             shape,
             core: Core::Call(func.number, args),
@@ -89,10 +89,9 @@ fn check_host(
     if !takes_one(&type_of_kind(hosts.param(host)), &values) {
         return Err(TypeFault::Mismatch { at: token.at });
     }
-    let shape = type_of_kind(hosts.result(host));
     let args = cores(alloc, values)?;
     Ok(Typed {
-        shape,
+        shape: type_of_kind(hosts.result(host)),
         core: Core::Host(host, args),
     })
 }

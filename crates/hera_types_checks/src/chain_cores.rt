@@ -97,14 +97,16 @@ pub fn chain_of(alloc: Global, first: Core, items: Vec<Item>) -> Result<Core, Al
         None => Ok(first),
         Some(item) => match &item.joint {
             Joint::When => {
+                let start = boxed(alloc, first)?;
                 let hypos = hypos_of_items(alloc, items)?;
-                Ok(Core::When(boxed(alloc, first)?, hypos))
+                Ok(Core::When(start, hypos))
             }
             Joint::And => Ok(Core::And(args_of_items(alloc, first, items)?)),
             Joint::Or => Ok(Core::Or(args_of_items(alloc, first, items)?)),
             _ => {
+                let start = boxed(alloc, first)?;
                 let links = links_of_items(alloc, items)?;
-                Ok(Core::Chain(boxed(alloc, first)?, links))
+                Ok(Core::Chain(start, links))
             }
         },
     }

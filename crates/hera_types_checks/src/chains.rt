@@ -23,10 +23,11 @@ pub struct Chain {
 impl Drop for Chain {
     fn drop(self) {
         let Chain {
-            shape: _,
-            first: _,
-            items: _,
+            shape,
+            first,
+            items,
         } = self;
+        drop((shape, first, items));
     }
 }
 

@@ -5,39 +5,49 @@ ghost use Rattle.hera_meaning.specs.Plain.{expr_of};
 ghost use Rattle.hera_rules.specs.Agrees.{Gives, typing_of};
 ghost use Rattle.hera_rules.specs.Environments.{env_of};
 ghost use Rattle.hera_rules.specs.Read.{word_of};
+ghost use Rattle.hera_rules.specs.declared.words.WalkKind.TheVariants as walks;
 ghost use Rattle.hera_rules.specs.Rules.{bulk_row, field_row, fold_row, given, has_kinds, is_bool, is_delta, is_int, is_member, is_text, joint_row, part_op, part_row, prefix_row, test_row, variable_row, walk_row};
 ghost use Rattle.hera_sets.specs.Rows.{holds};
-ghost use Rattle.hera_types_algebra.specs.Operations.{over_one};
-ghost use Rattle.std.specs.Prelude.{◌&&◌, ◌||◌, ◌≡◌};
+ghost use Rattle.hera_types_parts.specs.Operations.{over_one};
+ghost use Rattle.std.specs.Prelude.{◌&&◌, ◌||◌, ◌≡◌, IfOk};
 ghost use Rattle.hera_rules.specs.declared.fault.TypeFault.TheVariants as fault;
 
 use hera_meaning::{Core, Kind, Op, RelId, Schema, Shape, Sign};
 use hera_rules::{Fold, Joint, Local, Prefix, Test, TypeFault, Typed, WalkKind};
 use hera_syntax::Token;
-use hera_types_algebra::{Operation, on_one};
 use hera_types_parts::{
-    GlobalNames, LocalNames, boxed, has_name, into_core, kind_of_place, name_bytes, name_copy,
-    place_of_name, same_kinds, same_schema, same_shape, type_of_kind, unary,
+    GlobalNames, LocalNames, Operation, has_name, into_core, kind_of_place, name_bytes, name_copy,
+    on_one, place_of_name, same_kinds, same_schema, same_shape, type_of_kind, unary,
 };
-use std::alloc::Global;
+use std::alloc::{AllocError, Global};
 
 /// `-` of an int, `!` of a bool.
 pub fn check_prefix(alloc: Global, op: Prefix, at: u32, value: Typed) -> Result<Typed, TypeFault>
     ensures { Gives typing_of result (prefix_row op at (typing_of value)) }
 {
-    match (op, &value.shape) {
-        (Prefix::Minus, Shape::Int) => Ok(Typed {
-            shape: Shape::Int,
-            core: unary(alloc, Op::Neg, into_core(value), at)?,
-        }),
-        (Prefix::Not, Shape::Bool) => Ok(Typed {
-            shape: Shape::Bool,
-            core: unary(alloc, Op::Not, into_core(value), at)?,
-        }),
-        _ => {
+    match prefixing(op, at, &value) {
+        Ok(operation) => on_one(alloc, operation, value, at),
+        Err(fault) => {
             drop(value);
-            Err(TypeFault::Mismatch { at })
+            Err(fault)
         }
+    }
+}
+
+/// The operation of a prefix.
+fn prefixing(op: Prefix, at: u32, value: &Typed) -> Result<Operation, TypeFault>
+    ensures { Gives (over_one (expr_of value.now.core) at) result (prefix_row op at (typing_of value.now)) }
+{
+    match (op, &value.shape) {
+        (Prefix::Minus, Shape::Int) => Ok(Operation {
+            op: Op::Neg,
+            shape: Shape::Int,
+        }),
+        (Prefix::Not, Shape::Bool) => Ok(Operation {
+            op: Op::Not,
+            shape: Shape::Bool,
+        }),
+        _ => Err(TypeFault::Mismatch { at }),
     }
 }
 
@@ -191,7 +201,6 @@ pub fn check_variable(
 }
 
 /// `select`: a bool, the rel's type; `map`: a tuple, a rel of its schema.
-#[tactic(auto, using(hera_meaning::proofs::PlainLaws::plain))]
 pub fn check_walk(
     alloc: Global,
     walk: WalkKind,
@@ -202,52 +211,103 @@ pub fn check_walk(
 ) -> Result<Typed, TypeFault>
     ensures { Gives typing_of result (walk_row walk at slot (typing_of of) (typing_of body)) }
 {
-    let Typed {
-        shape: of_shape,
-        core: of_core,
-    } = of;
-    let Typed { shape, core } = body;
-    let over = boxed(alloc, of_core)?;
-    let inner = boxed(alloc, core)?;
     match walk {
-        WalkKind::Keeping => match shape {
-            Shape::Bool => Ok(Typed {
-                shape: of_shape,
-                core: Core::Select(slot, over, inner),
-            }),
-            _ => Err(TypeFault::Mismatch { at }),
-        },
-        WalkKind::Mapping => match shape {
-            Shape::Tuple(schema) => Ok(Typed {
+        WalkKind::Keeping => check_select(alloc, at, slot, of, body),
+        WalkKind::Mapping => check_map(alloc, at, slot, of, body),
+    }
+}
+
+/// `select`: a bool, the rel's type.
+#[tactic(auto, using(hera_meaning::proofs::PlainLaws::plain))]
+fn check_select(
+    alloc: Global,
+    at: u32,
+    slot: u32,
+    of: Typed,
+    body: Typed,
+) -> Result<Typed, TypeFault>
+    ensures { Gives typing_of result (walk_row walks.Keeping at slot (typing_of of) (typing_of body)) }
+{
+    if !bool_shape(&body.shape) {
+        drop((of, body));
+        return Err(TypeFault::Mismatch { at });
+    }
+    let Typed { shape, core } = of;
+    match both_boxed(alloc, core, into_core(body)) {
+        Ok((over, inner)) => Ok(Typed {
+            shape,
+            core: Core::Select(slot, over, inner),
+        }),
+        Err(_) => {
+            drop(shape);
+            Err(TypeFault::Memory)
+        }
+    }
+}
+
+/// `map`: a tuple, a rel of its schema.
+#[tactic(auto, using(hera_meaning::proofs::PlainLaws::plain))]
+fn check_map(alloc: Global, at: u32, slot: u32, of: Typed, body: Typed) -> Result<Typed, TypeFault>
+    ensures { Gives typing_of result (walk_row walks.Mapping at slot (typing_of of) (typing_of body)) }
+{
+    let Typed { shape, core } = body;
+    let over = into_core(of);
+    match shape {
+        Shape::Tuple(schema) => match both_boxed(alloc, over, core) {
+            Ok((over, inner)) => Ok(Typed {
                 shape: Shape::Rel(schema),
                 core: Core::Map(slot, over, inner),
             }),
-            _ => Err(TypeFault::Mismatch { at }),
+            Err(_) => Err(TypeFault::Memory),
         },
+        other => {
+            drop((other, over, core));
+            Err(TypeFault::Mismatch { at })
+        }
     }
+}
+
+/// Both in boxes.
+fn both_boxed<T: Drop>(alloc: Global, first: T, second: T) -> Result<(Box<T>, Box<T>), AllocError>
+    ensures first { IfOk result (λ both. both.0.value ≡ first) }
+    ensures second { IfOk result (λ both. both.1.value ≡ second) }
+{
+    let left = Box::new(alloc, first)?;
+    let right = Box::new(alloc, second)?;
+    Ok((left, right))
 }
 
 /// `count`, `empty`: a rel; `isfail`: a delta.
 pub fn check_test(alloc: Global, test: Test, at: u32, value: Typed) -> Result<Typed, TypeFault>
     ensures { Gives typing_of result (test_row test at (typing_of value)) }
 {
-    match (test, &value.shape) {
-        (Test::Count, Shape::Rel(_)) => Ok(Typed {
-            shape: Shape::Int,
-            core: unary(alloc, Op::Count, into_core(value), at)?,
-        }),
-        (Test::Empty, Shape::Rel(_)) => Ok(Typed {
-            shape: Shape::Bool,
-            core: unary(alloc, Op::Empty, into_core(value), at)?,
-        }),
-        (Test::IsFail, Shape::Delta) => Ok(Typed {
-            shape: Shape::Bool,
-            core: unary(alloc, Op::IsFail, into_core(value), at)?,
-        }),
-        _ => {
+    match testing(test, at, &value) {
+        Ok(operation) => on_one(alloc, operation, value, at),
+        Err(fault) => {
             drop(value);
-            Err(TypeFault::Mismatch { at })
+            Err(fault)
         }
+    }
+}
+
+/// The operation of `count`, `empty` or `isfail`.
+fn testing(test: Test, at: u32, value: &Typed) -> Result<Operation, TypeFault>
+    ensures { Gives (over_one (expr_of value.now.core) at) result (test_row test at (typing_of value.now)) }
+{
+    match (test, &value.shape) {
+        (Test::Count, Shape::Rel(_)) => Ok(Operation {
+            op: Op::Count,
+            shape: Shape::Int,
+        }),
+        (Test::Empty, Shape::Rel(_)) => Ok(Operation {
+            op: Op::Empty,
+            shape: Shape::Bool,
+        }),
+        (Test::IsFail, Shape::Delta) => Ok(Operation {
+            op: Op::IsFail,
+            shape: Shape::Bool,
+        }),
+        _ => Err(TypeFault::Mismatch { at }),
     }
 }
 

@@ -153,9 +153,12 @@ pub fn check_line(
     if !take_kinds(schema, &values) {
         return Err(TypeFault::Mismatch { at });
     }
+    let own = schema.copy()?;
     let core = row_with(alloc, schema, values, at)?;
-    let shape = Shape::Tuple(schema.copy()?);
-    Ok(Typed { shape, core })
+    Ok(Typed {
+        shape: Shape::Tuple(own),
+        core,
+    })
 }
 
 /// `rows`.
@@ -171,9 +174,12 @@ pub fn check_lines(
     let Some(rel) = globals.relation(name_bytes(token)) else {
         return Err(TypeFault::Unknown { at: token.at });
     };
+    let schema = globals.schema(rel).copy()?;
     let core = table_of(alloc, values, at)?;
-    let shape = Shape::Rel(globals.schema(rel).copy()?);
-    Ok(Typed { shape, core })
+    Ok(Typed {
+        shape: Shape::Rel(schema),
+        core,
+    })
 }
 
 /// The table of rows.
@@ -225,8 +231,8 @@ pub fn check_atoms(alloc: Global, at: u32, values: Vec<Typed>) -> Result<Typed, 
             core: first,
         });
     }
-    let links = merges_of(alloc, at, rest)?;
     let start = boxed(alloc, first)?;
+    let links = merges_of(alloc, at, rest)?;
     Ok(Typed {
         shape: Shape::Delta,
         core: Core::Chain(start, links),

@@ -11,7 +11,8 @@ pub struct Waiting {
 
 impl Drop for Waiting {
     fn drop(self) {
-        let Waiting { typed: _ } = self;
+        let Waiting { typed } = self;
+        drop(typed);
     }
 }
 

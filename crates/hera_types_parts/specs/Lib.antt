@@ -1,2 +1,3 @@
 pub mod NameSets
 pub mod Tests
+pub mod Operations

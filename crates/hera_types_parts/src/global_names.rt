@@ -13,11 +13,21 @@ use std::alloc::{AllocError, Global};
 use std::marker::Model;
 
 /// What the global names of a script mean. A look-up of a name takes no longer where there are more.
-#[derive(Drop)]
 pub struct GlobalNames<'a> {
     globals: Globals<'a>,
     funcs: NameSet,
     procs: NameSet,
+}
+
+/// It is a function so that the proofs of whoever lets the names go do not go through their parts.
+impl<'a> Drop for GlobalNames<'a> {
+    fn drop(self) {
+        let GlobalNames {
+            globals: _,
+            funcs: _,
+            procs: _,
+        } = self;
+    }
 }
 
 impl<'a> Model for GlobalNames<'a> {

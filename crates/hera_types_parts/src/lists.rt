@@ -26,14 +26,37 @@ pub fn boxed(alloc: Global, core: Core) -> Result<Box<Core>, AllocError>
     Ok(Box::new(alloc, core)?)
 }
 
+/// A list of one item.
+fn list_of_one<T: Drop>(alloc: Global, item: T) -> Result<Vec<T>, AllocError>
+    ensures { IfOk result (λ all. all.items ≡ item ∷ []) }
+{
+    let mut all = Vec::new(alloc);
+    put(&mut all, item)?;
+    Ok(all)
+}
+
+/// A list of two items.
+fn list_of_two<T: Drop>(alloc: Global, first: T, second: T) -> Result<Vec<T>, AllocError>
+    ensures { IfOk result (λ all. all.items ≡ first ∷ second ∷ []) }
+{
+    let mut all = Vec::new(alloc);
+    put(&mut all, first)?;
+    put(&mut all, second)?;
+    Ok(all)
+}
+
 /// The operation of one operand.
 #[tactic(auto, using(hera_meaning::proofs::PlainLaws::plain))]
 pub fn unary(alloc: Global, op: Op, core: Core, at: u32) -> Result<Core, AllocError>
     ensures { IfOk result (λ e. expr_of e ≡ prim op (one_expr (expr_of core)) at) }
 {
-    let mut args = Vec::new(alloc);
-    put(&mut args, core)?;
-    Ok(Core::Prim(op, args, at))
+    match list_of_one(alloc, core) {
+        Ok(args) => Ok(Core::Prim(op, args, at)),
+        Err(error) => {
+            drop(op);
+            Err(error)
+        }
+    }
 }
 
 /// The operation of two operands.
@@ -41,10 +64,13 @@ pub fn unary(alloc: Global, op: Op, core: Core, at: u32) -> Result<Core, AllocEr
 pub fn binary(alloc: Global, op: Op, left: Core, right: Core, at: u32) -> Result<Core, AllocError>
     ensures { IfOk result (λ e. expr_of e ≡ prim op (two_exprs (expr_of left) (expr_of right)) at) }
 {
-    let mut args = Vec::new(alloc);
-    put(&mut args, left)?;
-    put(&mut args, right)?;
-    Ok(Core::Prim(op, args, at))
+    match list_of_two(alloc, left, right) {
+        Ok(args) => Ok(Core::Prim(op, args, at)),
+        Err(error) => {
+            drop(op);
+            Err(error)
+        }
+    }
 }
 
 /// The core of a typed phrase.

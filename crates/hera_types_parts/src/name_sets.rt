@@ -14,9 +14,15 @@ use std::alloc::{AllocError, Global};
 use std::marker::Model;
 
 /// Names in the order in which they were added, none twice.
-#[derive(Drop)]
 pub struct NameSet {
     names: IndexSet<Vec<u8>>,
+}
+
+/// It is a function so that the proofs of whoever lets a set go do not go through its parts.
+impl Drop for NameSet {
+    fn drop(self) {
+        let NameSet { names: _ } = self;
+    }
 }
 
 impl Model for NameSet {

@@ -3,7 +3,7 @@ use Rattle.std.specs.Prelude.{Ok}
 use Rattle.hera_meaning.specs.Plain.{expr_of}
 use Rattle.hera_rules.specs.Rules.{group_type, unless}
 use Rattle.hera_types_parts.proofs.Giving.{gives_done, gives_err}
-use Rattle.hera_types_algebra.specs.Operations.{over_one}
+use Rattle.hera_types_parts.specs.Operations.{over_one}
 use Rattle.hera_types_algebra.proofs.Faults.{group_typing, group_type_is, ok_ap}
 use Rattle.hera_types_algebra.proofs.groups.grouping.Goals as goal
 

@@ -1,13 +1,14 @@
 use Rattle.std.proofs.Common.{rules, arith, refl, sym, ap, ◌∙◌, ◌++◌, ◌∷◌, []}
 use Rattle.hera_syntax.specs.declared.expr.Level.TheVariants as levels
+use Rattle.hera_syntax.specs.declared.token.Token.{Token}
 use Rattle.hera_syntax.specs.Grammar.{phrase, keep, leave}
 use Rattle.hera_syntax.specs.Grammar as phrases
 use Rattle.hera_syntax.specs.Operators.{operand_of, operators_of}
-use Rattle.hera_syntax.specs.Outline.{aggs_outline, args_outline, args_row, atom_outline, atoms_outline, atoms_row, binding_outline, bindings_outline, bindings_row, expr_outline, hold, line_outline, lines_outline, lines_row, more_of, names_outline, node, operand_outline, prime_outline, production_of, renamings_outline, skip, tail_outline, tail_row}
+use Rattle.hera_syntax.specs.Outline.{aggs_outline, args_outline, args_row, atom_outline, atoms_outline, atoms_row, binding_outline, bindings_outline, bindings_row, expr_outline, hold, line_outline, lines_outline, lines_row, more_of, names_outline, node, operand_outline, post_outline, prime_outline, production_of, renamings_outline, skip, tail_outline, tail_row}
 use Rattle.hera_parser_exprs.specs.declared.forms.PrimeForm.TheVariants as forms
 use Rattle.hera_parser_exprs.specs.Reading.{next_terminal}
 use Rattle.hera_parser_exprs.proofs.Steps.{choose, next, next_choose, stops, stops_list, join, idle, before, as_marks, items_start, items_more}
-use Rattle.hera_parser_exprs.proofs.JoinedParts.{got, shortened, stops_in, reads_there}
+use Rattle.hera_parser_exprs.proofs.JoinedParts.{got, ok_two_on, ok_shorter, shortened, stops_in, reads_there}
 use Rattle.hera_parser_exprs.proofs.Choices.{told, other}
 use Rattle.hera_parser_exprs.proofs.Numbered.{as_form}
 use Rattle.hera_parser_exprs.proofs.Levels.{begins, goes_on, ends, lower, told_by, keeps_as, sticks_as, compared_none, compared_one}
@@ -52,11 +53,14 @@ comparison-returns-clause-shorter t c = omega (arith, c.in_ok-first.ensures.shor
 pub tail-returns-in_err-op-clause-sticks : goal.tail-returns-in_err-op-clause-sticks
 tail-returns-in_err-op-clause-sticks t c h = stops idle (sticks_as c.operators.ensures (c.in_err-op.ensures.sticks (search rules)))
 
-pub tail-returns-in_err-operand-clause-sticks : goal.tail-returns-in_err-operand-clause-sticks
-tail-returns-in_err-operand-clause-sticks t c h = stops (next idle (keeps_as c.operators.ensures c.in_ok-op.ensures.reads)) (c.in_err-operand.ensures.sticks (search rules))
+pub tail-returns-in_err-both-clause-sticks : goal.tail-returns-in_err-both-clause-sticks
+tail-returns-in_err-both-clause-sticks t c h = stops (next idle (keeps_as c.operators.ensures c.in_ok-op.ensures.reads)) (c.operand-operand.ensures.sticks (c.in_err-both.ensures.stops (search rules)))
 
 pub tail-returns-clause-reads : goal.tail-returns-clause-reads
-tail-returns-clause-reads t c = as_marks c.new.ensures (next (next idle (keeps_as c.operators.ensures c.in_ok-op.ensures.reads)) c.in_ok-operand.ensures.reads)
+tail-returns-clause-reads t c = as_marks c.new.ensures (next (next idle (keeps_as c.operators.ensures (as_marks (ap hold c.in_ok-both.ensures.same) c.in_ok-op.ensures.reads))) (got operand_outline (phrase (operand_of c.args.level) ∷ []) c.in_ok-both.ensures.read c.operand-operand.ensures.reads))
+
+pub tail-returns-clause-shorter : goal.tail-returns-clause-shorter
+tail-returns-clause-shorter t c = omega (arith, c.in_ok-op.ensures.shorter, shortened c.in_ok-both.ensures.read c.operand-operand.ensures.shorter)
 
 pub operand-level-requires : goal.operand-level-requires
 operand-level-requires t c = omega (arith, lower c.args.level c.in-Some.below (sym c.below.ensures ∙ c.in-Some.is))
@@ -70,11 +74,14 @@ prefix_level-returns-then-not-next_is-clause-reads t c = as_marks c.plain.ensure
 pub prefix_level-returns-in_err-op-clause-sticks : goal.prefix_level-returns-in_err-op-clause-sticks
 prefix_level-returns-in_err-op-clause-sticks t c h = stops (choose phrases.prefix 0 (told phrases.prefix 0 refl (sym c.next_is.ensures ∙ c.if-not-next_is.false))) (c.in_err-op.ensures.sticks (search rules))
 
-pub prefix_level-returns-in_err-operand-clause-sticks : goal.prefix_level-returns-in_err-operand-clause-sticks
-prefix_level-returns-in_err-operand-clause-sticks t c h = stops (next (choose phrases.prefix 0 (told phrases.prefix 0 refl (sym c.next_is.ensures ∙ c.if-not-next_is.false))) c.in_ok-op.ensures.reads) (c.in_err-operand.ensures.sticks (search rules))
+pub prefix_level-returns-in_err-both-clause-sticks : goal.prefix_level-returns-in_err-both-clause-sticks
+prefix_level-returns-in_err-both-clause-sticks t c h = stops (next (choose phrases.prefix 0 (told phrases.prefix 0 refl (sym c.next_is.ensures ∙ c.if-not-next_is.false))) c.in_ok-op.ensures.reads) (c.post-operand.ensures.sticks (c.in_err-both.ensures.stops (search rules)))
 
 pub prefix_level-returns-clause-reads : goal.prefix_level-returns-clause-reads
-prefix_level-returns-clause-reads t c = as_marks c.new.ensures (next (next (choose phrases.prefix 0 (told phrases.prefix 0 refl (sym c.next_is.ensures ∙ c.if-not-next_is.false))) c.in_ok-op.ensures.reads) c.in_ok-operand.ensures.reads)
+prefix_level-returns-clause-reads t c = as_marks c.new.ensures (next (next (choose phrases.prefix 0 (told phrases.prefix 0 refl (sym c.next_is.ensures ∙ c.if-not-next_is.false))) (as_marks (ap hold c.in_ok-both.ensures.same) c.in_ok-op.ensures.reads)) (got post_outline (phrase phrases.post ∷ []) c.in_ok-both.ensures.read c.post-operand.ensures.reads))
+
+pub prefix_level-returns-clause-shorter : goal.prefix_level-returns-clause-shorter
+prefix_level-returns-clause-shorter t c = omega (arith, c.in_ok-op.ensures.shorter, shortened c.in_ok-both.ensures.read c.post-operand.ensures.shorter)
 
 pub post-returns-in_err-operand-clause-sticks : goal.post-returns-in_err-operand-clause-sticks
 post-returns-in_err-operand-clause-sticks t c h = stops (choose phrases.post 0 (record { number = refl })) (c.in_err-operand.ensures.sticks (search rules))
@@ -163,14 +170,15 @@ walk-returns-clause-shorter t c = omega (arith, c.in_ok-head.ensures.shorter, sh
 pub opened-returns-in_err-head-clause-sticks : goal.opened-returns-in_err-head-clause-sticks
 opened-returns-in_err-head-clause-sticks t c h = stops_list (phrase phrases.expr ∷ leave c.args.end ∷ []) idle (c.in_err-head.ensures.sticks (search rules))
 
-pub opened-returns-in_err-part-clause-sticks : goal.opened-returns-in_err-part-clause-sticks
-opened-returns-in_err-part-clause-sticks t c h = stops_in expr_outline (join idle (before (phrase phrases.expr ∷ leave c.args.end ∷ []) c.in_ok-head.ensures.reads)) c.level-over.ensures.reads c.level-over.ensures.sticks (c.in_err-part.ensures.sticks (search rules))
-
 pub opened-returns-clause-reads : goal.opened-returns-clause-reads
-opened-returns-clause-reads t c = next (next (join idle (before (phrase phrases.expr ∷ leave c.args.end ∷ []) (as_marks (ap (λ b. hold b.0 ++ hold b.1) c.in_ok-part.ensures.same) c.in_ok-head.ensures.reads))) (got expr_outline (phrase phrases.expr ∷ []) c.in_ok-part.ensures.read c.level-over.ensures.reads)) c.in_ok-part.ensures.reads
+opened-returns-clause-reads t c = ok_two_on _ c.boxed_until.ensures.same c.boxed_until.ensures.read c.boxed_until.ensures.reads
+    (λ part same read reads. next (next (join idle (before (phrase phrases.expr ∷ leave c.args.end ∷ []) (as_marks (ap (λ (b : Token × Token). hold b.0 ++ hold b.1) same) c.in_ok-head.ensures.reads))) (got expr_outline (phrase phrases.expr ∷ []) read c.level-over.ensures.reads)) reads)
+
+pub opened-returns-clause-sticks : goal.opened-returns-clause-sticks
+opened-returns-clause-sticks t c h = stops_in expr_outline (join idle (before (phrase phrases.expr ∷ leave c.args.end ∷ []) c.in_ok-head.ensures.reads)) c.level-over.ensures.reads c.level-over.ensures.sticks (c.boxed_until.ensures.sticks h)
 
 pub opened-returns-clause-shorter : goal.opened-returns-clause-shorter
-opened-returns-clause-shorter t c = omega (arith, c.in_ok-head.ensures.shorter, shortened c.in_ok-part.ensures.read c.level-over.ensures.shorter, c.in_ok-part.ensures.shorter)
+opened-returns-clause-shorter t c = ok_shorter _ _ _ _ _ _ _ c.boxed_until.ensures.read c.boxed_until.ensures.shorter c.level-over.ensures.shorter c.in_ok-head.ensures.shorter
 
 pub project-returns-in_err-part-clause-sticks : goal.project-returns-in_err-part-clause-sticks
 project-returns-in_err-part-clause-sticks t c h = stops_list (phrase phrases.names ∷ leave phrases.close_paren ∷ []) (choose phrases.prime 11 c.requires) (c.in_err-part.ensures.sticks (search rules))

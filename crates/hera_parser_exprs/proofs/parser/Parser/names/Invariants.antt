@@ -8,7 +8,7 @@ use Rattle.hera_parser_exprs.proofs.parser.Parser.names.Given as goal
 
 abbrev pub invariant-rest : goal.invariant-rest
 invariant-rest l = record {
-  reads : Gives (phrase phrases.names ∷ []) l.fn.self (node phrases.names 0 ++ hold l.first ++ flat_map name_row l.rest.items) (phrase phrases.more_names ∷ []) l.self;
+  reads : Gives (phrase phrases.names ∷ []) l.fn.self (node phrases.names 0 ++ hold l.items.first ++ flat_map name_row l.items.rest.items) (phrase phrases.more_names ∷ []) l.self;
   shorter : length l.self < length l.fn.self;
 }
 

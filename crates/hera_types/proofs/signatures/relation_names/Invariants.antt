@@ -1,6 +1,0 @@
-use Rattle.std.proofs.Common.{◌≡◌, map, take}
-use Rattle.hera_meaning.specs.Catalogues.{decl_name}
-use Rattle.hera_types.proofs.signatures.relation_names.Given as goal
-
-abbrev pub invariant-loop-decl : goal.invariant-loop-decl
-invariant-loop-decl l = l.names ≡ map decl_name (take l.decl-index l.decl-items)
