@@ -32,7 +32,7 @@ fn text_fault_of(alloc: Global, bytes: &[u8]) -> Option<TextFault> {
 }
 
 #[test]
-fn texts_and_schemas_are_refused_or_copied(rt: HostRuntime) -> Result<(), Fail> {
+fn bytes_are_refused_or_a_text(rt: HostRuntime) -> Result<(), Fail> {
     let alloc = rt.alloc();
     assert!(rt; matches!(text_fault_of(alloc, b"\x00\xff"), Some(TextFault::BadUtf8)));
     assert!(rt; matches!(text_fault_of(alloc, b"a\x00"), Some(TextFault::HasZero)));
@@ -42,6 +42,14 @@ fn texts_and_schemas_are_refused_or_copied(rt: HostRuntime) -> Result<(), Fail> 
             Some(TextFault::TooLong)
         )
     );
+    let text = Text::new(alloc, "bolt é".as_bytes())?.copy()?;
+    assert_eq!(rt; text.bytes(), b"bolt \xc3\xa9".as_slice());
+    Ok(())
+}
+
+#[test]
+fn attributes_are_refused_or_a_schema(rt: HostRuntime) -> Result<(), Fail> {
+    let alloc = rt.alloc();
     assert!(rt; fault_of(alloc, b"ab")?.is_none());
     assert!(rt; matches!(fault_of(alloc, b"")?, Some(SchemaFault::Empty)));
     assert!(rt;
@@ -56,7 +64,5 @@ fn texts_and_schemas_are_refused_or_copied(rt: HostRuntime) -> Result<(), Fail> 
             Some(SchemaFault::Repeated { second: 2 })
         )
     );
-    let text = Text::new(alloc, "bolt é".as_bytes())?.copy()?;
-    assert_eq!(rt; text.bytes(), b"bolt \xc3\xa9".as_slice());
     Ok(())
 }

@@ -128,22 +128,32 @@ fn walked(rt: &impl Abort, alloc: Global, rel: &Hyp<'_>) -> Result<usize, Fail> 
     Ok(rows.len())
 }
 
+/// Walks by marks see what is there without a layer, behind the first one and behind both.
+fn walks_see_all(rt: &impl Abort, alloc: Global, base: &Base, layers: &Layers) -> Result<(), Fail> {
+    assert!(rt; base.catalogue().len() == 1 && layers.len() == 2);
+    let mut view = View {
+        base,
+        commits: &[],
+        layers,
+        tip: None,
+    };
+    assert_eq!(rt; walked(rt, alloc, &view.rel(RelId(0)))?, 64);
+    view.tip = Some(0);
+    assert_eq!(rt; walked(rt, alloc, &view.rel(RelId(0)))?, 64);
+    view.tip = Some(1);
+    assert_eq!(rt; walked(rt, alloc, &view.rel(RelId(0)))?, 63);
+    Ok(())
+}
+
 #[test]
 fn a_walk_by_marks_sees_what_is_there(rt: HostRuntime) -> Result<(), Fail> {
     let base = base(rt.alloc())?;
     let mut layers = Layers::new(rt.alloc());
-    moved(&rt, rt.alloc(), &mut layers)?;
-    assert!(rt; base.catalogue().len() == 1 && layers.len() == 2);
-    let mut view = View {
-        base: &base,
-        commits: &[],
-        layers: &layers,
-        tip: None,
+    let seen = match moved(&rt, rt.alloc(), &mut layers) {
+        Ok(()) => walks_see_all(&rt, rt.alloc(), &base, &layers),
+        Err(e) => Err(e),
     };
-    assert_eq!(rt; walked(&rt, rt.alloc(), &view.rel(RelId(0)))?, 64);
-    view.tip = Some(0);
-    assert_eq!(rt; walked(&rt, rt.alloc(), &view.rel(RelId(0)))?, 64);
-    view.tip = Some(1);
-    assert_eq!(rt; walked(&rt, rt.alloc(), &view.rel(RelId(0)))?, 63);
-    Ok(())
+    drop(layers);
+    drop(base);
+    seen
 }

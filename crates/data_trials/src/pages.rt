@@ -5,24 +5,27 @@ use hera_row::{Catalogue, has_names, is_name};
 use hera_rows::Sorted;
 use rel_pages::{Base, IndexedRel, PageFault, PageRel, Place, read_half};
 use std::alloc::{AllocError, Global};
+use std::process::Abort;
 use std::test::Fail;
+
+/// A base with the relation R(a int), which has no rows.
+fn empty_base(rt: &impl Abort, alloc: Global) -> Result<Base, Fail> {
+    let schema = schema_of(alloc, &[("a", Kind::Int)])?;
+    let name = Text::new(alloc, b"R")?;
+    assert!(rt; is_name(name.bytes()) && has_names(&schema));
+    let mut catalogue = Catalogue::new(alloc);
+    assert_eq!(rt; catalogue.add(name, schema)?, RelId(0));
+    Ok(Base::empty(alloc, catalogue)?)
+}
 
 #[test]
 fn relations_begin_without_rows(rt: HostRuntime) -> Result<(), Fail> {
-    let schema = schema_of(rt.alloc(), &[("a", Kind::Int)])?;
-    let name = Text::new(rt.alloc(), b"R")?;
-    assert!(rt; is_name(name.bytes()));
-    assert!(rt; has_names(&schema));
-    let mut catalogue = Catalogue::new(rt.alloc());
-    let number = catalogue.add(name, schema)?;
-    let base = Base::empty(rt.alloc(), catalogue)?;
-    assert_eq!(rt; number, RelId(0));
-    assert_eq!(rt; base.catalogue().len(), 1);
+    let base = empty_base(&rt, rt.alloc())?;
     assert_eq!(rt;
         base.bytes(),
         b"HERA0002\0\x01\x01R\x01\x01a\x01\0\0\0\0\0".as_slice()
     );
-    assert!(rt; !base.version().is_old());
+    assert!(rt; base.catalogue().len() == 1 && !base.version().is_old());
     let rows = base.rel(RelId(0));
     assert!(rt; rows.above(None).is_none() && !rows.has(b"a"));
     Ok(())
@@ -90,21 +93,23 @@ fn damaged_pages_tell_their_place(rt: HostRuntime) -> Result<(), Fail> {
     Ok(())
 }
 
+/// The relation has the rows of 1 and 2.
+fn has_one_and_two(rt: &impl Abort, rows: &PageRel<'_>) {
+    let one = row(1);
+    let two = row(2);
+    assert_eq!(rt; rows.len(), 2);
+    assert_eq!(rt; rows.above(None), Some(one.as_slice()));
+    assert_eq!(rt; rows.above(Some(&one)), Some(two.as_slice()));
+    assert!(rt; rows.above(Some(&two)).is_none() && rows.has(&two) && !rows.has(b""));
+}
+
 #[test]
 fn rows_are_read_in_place(rt: HostRuntime) -> Result<(), Fail> {
     let head = b"\0\0\0\x02\x80\0\0\0\0\0\0\x01\x80\0\0\0\0\0\0\x02";
-    let bytes = half_with(rt.alloc(), head, 0)?;
-    let base = read_half(rt.alloc(), bytes)?;
-    assert!(rt; base.version().is_old());
-    assert_eq!(rt; base.journal_at(), 8212);
+    let base = read_half(rt.alloc(), half_with(rt.alloc(), head, 0)?)?;
+    assert!(rt; base.version().is_old() && base.journal_at() == 8212);
     assert_eq!(rt; base.catalogue().len(), 1);
-    let rows = base.rel(RelId(0));
-    let one = b"\x80\0\0\0\0\0\0\x01".as_slice();
-    let two = b"\x80\0\0\0\0\0\0\x02".as_slice();
-    assert_eq!(rt; rows.len(), 2);
-    assert_eq!(rt; rows.above(None), Some(one));
-    assert_eq!(rt; rows.above(Some(one)), Some(two));
-    assert!(rt; rows.above(Some(two)).is_none() && rows.has(two) && !rows.has(b""));
+    has_one_and_two(&rt, &base.rel(RelId(0)));
     Ok(())
 }
 
@@ -213,20 +218,23 @@ fn finds_from_any_place(rows: &IndexedRel<'_>, bound: &[u8], next: Option<&[u8]>
     true
 }
 
-#[test]
-fn rows_with_beginnings_are_those_without(rt: HostRuntime) -> Result<(), Fail> {
-    let base = two_pages_of_texts(rt.alloc())?;
-    assert_eq!(rt; base.catalogue().len(), 1);
-    let rows = base.rel(RelId(0));
-    let indexed = base.indexed(RelId(0)).again();
-    assert_eq!(rt; indexed.len(), 50);
-    assert!(rt; !indexed.is_empty());
+/// The rows found by their beginnings are those found without.
+fn are_same(rt: &impl Abort, rows: &PageRel<'_>, indexed: &IndexedRel<'_>) {
     assert_eq!(rt; indexed.above(None), rows.above(None));
     for last in 32..84 {
         let row = text(last);
         assert_eq!(rt; indexed.has(&row), rows.has(&row));
         assert_eq!(rt; indexed.above(Some(&row)), rows.above(Some(&row)));
     }
+}
+
+#[test]
+fn rows_with_beginnings_are_those_without(rt: HostRuntime) -> Result<(), Fail> {
+    let base = two_pages_of_texts(rt.alloc())?;
+    assert_eq!(rt; base.catalogue().len(), 1);
+    let indexed = base.indexed(RelId(0)).again();
+    assert!(rt; indexed.len() == 50 && !indexed.is_empty());
+    are_same(&rt, &base.rel(RelId(0)), &indexed);
     Ok(())
 }
 

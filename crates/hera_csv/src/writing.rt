@@ -9,10 +9,10 @@ ghost use Rattle.hera_row.specs.Fields.{told};
 ghost use Rattle.hera_csv.specs.Writers.{IsBetween, written, csv_of, fields_text, tuple_fields};
 
 use csv::{ByteRecord, Writer, WriterBuilder};
-use hera_meaning::writing::{put, put_bool, put_int};
 use hera_meaning::{Line, ScalarRef, Schema};
 use hera_row::field;
-use hera_rows::Sorted;
+use hera_rows::{RowMark, Sorted};
+use itoa::Buffer;
 use std::alloc::{AllocError, Global};
 
 /// Writes a record behind the others.
@@ -27,17 +27,18 @@ fn put_record(writer: &mut Writer<Vec<u8>>, fields: &ByteRecord) -> Result<(), A
     }
 }
 
-/// The text of a scalar by itself.
-fn text_of(alloc: Global, scalar: ScalarRef<'_>) -> Result<Vec<u8>, AllocError>
-    ensures { IfOk result (λ text. text.items ≡ scalar_text (told scalar.entry)) }
+/// Puts the text of a scalar in the record, behind the fields that it has.
+fn push_scalar(fields: &mut ByteRecord, scalar: ScalarRef<'_>) -> Result<(), AllocError>
+    requires { partial_of fields.old ≡ [] }
+    ensures fields { OnOk result (fields_of fields.new ≡ fields_of fields.old ++ scalar_text (told scalar.entry) ∷ []) }
+    ensures partial { OnOk result (partial_of fields.new ≡ []) }
 {
-    let mut text = Vec::new(alloc);
     match scalar {
-        ScalarRef::Int(v) => put_int(&mut text, v)?,
-        ScalarRef::Bool(b) => put_bool(&mut text, b)?,
-        ScalarRef::Text(bytes) => put(&mut text, bytes)?,
+        ScalarRef::Int(v) => fields.push_field(Buffer::new().format(v).as_bytes()),
+        ScalarRef::Bool(true) => fields.push_field(b"true"),
+        ScalarRef::Bool(false) => fields.push_field(b"false"),
+        ScalarRef::Text(bytes) => fields.push_field(bytes),
     }
-    Ok(text)
 }
 
 /// Puts the names of the attributes in the record.
@@ -52,19 +53,13 @@ fn fill_head(fields: &mut ByteRecord, schema: &Schema) -> Result<(), AllocError>
 }
 
 /// Puts the texts of a row's fields in the record.
-fn fill_row(
-    alloc: Global,
-    fields: &mut ByteRecord,
-    schema: &Schema,
-    row: &[u8],
-) -> Result<(), AllocError>
+fn fill_row(fields: &mut ByteRecord, schema: &Schema, row: &[u8]) -> Result<(), AllocError>
     requires { IsRow schema.now row.now }
     ensures fields { OnOk result (fields_of fields.new ≡ tuple_fields schema.now row.now) }
 {
     fields.clear();
     for i in 0..schema.len() {
-        let text = text_of(alloc, field(schema, row, i))?;
-        fields.push_field(&text)?;
+        push_scalar(fields, field(schema, row, i))?;
     }
     Ok(())
 }
@@ -92,8 +87,9 @@ pub fn write_rows<S: Sorted>(alloc: Global, schema: &Schema, rows: &S) -> Result
     let mut fields = ByteRecord::new(alloc);
     put_head(&mut writer, &mut fields, schema)?;
     let mut last: Option<&[u8]> = None;
-    while let Some(row) = rows.above(last) {
-        fill_row(alloc, &mut fields, schema, row)?;
+    let mut mark = RowMark::start();
+    while let Some(row) = rows.above_from(last, &mut mark) {
+        fill_row(&mut fields, schema, row)?;
         put_record(&mut writer, &fields)?;
         last = Some(row);
     }

@@ -1,15 +1,13 @@
 //! A relation of a database in a folder, printed as CSV.
-ghost use Rattle.std.specs.Prelude.{◌≡◌, ◌<◌, ◌++◌, [], length, IfOk};
+ghost use Rattle.std.specs.Prelude.{◌≡◌, ◌<◌, length, IfOk};
 ghost use Rattle.hera_meaning.specs.Deltas.{IsState, schema_of, rows_at};
 ghost use Rattle.hera_csv.specs.Writers.{csv_of};
 ghost use Rattle.hera_store.specs.Standing.{database_of};
 ghost use Rattle.hera_outcome.specs.Passages.{passage, start};
 ghost use Rattle.hera_outcome.specs.Told.{Answered};
-ghost use Rattle.when_overlay.specs.Layered.{IsTip, path};
 ghost use Rattle.hera_transfer.specs.Transfers.{ExportsTo};
 
 use crate::naming::relation_named;
-use delta_atoms::Delta;
 use hera_csv::write_rows;
 use hera_meaning::{Line, RelId};
 use hera_outcome::{Ending, Refusal, Stop, tell};
@@ -19,52 +17,18 @@ use hera_volume::Outside;
 use std::alloc::{AllocError, Global};
 use when_overlay::{Layers, View};
 
-/// The deltas of a store, with the last of them as a layer where a walk looks beside its rows.
-#[derive(Clone, Copy)]
-struct Stacked<'s> {
-    below: &'s [Delta],
-    tip: Option<usize>,
-}
-
-/// Puts a copy of the last commit on layers that are empty.
-fn stack<'s>(layers: &mut Layers, commits: &'s [Delta]) -> Result<Stacked<'s>, AllocError>
-    requires { layers.old.layers ≡ [] }
-    ensures tip { IfOk result (λ s. IsTip layers.new.layers s.tip) }
-    ensures all { IfOk result (λ s. s.below.now ++ path layers.new.layers s.tip ≡ commits.now) }
-{
-    let Some((last, below)) = commits.split_last() else {
-        return Ok(Stacked {
-            below: commits,
-            tip: None,
-        });
-    };
-    if last.is_fail() {
-        return Ok(Stacked {
-            below: commits,
-            tip: None,
-        });
-    }
-    layers.reserve(1)?;
-    let tip = layers.push(None, last.copy()?);
-    Ok(Stacked {
-        below,
-        tip: Some(tip),
-    })
-}
-
 /// The text of a relation after the store's commits.
 fn text_of(alloc: Global, store: &Store, rel: RelId) -> Result<Line, AllocError>
     requires there { rel.0 < length store.now.base.catalogue }
     requires state { IsState store.now.base.catalogue (database_of store.now).state }
     ensures { IfOk result (λ line. line ≡ csv_of (schema_of store.now.base.catalogue rel.0) (rows_at (database_of store.now).state rel.0)) }
 {
-    let mut layers = Layers::new(alloc);
-    let stacked = stack(&mut layers, store.commits())?;
+    let layers = Layers::new(alloc);
     let view = View {
         base: store.base(),
-        commits: stacked.below,
+        commits: store.commits(),
         layers: &layers,
-        tip: stacked.tip,
+        tip: None,
     };
     let rows = view.indexed(rel);
     write_rows(alloc, &store.base().catalogue().decl(rel).schema, &rows)

@@ -1,5 +1,5 @@
 -- Layers that are put on, taken off and replaced, and the way from a tip to its root.
-use Rattle.std.proofs.Common.{◌≡◌, ℕ, zero, suc, ◌+◌, ◌<◌, true, false, cond, List, [], ◌∷◌, ◌++◌, length, nat_eq, Option, None, Some, IfSome, refl, sym, ap, ◌∙◌, subst, arith, length-append}
+use Rattle.std.proofs.Common.{◌≡◌, ℕ, zero, suc, ◌+◌, ◌<◌, true, false, cond, List, [], ◌∷◌, ◌++◌, length, nat_eq, Option, None, Some, IfSome, refl, sym, ap, ◌∙◌, subst, arith, length-append, append-nil}
 use Rattle.std.specs.Prelude.{slice_get, slice_set}
 use Rattle.std.proofs.Math.Dec.{eqb-suc-suc}
 use Rattle.std.proofs.lemmas.Bool.{eq-eqb, eqb-true, false_from_ne_true}
@@ -116,6 +116,16 @@ below_more (Some j) i n h g = omega (arith, h, g)
 pub path_none : (ls : List Layer) → path ls None ≡ []
 path_none [] = refl
 path_none (l ∷ ls) = refl
+
+-- behind no layers and no deltas there is none
+pub path_bare : (ls : List Layer) (ds : List Delta) → ds ≡ [] → ds ++ path ls None ≡ []
+path_bare ls ds e = ap (λ p. ds ++ p) (path_none ls) ∙ append-nil ds ∙ e
+
+-- behind no layers the last delta is the last
+pub path_last : (ls : List Layer) (ds es : List Delta) (d : Delta) → ds ≡ es ++ d ∷ [] → ds ++ path ls None ≡ (es ++ path ls None) ++ d ∷ []
+path_last ls ds es d e =
+    ap (λ p. ds ++ p) (path_none ls) ∙ append-nil ds ∙ e
+    ∙ sym (ap (λ p. p ++ d ∷ []) (ap (λ p. es ++ p) (path_none ls) ∙ append-nil es))
 
 pub path_lower : (l : Layer) (ls : List Layer) (p : Option ℕ) → IsTip ls p → path (l ∷ ls) p ≡ path ls p
 path_lower l ls None h = sym (path_none ls)

@@ -51,6 +51,14 @@ pub next_met : (b : Option Row) (r : ℕ) (rows : List Row) (ds : List Delta) �
     least_of (find (is_past b) rows) (next_of b (pluses r ds)) ≡ find (is_past b) (met r rows ds)
 next_met b r rows ds up = (λ i. least_of (next_ascending b rows up i) (next_of b (pluses r ds))) ∙ next_append b rows (pluses r ds)
 
+-- where no delta speaks, what is met is what was there
+pub met_alone : (b : Option Row) (r : ℕ) (rows : List Row) (ds : List Delta) → IsAscending rows → ds ≡ [] → find (is_past b) rows ≡ find (is_past b) (met r rows ds)
+met_alone b r rows ds up e =
+    next_ascending b rows up ∙ ap (next_of b) (sym (Rattle.std.proofs.lemmas.List.append-nil rows)) ∙ ap (λ (xs : List Delta). find (is_past b) (met r rows xs)) (sym e)
+
+pub kept_alone : (r : ℕ) (ds : List Delta) (q : Row) → ds ≡ [] → true ≡ stands (sign_over r ds q) true
+kept_alone r ds q e = ap (λ (xs : List Delta). stands (sign_over r xs q) true) (sym e)
+
 -- ---- what is there was met
 
 sign_named : (r : ℕ) (s : Sign) (d : Delta) (q : Row) → sign_in r d q ≡ Some s → holds (named_in r s d) q ≡ true

@@ -1,5 +1,5 @@
 //! The rows of a relation after commits and layers, sought where they stand.
-ghost use Rattle.std.specs.Prelude.{◌≡◌, ◌<◌, ◌++◌, List, [], ℕ, true, length, Option, Some, None, IfSome};
+ghost use Rattle.std.specs.Prelude.{◌≡◌, ◌<◌, ◌++◌, ◌∷◌, List, [], ℕ, true, length, Option, Some, None, IfSome};
 ghost use Rattle.std.specs.List.{find};
 ghost use Rattle.std.specs.Option.{option_copied};
 ghost use Rattle.hera_sets.specs.Rows.{is_past, IsAscending, holds};
@@ -196,6 +196,63 @@ struct Met<'s> {
     kept: bool,
 }
 
+/// The first row past the bound of those that stand in the pages, which are all that are met where there are neither
+/// commits nor layers: it is there.
+fn met_in_pages<'s>(
+    pages: &IndexedRel<'s>,
+    commits: &'s [Delta],
+    layers: &'s Layers,
+    rel: RelId,
+    bound: Option<&[u8]>,
+    mark: ViewMark,
+) -> Met<'s>
+    requires { commits.now ≡ [] }
+    ensures next { option_copied result.found.row ≡ find (is_past (option_copied bound.entry)) (met rel.0 pages.now (commits.now ++ path layers.now.layers None)) }
+    ensures kept { IfSome result.found.row (λ row. result.kept ≡ stands (sign_over rel.0 (commits.now ++ path layers.now.layers None) row.now) true) }
+    ensures ordered { IsAscending pages.now }
+{
+    let near = pages.above_near(bound, mark.pages);
+    let mark = ViewMark {
+        pages: near.place,
+        ..mark
+    };
+    let row = near.row;
+    Met {
+        found: SeenRow { row, mark },
+        kept: true,
+    }
+}
+
+/// The first row past the bound of those that are met, where there are no layers and this commit is the last: one of
+/// those that it puts in, which is there, or one met below it.
+fn met_behind<'s>(
+    pages: &IndexedRel<'s>,
+    commits: &'s [Delta],
+    last: &'s Delta,
+    below: &'s [Delta],
+    layers: &'s Layers,
+    rel: RelId,
+    bound: Option<&[u8]>,
+    mark: ViewMark,
+) -> Met<'s>
+    requires { commits.now ≡ below.now ++ last.now ∷ [] }
+    ensures next { option_copied result.found.row ≡ find (is_past (option_copied bound.entry)) (met rel.0 pages.now (commits.now ++ path layers.now.layers None)) }
+    ensures kept { IfSome result.found.row (λ row. result.kept ≡ stands (sign_over rel.0 (commits.now ++ path layers.now.layers None) row.now) true) }
+    ensures ordered { IsAscending pages.now }
+{
+    let own = put_in_near(last, rel, bound, mark.put_in);
+    let near = met_near(pages, below, layers, None, rel, bound, mark.pages);
+    let row = lesser(near.row, own.row);
+    let mark = ViewMark {
+        pages: near.place,
+        put_in: own.spot,
+    };
+    Met {
+        found: SeenRow { row, mark },
+        kept: is_kept_of(commits, layers, None, rel, row, own.row),
+    }
+}
+
 /// The first row past the bound of those that are met, where there are no layers.
 fn met_without<'s>(
     pages: &IndexedRel<'s>,
@@ -209,15 +266,9 @@ fn met_without<'s>(
     ensures kept { IfSome result.found.row (λ row. result.kept ≡ stands (sign_over rel.0 (commits.now ++ path layers.now.layers None) row.now) true) }
     ensures ordered { IsAscending pages.now }
 {
-    let near = met_near(pages, commits, layers, None, rel, bound, mark.pages);
-    let mark = ViewMark {
-        pages: near.place,
-        ..mark
-    };
-    let row = near.row;
-    Met {
-        found: SeenRow { row, mark },
-        kept: is_kept_of(commits, layers, None, rel, row, None),
+    match commits.split_last() {
+        Some((last, below)) => { met_behind(pages, commits, last, below, layers, rel, bound, mark) }
+        None => met_in_pages(pages, commits, layers, rel, bound, mark),
     }
 }
 
