@@ -6,8 +6,8 @@
 Standard output and the status are the program's own, and what it prints goes on as it comes. Where its last line is
 `refused NAME at OFFSET` or `trap NAME at OFFSET`, what follows on standard error is the place as FILE:LINE:COLUMN (columns
 count characters), that line with a caret under it, and a sentence on what the name means. Of a file of comma-separated
-values it is the line on which the record begins. Of a guarded run a refusal may be that of either file: it is the one of
-the script where `check` says the same.
+values it is the line on which the record begins. Of a guarded run, and of woven scripts, a refusal may be that of any file:
+it is the one of the first script of which `check` says the same, and else of the guards.
 """
 
 import csv
@@ -104,12 +104,19 @@ def explained_record(file, number):
     return f"{file}: Record\n{MEANINGS['Record']}\n"
 
 
+def is_refused_so(program, file, line):
+    """Whether `check` refuses this file with this line."""
+    return subprocess.run([program, "check", file], stdout=subprocess.PIPE, stdin=subprocess.DEVNULL).stdout == line
+
+
 def faulty_file(program, words, fault):
-    """The file in which the fault lies: of a guarded run it may be that of the guards."""
+    """The file in which the fault lies, or None: of several it may be any."""
+    if words[:1] == ["weave"]:
+        files = words[4:] if fault.startswith(b"refused") else []
+        return next((file for file in files if is_refused_so(program, file, fault)), None)
     file = script_of(words)
     if file and words[0] == "guard" and fault.startswith(b"refused"):
-        said = subprocess.run([program, "check", file], stdout=subprocess.PIPE, stdin=subprocess.DEVNULL).stdout
-        return file if said == fault else words[3]
+        return file if is_refused_so(program, file, fault) else words[3]
     return file
 
 

@@ -82,7 +82,7 @@ def wrong_in(program, folder):
     os.mkdir(used)
     held = os.open(used, os.O_RDONLY)
     fcntl.flock(held, fcntl.LOCK_EX)
-    for words in (["dump", used], ["import", used, "R", "s.csv"], ["export", used, "R"], ["guard", used, "1", "r", "s.hera"]):
+    for words in (["dump", used], ["import", used, "R", "s.csv"], ["export", used, "R"], ["guard", used, "1", "r", "s.hera"], ["weave", used, "1", "0", "s.hera"]):
         if run([hera, *words], folder) != (6, b"", f"hera: another command is using the folder {used}\n"):
             yield f"a folder in use: {words[0]}"
     os.close(held)
@@ -96,12 +96,14 @@ def write(folder, name, text):
 
 
 def wrong_in_files(program, hera, folder):
-    """The tries of `import` and `guard` that were not right, where the program has these."""
+    """The tries of `import`, `guard` and `weave` that were not right, where the program has these."""
     write(folder, "s.hera", "relation R(a int); main { print 1 / 0; }")
     run([program, "init", "d", "s.hera"], folder)
     write(folder, "rules", "R.a: bucket;\n")
     tries = [(text, told, ["import", "d", "R", "s.csv"]) for _, text, told in FILES]
     tries.append(("", "rules:1:6: Mismatch\nR.a: bucket;\n", ["guard", "d", "100", "rules", "s.hera"]))
+    write(folder, "t.hera", "main { print m; }\n")
+    tries.append(("", "t.hera:1:14: Unknown\nmain { print m; }\n", ["weave", "d", "100", "0", "s.hera", "t.hera", "s.hera"]))
     for text, told, words in tries:
         write(folder, "s.csv", text)
         own = run([program, *words], folder)

@@ -2,11 +2,13 @@ use std::alloc::{AllocError, Global};
 use std::fs::{self, Files};
 use std::io;
 
-/// A name with a command line, a script, the lines of guards, and lines that say what else is to be done.
+/// A name with a command line, the texts of its files, and lines that say what else is to be done.
 #[derive(Drop)]
 pub(crate) struct Case {
     pub(crate) heading: String,
-    pub(crate) rules: Vec<u8>,
+    /// The texts of the files before the last.
+    pub(crate) before: Vec<Vec<u8>>,
+    /// The script, which is the text of the last file.
     pub(crate) script: Vec<u8>,
     pub(crate) settings: Vec<String>,
 }
@@ -16,27 +18,33 @@ impl Case {
     pub(crate) fn new(alloc: Global, heading: &str) -> Result<Case, AllocError> {
         Ok(Case {
             heading: String::from_str(alloc, heading)?,
-            rules: Vec::new(alloc),
+            before: Vec::new(alloc),
             script: Vec::new(alloc),
             settings: Vec::new(alloc),
         })
     }
 
-    /// Appends a line to the script, to the lines of guards where it begins with `=> rules `, or else to the settings where it
-    /// begins with `=> `.
+    /// Appends a line to the script, or takes it as a setting where it begins with `=> `.
     pub(crate) fn add_line(&mut self, alloc: Global, line: &str) -> Result<(), AllocError> {
-        if let Some(rules) = line.strip_prefix("=> rules ") {
-            self.rules.extend_from_slice(rules.as_bytes())?;
-            return Ok(());
-        }
         if let Some(setting) = line.strip_prefix("=> ") {
-            self.settings.push(String::from_str(alloc, setting)?)?;
-            return Ok(());
+            return self.add_setting(alloc, setting);
         }
         if !self.script.is_empty() {
             self.script.push(b'\n')?;
         }
         self.script.extend_from_slice(line.as_bytes())?;
+        Ok(())
+    }
+
+    /// Takes the text of the next file before the last from a setting `rules TEXT` or `before TEXT`, and keeps any other.
+    fn add_setting(&mut self, alloc: Global, setting: &str) -> Result<(), AllocError> {
+        let text = setting
+            .strip_prefix("rules ")
+            .or(setting.strip_prefix("before "));
+        match text {
+            Some(text) => self.before.push(text.as_bytes().to_vec(alloc)?)?,
+            None => self.settings.push(String::from_str(alloc, setting)?)?,
+        }
         Ok(())
     }
 
@@ -51,7 +59,7 @@ impl Case {
         Ok(words)
     }
 
-    /// Takes the script from the last of the files, and the lines of guards from the one before it, but not for the word `-`.
+    /// Takes the script from the last of the files, or the text of the next before it, but not for the word `-`.
     pub(crate) fn load<R: Files + AllocGlobal>(
         &mut self,
         rt: &R,
@@ -63,7 +71,7 @@ impl Case {
             if is_last {
                 self.script.extend_from_slice(text.as_bytes())?;
             } else {
-                self.rules.extend_from_slice(text.as_bytes())?;
+                self.before.push(text.as_bytes().to_vec(rt.alloc())?)?;
             }
         }
         Ok(())

@@ -2,8 +2,9 @@
 //! and an output in memory.
 //!
 //! A case begins with a line `== NAME: WORDS`, its name and the words of its command line. Where the words name a file,
-//! its script is that file, and for the word `-` the lines up to the next case, joined by line feeds. Where they name two, the
-//! first has the lines of guards, which for the word `-` stand behind `=> rules `. For each case the
+//! its script is that file, and for the word `-` the lines up to the next case, joined by line feeds. Where they name more,
+//! that is the last, and for each word `-` before it the text stands in a line behind `=> rules ` or `=> before `, in the
+//! order of these words, which stand before the names of files. For each case the
 //! program prints that line, what the call emitted, and a line `-- STATUS`. Cases one behind another whose words name the
 //! same folder have the same files, which are empty at the first of them.
 //!

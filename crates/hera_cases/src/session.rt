@@ -41,7 +41,7 @@ impl Session {
         words: &Vec<String>,
         case: &Case,
     ) -> Result<Vec<u8>, AllocError> {
-        report_of(alloc, words, &case.rules, &case.script, &mut self.outside)
+        report_of(alloc, words, &case.before, &case.script, &mut self.outside)
     }
 
     /// Gives a file the bytes of a line `FILE HEX`, or cuts it by one `cut FILE LENGTH`.
@@ -82,8 +82,8 @@ impl Session {
     ) -> io::Result<Vec<u8>> {
         let dump = words_in(alloc, &["dump", self.folder.as_str()])?;
         let mut outside = trials.copy_of(alloc, &self.outside, number)?;
-        let mut report = report_of(alloc, words, &case.rules, &case.script, &mut outside)?;
-        let found = report_of(alloc, &dump, b"", b"", &mut outside.crash(trials.fill))?;
+        let mut report = report_of(alloc, words, &case.before, &case.script, &mut outside)?;
+        let found = report_of(alloc, &dump, &[], b"", &mut outside.crash(trials.fill))?;
         report.extend_from_slice(&found)?;
         Ok(report)
     }
@@ -133,10 +133,18 @@ fn bytes_of(alloc: Global, digits: &str) -> io::Result<Vec<u8>> {
     Ok(bytes)
 }
 
-/// So many sources: the last of the script, and those before it of the lines of guards.
+/// The text at this place, empty where there is none.
+fn text_at(before: &[Vec<u8>], place: usize) -> &[u8] {
+    match before.get(place) {
+        Some(text) => text.as_slice(),
+        None => b"",
+    }
+}
+
+/// So many sources: the last of the script, and those before it of these texts.
 fn sources_of(
     alloc: Global,
-    rules: &[u8],
+    before: &[Vec<u8>],
     script: &[u8],
     count: usize,
 ) -> Result<Vec<MemSource>, AllocError>
@@ -144,7 +152,11 @@ fn sources_of(
 {
     let mut sources = Vec::new(alloc);
     for place in 0..count {
-        let text = if place + 1 == count { script } else { rules };
+        let text = if place + 1 == count {
+            script
+        } else {
+            text_at(before, place)
+        };
         sources.push(MemSource::new(text.to_vec(alloc)?, Vec::new(alloc)))?;
     }
     Ok(sources)
@@ -154,12 +166,12 @@ fn sources_of(
 fn report_of(
     alloc: Global,
     words: &Vec<String>,
-    rules: &[u8],
+    before: &[Vec<u8>],
     script: &[u8],
     outside: &mut MemOutside,
 ) -> Result<Vec<u8>, AllocError> {
     let (first, last) = files_of(words);
-    let mut sources = sources_of(alloc, rules, script, last - first)?;
+    let mut sources = sources_of(alloc, before, script, last - first)?;
     let hosts = program_hosts(
         alloc,
         Box::new(alloc, |arg: &Scalar| band(arg))?,

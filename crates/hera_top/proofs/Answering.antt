@@ -1,6 +1,7 @@
 -- What a command answers, of what was answered on the way.
-use Rattle.std.proofs.Common.{◌≡◌, ◌+◌, arith, ◌∙◌, ℕ, suc, ⊎_elim, inl, inr, ◌⊎◌, List, [], ◌∷◌, length, true, false, Option, Some, None, Result, Ok, Err, refl, sym, ap, subst}
+use Rattle.std.proofs.Common.{◌≡◌, ◌+◌, arith, ◌∙◌, ℕ, zero, suc, ⊎_elim, inl, inr, ◌⊎◌, List, [], ◌∷◌, length, true, false, Option, Some, None, Result, Ok, Err, refl, sym, ap, subst}
 use Rattle.std.specs.Prelude.{get_or, slice_set}
+use Rattle.std.proofs.lemmas.Bool.Decides.{nat_tests}
 use Rattle.hera_causes.specs.declared.traits.Output as output
 use Rattle.hera_meaning.specs.declared.schemas.RelDecl.{RelDecl}
 use Rattle.hera_meaning.specs.Trees.{Program_tree}
@@ -18,7 +19,7 @@ use Rattle.hera_outcome.specs.Told.{IsTold, Tells, Answered}
 use Rattle.hera_outcome.proofs.Passing.{answered_weaker, told_on}
 use Rattle.hera_run.specs.Folder.{RunsTo}
 use Rattle.hera_words.specs.declared.command.Command.{Command}
-use Rattle.hera_words.specs.declared.command.Command.TheVariants.{Check, List as list_command, Eval, Drill, Init, Run, Dump, Checkpoint, Widen, Import, Export, Guard}
+use Rattle.hera_words.specs.declared.command.Command.TheVariants.{Check, List as list_command, Eval, Drill, Init, Run, Dump, Checkpoint, Widen, Import, Export, Guard, Weave}
 use Rattle.hera_words.specs.Words.{form_of, files_in, folder_in}
 use Rattle.hera_top.specs.Commands.{Performs, makes, widens, runs, IsMade, IsWidened, ReadsScript, OfScript, ComesTo, Answers, tells, fails, IsAnswered}
 use Rattle.hera_top.specs.Sources.{Seen, seen, seen_of, AreStill, AreLater, OneFailed}
@@ -57,6 +58,7 @@ one_source Widen n given is = omega (arith, is)
 one_source Import n given is = absurd given
 one_source Export n given is = absurd given
 one_source (Guard turns) n given is = absurd given
+one_source (Weave turns order files) n given is = absurd given
 
 pub reads_files : (command : Command) → ReadsScript command → (form_of command).files ≡ 0 → ⊥
 reads_files Check given none = cc (none)
@@ -71,6 +73,7 @@ reads_files Widen given none = cc (none)
 reads_files Import given none = given
 reads_files Export given none = given
 reads_files (Guard turns) given none = given
+reads_files (Weave turns order files) given none = given
 
 pub from_script : (hosts : List Host) (name : List ℕ) (before now : List Seen) (s : Start) (command : Command) (o : Outcome) → ReadsScript command → OfScript hosts command s before now o → ComesTo hosts name before now s command o
 from_script hosts name before now s Check o given came = came
@@ -85,8 +88,9 @@ from_script hosts name before now s Widen o given came = came
 from_script hosts name before now s Import o given came = absurd given
 from_script hosts name before now s Export o given came = absurd given
 from_script hosts name before now s (Guard turns) o given came = absurd given
+from_script hosts name before now s (Weave turns order files) o given came = absurd given
 
-still_itself : (sources : List Seen) → AreStill sources sources
+pub still_itself : (sources : List Seen) → AreStill sources sources
 still_itself [] = tt
 still_itself (one ∷ more) = (refl, still_itself more)
 
@@ -147,12 +151,16 @@ no_folder_word Checkpoint is = absurd (cc (is))
 no_folder_word Import is = absurd (cc (is))
 no_folder_word Export is = absurd (cc (is))
 no_folder_word (Guard turns) is = absurd (cc (is))
+no_folder_word (Weave turns order files) is = absurd (cc (is))
 
 -- behind the words there is a place for a file
 some_file : (a b : ℕ) → ◌≡◌ {A = ℕ × ℕ} (suc a, b) (0, 0) → ⊥
 some_file a b is =
     let first : suc a ≡ 0 = ap (λ (places : ℕ × ℕ). places.0) is in
     cc (first)
+
+some_files : (turns order files : ℕ) → (files ≡ 0 → ⊥) → files_in (Some (Weave turns order files)) ≡ (4, 4 + files)
+some_files turns order files other = grind (arith, nat_tests, other)
 
 pub no_file_word : (command : Command) → files_in (Some command) ≡ (0, 0) → (form_of command).files ≡ 0
 no_file_word Check is = absurd (some_file 0 2 is)
@@ -167,6 +175,8 @@ no_file_word Checkpoint is = refl
 no_file_word Import is = absurd (some_file 2 4 is)
 no_file_word Export is = refl
 no_file_word (Guard turns) is = absurd (some_file 2 5 is)
+no_file_word (Weave turns order zero) is = refl
+no_file_word (Weave turns order (suc files)) is = absurd (some_file 3 (4 + suc files) (sym (some_files turns order (suc files) (λ e. omega (arith, e))) ∙ is))
 
 -- ---- the whole answer
 

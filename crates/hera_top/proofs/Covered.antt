@@ -20,7 +20,7 @@ use Rattle.hera_script.specs.Refusing.{HasTokens, IsRefused, too_long, bad_utf8,
 use Rattle.hera_outcome.specs.Outcomes.{Outcome}
 use Rattle.hera_outcome.specs.Passages.{Start}
 use Rattle.hera_words.specs.declared.command.Command.{Command}
-use Rattle.hera_words.specs.declared.command.Command.TheVariants.{Check, List as list_command, Eval, Drill, Init, Run, Dump, Checkpoint, Widen, Import, Export, Guard}
+use Rattle.hera_words.specs.declared.command.Command.TheVariants.{Check, List as list_command, Eval, Drill, Init, Run, Dump, Checkpoint, Widen, Import, Export, Guard, Weave}
 use Rattle.hera_words.specs.Words.{form_of}
 use Rattle.hera_top.specs.Commands.{Performs, checks, lists, evaluates, ReadsScript, ComesToFor, refuses, performs}
 
@@ -98,6 +98,7 @@ some_done hosts s Checkpoint reads none p = absurd reads
 some_done hosts s Import reads none p = absurd reads
 some_done hosts s Export reads none p = absurd reads
 some_done hosts s (Guard turns) reads none p = absurd reads
+some_done hosts s (Weave turns order files) reads none p = absurd reads
 
 pub some_outcome : SomeTokens → FewTokens → SomeTree → FaultsHavePlaces → SomeTyping → (hosts : List Host) (command : Command) (script : List ℕ) (s : Start) → ReadsScript command → (form_of command).folder ≡ false
     → (outcome : Outcome) × ComesToFor hosts script s command outcome

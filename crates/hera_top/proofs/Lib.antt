@@ -14,5 +14,7 @@ mod Covered
 mod Evaluated
 mod OneOutcome
 mod OneGuarded
+mod OneWoven
 mod OneComes
+mod Weaving
 mod Wholes

@@ -4,7 +4,7 @@ use Rattle.hera_causes.specs.Causes.{Rose}
 use Rattle.hera_meaning.specs.Run.{Finish, finished, stopped, out_of_turns}
 use Rattle.hera_meaning.specs.Trees.{Program_tree}
 use Rattle.hera_host.specs.Tables.{Host}
-use Rattle.hera_outcome.specs.Outcomes.{Outcome, Ended, ends, full, broken, status_of_finish, status_of_ended, status_of_outcome}
+use Rattle.hera_outcome.specs.Outcomes.{Outcome, refused, Ended, ends, full, broken, status_of_finish, status_of_ended, status_of_outcome}
 use Rattle.hera_outcome.specs.Passages.{Passage, Start, start_of}
 use Rattle.hera_outcome.specs.Told.{IsTold}
 use Rattle.hera_run.specs.Folder.{finds_none, finds_damage, RunsTo, closed as run_closed, differs, overflows as run_overflows, runs as run_runs}
@@ -12,10 +12,13 @@ use Rattle.hera_run.specs.Fitting.{all_fit}
 use Rattle.hera_transfer.specs.Transfers.{ExportsTo, shut, unknown, writes, import_of, ImportsTo, closed as import_closed, lacks, refuses as import_refuses, overflows as import_overflows, imports}
 use Rattle.hera_guard_lines.specs.declared.lines.GuardLine.{GuardLine}
 use Rattle.hera_guarded.specs.Guarding.{GuardsTo, barred, closed as guarded_closed, unfit, differs as guarded_differs, unknown as guarded_unknown, mismatched, overflows as guarded_overflows, runs as guarded_runs}
+use Rattle.hera_outcome.specs.declared.refusal.Refusal.{Refusal}
+use Rattle.hera_woven.specs.Weaving.{WeavesTo, closed as woven_closed, differs as woven_differs, overflows as woven_overflows, weaves}
 use Rattle.hera_words.specs.declared.command.Command.{Command}
-use Rattle.hera_words.specs.declared.command.Command.TheVariants.{Check, List as list_command, Eval, Drill, Init, Run, Dump, Checkpoint, Widen, Import, Export, Guard}
-use Rattle.hera_top.specs.Commands.{Performs, checks, lists, evaluates, makes, widens, runs, is_made, is_taken, is_shut, is_narrowed, is_wide, is_too_wide, ComesToFor, refuses, performs, Finds, closed, dumps, renews, overflows, OfScript, unread, reads, OfFile, misses, is_too_much, takes, ComesTo, Answers, tells, fails}
+use Rattle.hera_words.specs.declared.command.Command.TheVariants.{Check, List as list_command, Eval, Drill, Init, Run, Dump, Checkpoint, Widen, Import, Export, Guard, Weave}
+use Rattle.hera_top.specs.Commands.{Performs, checks, lists, evaluates, makes, widens, runs, is_made, is_taken, is_shut, is_narrowed, is_wide, is_too_wide, ComesToFor, refuses, performs, Finds, closed, dumps, renews, overflows, OfScript, unread, reads, OfFile, misses, is_too_much, takes, ComesTo, Answers, tells, fails, OfScripts, are_refused, are_woven}
 use Rattle.hera_top.specs.Drill.{drill_text, drill_turns}
+use Rattle.hera_top.specs.Scripts.{AreRefused, fails_first, refuses_first, refuses_later}
 use Rattle.hera_top.specs.Guarding.{misses_rules, refuses_rules, GuardsFor, refuses as guards_refuse, performs as guards_perform, misses_script, reads_script, OfRules, no_lines, has_lines}
 use Rattle.hera_top.specs.Sources.{Seen, OneFailed, this_failed, later_failed}
 
@@ -112,6 +115,13 @@ guards_plain : (hosts : List Host) (lines : List GuardLine) (turns : ℕ) (scrip
 guards_plain hosts lines turns script s _ (guards_refuse refusal) odd = plain_3 odd
 guards_plain hosts lines turns script s o (guards_perform {p = p} short accepted came) odd = guarded_plain hosts lines turns p s o came odd
 
+woven_plain : (hosts : List Host) (turns order : ℕ) (ps : List Program_tree) (s : Start) (o : Outcome) → WeavesTo hosts turns order ps s o → IsOdd (status_of_outcome o) → ⊥
+woven_plain hosts turns order ps s _ (woven_closed (finds_none there)) odd = plain_5 odd
+woven_plain hosts turns order ps s _ (woven_closed (finds_damage there)) odd = plain_5 odd
+woven_plain hosts turns order ps s _ (woven_differs there first_one) odd = plain_5 odd
+woven_plain hosts turns order ps s _ (woven_overflows there over has) odd = plain_10 odd
+woven_plain hosts turns order ps s _ (weaves there starts has whole) odd = ended_plain _ odd
+
 -- an outcome of such a status is that a source failed
 abbrev IsFailure : (before now : List Seen) → Outcome → Type 0
 IsFailure before now o = (status_of_outcome o ≡ 7) × OneFailed before now
@@ -131,6 +141,15 @@ rules_odd hosts turns s _ _ _ (no_lines (refuses_rules rules read refusal)) odd 
 rules_odd hosts turns s _ _ _ (has_lines are (misses_script is)) odd = (refl, later_failed (this_failed is.rose))
 rules_odd hosts turns s _ _ o (has_lines {lines = lines} are (reads_script script read came)) odd = absurd (guards_plain hosts lines turns script s o came odd)
 
+refused_odd : (hosts : List Host) (before now : List Seen) (refusal : Refusal) → AreRefused hosts before now refusal → IsOdd (status_of_outcome (refused refusal)) → IsFailure before now (refused refusal)
+refused_odd hosts _ _ _ (fails_first is) odd = (refl, this_failed is.rose)
+refused_odd hosts _ _ _ (refuses_first script read bad) odd = absurd (plain_3 odd)
+refused_odd hosts _ _ _ (refuses_later {before = before} {now = now} {refusal = refusal} first rest) odd = (let (seven, failed) = refused_odd hosts before now refusal rest odd in (seven, later_failed failed))
+
+scripts_odd : (hosts : List Host) (turns order : ℕ) (s : Start) (before now : List Seen) (o : Outcome) → OfScripts hosts turns order s before now o → IsOdd (status_of_outcome o) → IsFailure before now o
+scripts_odd hosts turns order s before now _ (are_refused {refusal = refusal} bad) odd = refused_odd hosts before now refusal bad odd
+scripts_odd hosts turns order s before now o (are_woven {ps = ps} are came) odd = absurd (woven_plain hosts turns order ps s o came odd)
+
 pub comes_odd : (hosts : List Host) (name : List ℕ) (before now : List Seen) (s : Start) (command : Command) (o : Outcome) → ComesTo hosts name before now s command o → IsOdd (status_of_outcome o) → IsFailure before now o
 comes_odd hosts name before now s Check o came odd = script_odd hosts Check s before now o came odd
 comes_odd hosts name before now s list_command o came odd = script_odd hosts list_command s before now o came odd
@@ -144,6 +163,7 @@ comes_odd hosts name before now s Widen o came odd = script_odd hosts Widen s be
 comes_odd hosts name before now s Import o came odd = file_odd name s before now o came odd
 comes_odd hosts name before now s Export o came odd = absurd (exported_plain name s o came odd)
 comes_odd hosts name before now s (Guard turns) o came odd = rules_odd hosts turns s before now o came odd
+comes_odd hosts name before now s (Weave turns order files) o came odd = scripts_odd hosts turns order s before now o came odd
 
 -- ---- answers
 

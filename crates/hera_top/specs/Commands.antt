@@ -30,10 +30,12 @@ use Rattle.hera_outcome.specs.Passages.{Passage, Start, start_of, KeepsFiles}
 use Rattle.hera_outcome.specs.Told.{IsTold, IsGivenUp, Answered}
 use Rattle.hera_run.specs.Folder.{IsThere, IsClosed, RunsTo}
 use Rattle.hera_transfer.specs.Transfers.{data_limit, ExportsTo, ImportsTo}
+use Rattle.hera_woven.specs.Weaving.{WeavesTo}
 use Rattle.hera_words.specs.declared.command.Command.{Command}
-use Rattle.hera_words.specs.declared.command.Command.TheVariants.{Check, List as list_command, Eval, Drill, Init, Run, Dump, Checkpoint, Widen, Import, Export, Guard}
+use Rattle.hera_words.specs.declared.command.Command.TheVariants.{Check, List as list_command, Eval, Drill, Init, Run, Dump, Checkpoint, Widen, Import, Export, Guard, Weave}
 use Rattle.hera_top.specs.Drill.{drill_text, drill_turns}
 use Rattle.hera_top.specs.Guarding.{OfRules}
+use Rattle.hera_top.specs.Scripts.{AreAccepting, AreRefused}
 use Rattle.hera_top.specs.Sources.{Seen, IsRead, IsUnread, AreStill, AreLater, OneFailed}
 
 -- ---- with a program
@@ -104,6 +106,7 @@ ReadsScript Widen = Unit {0}
 ReadsScript Import = ⊥
 ReadsScript Export = ⊥
 ReadsScript (Guard turns) = ⊥
+ReadsScript (Weave turns order files) = ⊥
 
 -- what it comes to: its source fails, or it goes on with the script that came
 pub data OfScript (hosts : List Host) (command : Command) (v : Start) : (before now : List Seen) → Outcome → Type 0 where
@@ -115,6 +118,12 @@ pub data OfFile (name : List ℕ) (v : Start) : (before now : List Seen) → Out
   misses : {b n : Seen} → IsUnread data_limit b n → OfFile name v (b ∷ []) (n ∷ []) (refused Unread)
   is_too_much : {b n : Seen} (file : List ℕ) → IsRead data_limit b n file → data_limit < length file → OfFile name v (b ∷ []) (n ∷ []) (refused (Script TooLong data_limit))
   takes : {b n : Seen} {outcome : Outcome} (file : List ℕ) → IsRead data_limit b n file → length file ≤ data_limit → ImportsTo name file v outcome → OfFile name v (b ∷ []) (n ∷ []) outcome
+
+-- what a weave comes to: the first of its scripts that is refused ends it; else their programs, in the order of the sources,
+-- are woven over the folder
+pub data OfScripts (hosts : List Host) (turns order : ℕ) (v : Start) (before now : List Seen) : Outcome → Type 0 where
+  are_refused : {refusal : Refusal} → AreRefused hosts before now refusal → OfScripts hosts turns order v before now (refused refusal)
+  are_woven : {ps : List Program_tree} {outcome : Outcome} → AreAccepting hosts before now ps → WeavesTo hosts turns order ps v outcome → OfScripts hosts turns order v before now outcome
 
 -- what each command comes to, its sources before the folder; the drill's script is its own. The name is that of a relation,
 -- among the words.
@@ -131,6 +140,7 @@ ComesTo hosts name before now v Widen = OfScript hosts Widen v before now
 ComesTo hosts name before now v Import = OfFile name v before now
 ComesTo hosts name before now v Export = ExportsTo name v
 ComesTo hosts name before now v (Guard turns) = OfRules hosts turns v before now
+ComesTo hosts name before now v (Weave turns order files) = OfScripts hosts turns order v before now
 
 -- How a command answers: its outcome was told; or before it was known a call on a file failed, or there was no memory, and
 -- nothing was done that shows.

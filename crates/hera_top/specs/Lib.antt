@@ -1,4 +1,6 @@
 pub mod Sources
+pub mod Scripts
+pub mod Stopping
 pub mod Dumping
 pub mod Drill
 pub mod Guarding

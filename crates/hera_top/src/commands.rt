@@ -158,6 +158,7 @@ fn perform_on<W: Outside>(
         | Command::Checkpoint
         | Command::Import
         | Command::Export
-        | Command::Guard(_) => unreachable!(),
+        | Command::Guard(_)
+        | Command::Weave { .. } => unreachable!(),
     }
 }

@@ -35,6 +35,7 @@ use hera_rules::typing_is_exact;
 use hera_script::{a_script_has_one_answer, accepted_programs_are_sound};
 use hera_store::laws::one_thing_is_found;
 use hera_volume::Outside;
+use hera_woven::laws::a_number_tells_one_schedule;
 
 /// A command without a folder comes to one outcome for a script: so each refusal stands for its cause alone, and what runs
 /// is the one program of the script. What `check` prints is `accepted` exactly for the scripts that are accepted.
@@ -74,6 +75,7 @@ pub fn one_outcome_in_a_folder<W: Outside>()
     a_half_has_one_version();
     a_half_has_one_catalogue_and_state();
     rules_have_one_answer();
+    a_number_tells_one_schedule();
 }
 
 /// Completeness. Let no call on a source, a file or the output fail. Then a command does the whole of what it comes to for
@@ -91,6 +93,7 @@ pub fn a_call_is_complete<W: Outside>()
     a_half_has_one_version();
     a_half_has_one_catalogue_and_state();
     rules_have_one_answer();
+    a_number_tells_one_schedule();
 }
 
 /// Completeness of `run`. Let a script be accepted, the files hold a database with all relations that it declares, whose
@@ -111,6 +114,7 @@ pub fn a_run_is_complete<W: Outside>()
     a_half_has_one_version();
     a_half_has_one_catalogue_and_state();
     rules_have_one_answer();
+    a_number_tells_one_schedule();
 }
 
 /// Where a source tells what it has left, the outcome of what came from it is the outcome of all of that.

@@ -12,6 +12,7 @@ mod run;
 mod script;
 mod top;
 mod transfers;
+mod weaves;
 
 pub use hera_words::{Command, files_of, folder_of};
 pub use top::hera;

@@ -15,6 +15,7 @@ use crate::folders::{checkpoint, dump};
 use crate::guard::guard_sources;
 use crate::script::{answer_script, answer_source};
 use crate::transfers::import_source;
+use crate::weaves::weave_sources;
 use hera_causes::Source;
 use hera_host::HostTable;
 use hera_outcome::{Ending, Refusal, Stop, conclude, refuse};
@@ -60,6 +61,9 @@ fn answer<S: Source, W: Outside>(
         Command::Import => import_source(alloc, name, &mut sources[0], outside),
         Command::Export => export(alloc, name, outside),
         Command::Guard(turns) => guard_sources(alloc, turns, sources, outside, hosts),
+        Command::Weave { turns, order, .. } => {
+            weave_sources(alloc, turns, order, sources, outside, hosts)
+        }
         Command::Check
         | Command::List
         | Command::Eval(_)
@@ -85,6 +89,9 @@ fn answer<S: Source, W: Outside>(
 /// - `export DIR R` prints the relation R of the database in the folder as CSV.
 /// - `guard DIR TURNS RULES FILE` runs the script of FILE as `run` does, and stores no commit behind which a row breaks a
 ///   guard of RULES: in place of it the line of the first such row is printed, and the run ends. RULES is the first source.
+/// - `weave DIR TURNS ORDER FILE ..` runs the scripts of 1 to 64 files as sessions over the database in the folder, one
+///   instruction at a time, each with at most TURNS turns; ORDER says whose step comes next. As a session closes, what it
+///   commits is stored, and its number and text are printed.
 ///
 /// A script may call the hosts of the table.
 ///

@@ -1,12 +1,10 @@
 -- The words at places.
 use Rattle.std.proofs.Common.{◌≡◌, ◌<◌, ◌≤◌, ◌+◌, arith, ◌∙◌, ap, sym, ℕ, zero, suc, List, [], ◌∷◌, length, refl, Option, None, Some}
-use Rattle.std.specs.Prelude.{String, string_bytes, get_or, option_map, IfSome}
-use Rattle.std.specs.Option.{option_flatten}
+use Rattle.std.specs.Prelude.{String, string_bytes, get_or, IfSome}
 use Rattle.std.proofs.lemmas.Bool.Decides.{nat_tests}
 use Rattle.hera_words.specs.declared.command.Command.{Command}
-use Rattle.hera_words.specs.Numbers.{number_in}
 use Rattle.std.specs.declared.alloc.Global.{Global}
-use Rattle.hera_words.specs.Words.{words_of, word_at, command_named, form_of, number_place, files_place, with_words, command_by}
+use Rattle.hera_words.specs.Words.{words_of, word_at, numbered_by, form_of, files_place, with_words, command_by}
 
 pub word_within : (words : List (String Global)) (i : ℕ) (w : String Global) → i < length words → w ≡ get_or words i w → string_bytes w ≡ word_at i (words_of words)
 word_within [] i w lt is = absurd (omega (arith, lt))
@@ -27,7 +25,7 @@ of_another_length count command other = grind (arith, nat_tests, other)
 
 -- a command that has another number of words is none
 pub none_by_length : (first : Option Command) (name : List ℕ) (words : List (String Global)) (command : Command)
-    → IfSome first (λ f. Some command ≡ option_flatten (option_map (command_named name) (number_in (form_of f).number (word_at (number_place (form_of f)) (words_of words)))))
+    → IfSome first (λ f. Some command ≡ numbered_by (form_of f) name (words_of words))
     → (length words ≡ files_place (form_of command) + (form_of command).files → ⊥) → None ≡ command_by first name (words_of words)
 none_by_length None name words command is other = refl
 none_by_length (Some f) name words command is other =
@@ -41,7 +39,7 @@ of_this_length count command same = grind (arith, nat_tests, same)
 
 -- and one that has as many is it
 pub some_by_length : (first : Option Command) (name : List ℕ) (words : List (String Global)) (command : Command) → (first ≡ None → Some command ≡ None)
-    → IfSome first (λ f. Some command ≡ option_flatten (option_map (command_named name) (number_in (form_of f).number (word_at (number_place (form_of f)) (words_of words)))))
+    → IfSome first (λ f. Some command ≡ numbered_by (form_of f) name (words_of words))
     → length words ≡ files_place (form_of command) + (form_of command).files → Some command ≡ command_by first name (words_of words)
 some_by_length None name words command unknown is same = absurd (some_is_none command (unknown refl))
 some_by_length (Some f) name words command unknown is same =

@@ -1,5 +1,5 @@
 -- The numbers of the command line.
-use Rattle.std.specs.Prelude.{ℕ, ◌^◌, ◌&&◌, List, Option, Some, None, length, nat_lt, nat_le, if◌then◌else◌}
+use Rattle.std.specs.Prelude.{ℕ, ◌^◌, ◌&&◌, Bool, true, false, List, Option, Some, None, length, nat_lt, nat_le, if◌then◌else◌}
 use Rattle.std.specs.List.{list_all}
 use Rattle.std.specs.Char.{is_ascii_digit}
 use Rattle.std.specs.Str.Parse.{digits_value}
@@ -28,3 +28,8 @@ abbrev pub number_in : Number → List ℕ → Option ℕ
 number_in Absent word = Some 0
 number_in Turns word = turns_of word
 number_in Rows word = rows_of (turns_of word)
+
+-- the number of an order that a word gives, written as turns are, 0 where no word does
+abbrev pub order_in : Bool → List ℕ → Option ℕ
+order_in true word = turns_of word
+order_in false word = Some 0

@@ -1,5 +1,5 @@
 ghost use Rattle.std.specs.Prelude.{◌≡◌};
-ghost use Rattle.hera_words.specs.Words.{command_named, form_of, form, of_a_relation};
+ghost use Rattle.hera_words.specs.Words.{command_named, weave_of, form_of, form, of_a_relation, of_sessions};
 
 use crate::form::{Form, Number};
 
@@ -30,12 +30,19 @@ pub enum Command {
     Export,
     /// Runs a script on the database in a folder with at most so many turns, under the guards of a script before it.
     Guard(u64),
+    /// Runs the scripts of so many files, from 1 to 64, as sessions over the database in a folder, each with at most so many
+    /// turns; a number says whose step comes next.
+    Weave {
+        turns: u64,
+        order: u64,
+        files: usize,
+    },
 }
 
 impl Command {
-    /// The command of a name, with this number where it has one.
-    pub(crate) fn named(name: &str, number: u64) -> Option<Command>
-        ensures { result ≡ command_named name.now number }
+    /// The command of a name, with these numbers and so many files where it has some.
+    pub(crate) fn named(name: &str, number: u64, order: u64, files: usize) -> Option<Command>
+        ensures { result ≡ command_named name.now number order files }
     {
         match name {
             "check" => Some(Command::Check),
@@ -50,6 +57,7 @@ impl Command {
             "import" => Some(Command::Import),
             "export" => Some(Command::Export),
             "guard" => Some(Command::Guard(number)),
+            "weave" => weave(number, order, files),
             _ => None,
         }
     }
@@ -68,7 +76,23 @@ impl Command {
             Command::Dump | Command::Checkpoint => form(true, Number::Absent, 0),
             Command::Import => of_a_relation(1),
             Command::Export => of_a_relation(0),
+            Command::Weave { files, .. } => of_sessions(files),
         }
+    }
+}
+
+/// A weave of so many files, which are from 1 to 64.
+fn weave(turns: u64, order: u64, files: usize) -> Option<Command>
+    ensures { result ≡ weave_of turns order files }
+{
+    if 1 <= files && files <= 64 {
+        Some(Command::Weave {
+            turns,
+            order,
+            files,
+        })
+    } else {
+        None
     }
 }
 
@@ -80,6 +104,7 @@ fn form(folder: bool, number: Number, files: usize) -> Form
         folder,
         relation: false,
         number,
+        order: false,
         files,
     }
 }
@@ -92,6 +117,20 @@ fn of_a_relation(files: usize) -> Form
         folder: true,
         relation: true,
         number: Number::Absent,
+        order: false,
+        files,
+    }
+}
+
+/// The form with a folder, both numbers and so many files.
+fn of_sessions(files: usize) -> Form
+    ensures { result ≡ of_sessions files }
+{
+    Form {
+        folder: true,
+        relation: false,
+        number: Number::Turns,
+        order: true,
         files,
     }
 }

@@ -1,7 +1,7 @@
 ghost use Rattle.std.specs.Prelude.{◌≡◌};
 ghost use Rattle.std.specs.List.{list_all};
 ghost use Rattle.std.specs.Char.{is_ascii_digit};
-ghost use Rattle.hera_words.specs.Numbers.{turns_of, rows_of, width_of, number_in};
+ghost use Rattle.hera_words.specs.Numbers.{turns_of, rows_of, width_of, number_in, order_in};
 
 /// The words behind a command's name, in this order.
 #[derive(Clone, Copy, PartialEq, Eq, Debug)]
@@ -12,6 +12,8 @@ pub(crate) struct Form {
     pub(crate) relation: bool,
     /// The number behind that.
     pub(crate) number: Number,
+    /// Whether a number comes behind it that tells an order, written as turns are.
+    pub(crate) order: bool,
     /// How many files come last.
     pub(crate) files: usize,
 }
@@ -48,6 +50,13 @@ impl Number {
             Number::Rows => rows(word),
         }
     }
+}
+
+/// The number of an order that a word gives, 0 where no word does.
+pub(crate) fn order_of(order: bool, word: &str) -> Option<u64>
+    ensures { result ≡ order_in order word.now }
+{
+    if order { turns(word) } else { Some(0) }
 }
 
 /// Whether the bytes are ASCII digits.

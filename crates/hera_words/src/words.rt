@@ -1,11 +1,9 @@
-ghost use Rattle.std.specs.Prelude.{◌≡◌, ◌≤◌, ◌<◌, ◌+◌, None, length, option_map, IfSome};
+ghost use Rattle.std.specs.Prelude.{◌≡◌, ◌≤◌, ◌<◌, ◌+◌, None, length, IfSome};
 ghost use Rattle.hera_words.specs.declared.form.Form.{Form};
-ghost use Rattle.std.specs.Option.{option_flatten};
-ghost use Rattle.hera_words.specs.Numbers.{number_in};
-ghost use Rattle.hera_words.specs.Words.{words_of, word_at, command_named, form_of, relation_place, number_place, files_place, command_by, command_of, files_in, folder_in, relation_in};
+ghost use Rattle.hera_words.specs.Words.{words_of, word_at, command_named, form_of, relation_place, number_place, order_place, files_place, numbered_by, command_by, command_of, files_in, folder_in, relation_in};
 
 use crate::Command;
-use crate::form::Form;
+use crate::form::{Form, order_of};
 
 impl Form {
     /// Where the relation stands behind the name.
@@ -22,11 +20,18 @@ impl Form {
         self.relation_place() + usize::from(self.relation)
     }
 
+    /// Where the number of an order stands behind the name.
+    fn order_place(&self) -> usize
+        ensures { result ≡ order_place self.now }
+    {
+        self.number_place() + self.number.width()
+    }
+
     /// Where the first file stands behind the name.
     fn files_place(&self) -> usize
         ensures { result ≡ files_place self.now }
     {
-        self.number_place() + self.number.width()
+        self.order_place() + usize::from(self.order)
     }
 }
 
@@ -41,19 +46,21 @@ fn word_at(words: &[String], place: usize) -> &str
     }
 }
 
-/// The command of a name and the number that its word gives.
+/// The command of a name, the numbers that its words give and how many files there are.
 fn numbered(name: &str, words: &[String]) -> Option<Command>
-    ensures numbered { IfSome (command_named name.now 0) (λ first. result ≡ option_flatten (option_map (command_named name.now) (number_in (form_of first).number (word_at (number_place (form_of first)) (words_of words.now))))) }
-    ensures unknown { command_named name.now 0 ≡ None → result ≡ None }
+    ensures numbered { IfSome (command_named name.now 0 0 1) (λ first. result ≡ numbered_by (form_of first) name.now (words_of words.now)) }
+    ensures unknown { command_named name.now 0 0 1 ≡ None → result ≡ None }
 {
-    let form = Command::named(name, 0)?.form();
+    let form = Command::named(name, 0, 0, 1)?.form();
     let number = form.number.of(word_at(words, form.number_place()))?;
-    Command::named(name, number)
+    let order = order_of(form.order, word_at(words, form.order_place()))?;
+    let files = words.len().saturating_sub(form.files_place());
+    Command::named(name, number, order, files)
 }
 
 /// The command of a name and the words behind it.
 fn read_behind(name: &str, words: &[String]) -> Option<Command>
-    ensures command { result ≡ command_by (command_named name.now 0) name.now (words_of words.now) }
+    ensures command { result ≡ command_by (command_named name.now 0 0 1) name.now (words_of words.now) }
     ensures long { IfSome result (λ command. length words.now ≡ files_place (form_of command) + (form_of command).files) }
 {
     let command = numbered(name, words)?;

@@ -3,6 +3,13 @@ use hera_words::{Command, files_of, folder_of, read_words, relation_of};
 use std::alloc::{AllocError, Global};
 use std::test::Fail;
 
+/// What weaves two scripts.
+const WEAVE: Command = Command::Weave {
+    turns: 9,
+    order: 2,
+    files: 2,
+};
+
 /// The words of a line, cut at its blanks.
 fn words_of(alloc: Global, line: &str) -> Result<Vec<String>, AllocError> {
     let mut words = Vec::new(alloc);
@@ -28,6 +35,8 @@ fn each_form_has_its_places(rt: HostRuntime) -> Result<(), Fail> {
         ("import D R F", Some(Command::Import), (3, 4), Some(1)),
         ("export D R", Some(Command::Export), (0, 0), Some(1)),
         ("guard D 1 R F", Some(Command::Guard(1)), (3, 5), Some(1)),
+        ("weave D 9 2 F G", Some(WEAVE), (4, 6), Some(1)),
+        ("weave D 9 2", None, (0, 0), None),
         ("import D F", None, (0, 0), None),
         ("drill 1001", None, (0, 0), None),
         ("run D 1", None, (0, 0), None),

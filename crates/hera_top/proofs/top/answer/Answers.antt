@@ -1,10 +1,11 @@
 use Rattle.std.proofs.Common.{sym, refl, subst, rules}
 use Rattle.hera_outcome.specs.Passages.{passage}
 use Rattle.hera_words.specs.declared.command.Command.{Command}
-use Rattle.hera_words.specs.declared.command.Command.TheVariants.{Drill, Dump, Checkpoint, Import, Export, Guard}
+use Rattle.hera_words.specs.declared.command.Command.TheVariants.{Drill, Dump, Checkpoint, Import, Export, Guard, Weave}
 use Rattle.hera_top.specs.Commands.{ReadsScript, IsAnswered}
 use Rattle.hera_top.specs.Sources.{seen_of}
 use Rattle.hera_top.proofs.Answering.{has_folder, one_source, reads_files, one_file, import_reads_files, unread_answered, read_answered}
+use Rattle.hera_top.proofs.Weaving.{same_weave, none_to_weave}
 use Rattle.hera_top.proofs.Guarding.{two_sources, guard_reads_files}
 use Rattle.hera_top.proofs.top.answer.Goals as goal
 
@@ -69,4 +70,12 @@ returns-in-Guard g c =
           (passage g.W.Output g.W.Outside c.args.outside.now c.guard_sources.new.outside)) (sym c.in-Guard.is) (c.guard_sources.ensures.answered c.args.name.now);
       unread = λ none. absurd (guard_reads_files c.args.command c.in-Guard.turns c.in-Guard.is none);
       apart = λ none. absurd (has_folder (Guard c.in-Guard.turns) c.args.command (sym c.in-Guard.is) refl none);
+    }
+
+pub returns-in-Weave : goal.returns-in-Weave
+returns-in-Weave g c =
+    record {
+      answered = same_weave c.args.hosts.now.names c.args.name.now c.in-Weave.turns c.in-Weave.order _ c.args.command _ _ _ _ (sym c.in-Weave.is) (λ files. c.weave_sources.ensures.answered c.args.name.now files);
+      unread = λ none. c.weave_sources.ensures.unread (none_to_weave c.in-Weave.turns c.in-Weave.order _ c.args.command _ (sym c.in-Weave.is) none c.requires.sources);
+      apart = λ none. absurd (has_folder (Weave c.in-Weave.turns c.in-Weave.order _) c.args.command (sym c.in-Weave.is) refl none);
     }
