@@ -1,0 +1,12 @@
+pub mod Flattened
+pub mod Stacking
+pub mod Plainly
+pub mod Moving
+pub mod Walking
+pub mod Tested
+pub mod PlaceTests
+pub mod Operating
+pub mod Effecting
+pub mod Cutting
+pub mod Declared
+pub mod Stepping

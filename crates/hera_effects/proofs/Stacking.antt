@@ -1,0 +1,163 @@
+-- Lists that share their ends: they stay when others come, and equal lists have equal numbers.
+use Rattle.std.proofs.Common.{◌≡◌, ◌<◌, ◌≤◌, ◌⊎◌, inl, inr, Bool, true, false, cond, ℕ, zero, suc, ◌+◌, ◌-◌, List, [], ◌∷◌, ◌++◌, length, Option, None, Some, refl, sym, ap, subst, ◌∙◌, append-nil, append_assoc, add-one, arith}
+use Rattle.std.specs.Prelude.{slice_get}
+use Rattle.std.specs.BTreeMap.{BTreeMap, is_at, get, Updates}
+use Rattle.std.specs.declared.cmp.Ordering.{Ordering}
+use Rattle.std.specs.declared.cmp.Ordering.TheVariants.{Less, Equal, Greater}
+use Rattle.std.specs.Ordering.{nat_cmp, ordering_then, is_eq}
+use Rattle.std.proofs.lemmas.Bool.{both_ways}
+use Rattle.std.proofs.lemmas.Map.Lookups.{exact_pairs, exact_unsigned}
+use Rattle.std.proofs.lemmas.Option.{none-some, same_Some}
+use Rattle.hera_meaning.specs.declared.scalars.Kind.{Kind}
+use Rattle.hera_typed.specs.Points.{Seen, Walked, Point}
+use Rattle.hera_effects.specs.declared.forms.Kinds.{Kinds}
+use Rattle.hera_effects.specs.declared.forms.FlatSeen.{FlatSeen}
+use Rattle.hera_effects.specs.declared.stacks.Node.{Node}
+use Rattle.hera_effects.specs.declared.spots.Spot.{Spot}
+use Rattle.hera_effects.specs.Flat.{numbered, flat_kinds, flat_seen}
+use Rattle.hera_effects.specs.Stacked.{node_at, AreOperands, AreWalks, IsSpot, IsShared, Grows, key, order, AreFound}
+use Rattle.hera_effects.proofs.Flattened.{kinds_same, seen_same}
+
+-- ---- growth
+
+pub grows_not : (nodes : List Node) → Grows nodes nodes
+grows_not nodes = ([], sym (append-nil nodes))
+
+pub grows_twice : (a b c : List Node) → Grows a b → Grows b c → Grows a c
+grows_twice a b c h g = (h.0 ++ g.0, g.1 ∙ ap (λ xs. xs ++ g.0) h.1 ∙ append_assoc a h.0 g.0)
+
+get_grows : (nodes more : List Node) (i : ℕ) (n : Node) → slice_get nodes i ≡ Some n → slice_get (nodes ++ more) i ≡ Some n
+get_grows [] more i n h = absurd (none-some n h)
+get_grows (m ∷ nodes) more zero n h = h
+get_grows (m ∷ nodes) more (suc i) n h = get_grows nodes more i n h
+
+pub node_grows : (a b : List Node) (id : ℕ) (n : Node) → Grows a b → node_at a id ≡ Some n → node_at b id ≡ Some n
+node_grows a b zero n h at = absurd (none-some n at)
+node_grows a b (suc i) n h at = subst (λ xs. slice_get xs i ≡ Some n) (sym h.1) (get_grows a h.0 i n at)
+
+pub operands_grow : (a b : List Node) (ss : List Seen) (id : ℕ) → Grows a b → AreOperands a id ss → AreOperands b id ss
+operands_grow a b [] id h e = e
+operands_grow a b (s ∷ ss) id h e = (e.0, node_grows a b id _ h e.1, operands_grow a b ss e.0 h e.2)
+
+pub walks_grow : (a b : List Node) (ws : List Walked) (id : ℕ) → Grows a b → AreWalks a id ws → AreWalks b id ws
+walks_grow a b [] id h e = e
+walks_grow a b (w ∷ ws) id h e = (e.0, node_grows a b id _ h e.1, walks_grow a b ws e.0 h e.2)
+
+pub spot_grows : (a b : List Node) (spot : Spot) (p : Point) → Grows a b → IsSpot a spot p → IsSpot b spot p
+spot_grows a b spot p h e = record { operands = operands_grow a b p.operands spot.operands h e.operands; walks = walks_grow a b p.walks spot.walks h e.walks; layers = e.layers }
+
+-- ---- equal lists have equal numbers
+
+numbers_same : (nodes : List Node) (i j : ℕ) (n : Node) → IsShared nodes → node_at nodes i ≡ Some n → node_at nodes j ≡ Some n → i ≡ j
+numbers_same nodes zero j n h e g = absurd (none-some n e)
+numbers_same nodes (suc i) zero n h e g = absurd (none-some n g)
+numbers_same nodes (suc i) (suc j) n h e g = ap suc (h i j n e g)
+
+pub operands_same : (nodes : List Node) (ss : List Seen) (i j : ℕ) → IsShared nodes → AreOperands nodes i ss → AreOperands nodes j ss → i ≡ j
+operands_same nodes [] i j h e g = e ∙ sym g
+operands_same nodes (s ∷ ss) i j h e g =
+    let below = operands_same nodes ss e.0 g.0 h e.2 g.2 in
+    numbers_same nodes i j (record { seen = flat_seen s; gathers = flat_kinds []; below = g.0 }) h (e.1 ∙ ap (λ (b : ℕ). Some (record { seen = flat_seen s; gathers = flat_kinds []; below = b })) below) g.1
+
+pub walks_same : (nodes : List Node) (ws : List Walked) (i j : ℕ) → IsShared nodes → AreWalks nodes i ws → AreWalks nodes j ws → i ≡ j
+walks_same nodes [] i j h e g = e ∙ sym g
+walks_same nodes (w ∷ ws) i j h e g =
+    let below = walks_same nodes ws e.0 g.0 h e.2 g.2 in
+    numbers_same nodes i j (record { seen = flat_seen w.over; gathers = flat_kinds w.gathers; below = g.0 }) h (e.1 ∙ ap (λ (b : ℕ). Some (record { seen = flat_seen w.over; gathers = flat_kinds w.gathers; below = b })) below) g.1
+
+-- ---- a number is that of one list
+
+same_node : (a b : Node) (o : Option Node) → o ≡ Some a → o ≡ Some b → a ≡ b
+same_node a b o h g = same_Some a b (sym h ∙ g)
+
+pub operands_one : (nodes : List Node) (ss ts : List Seen) (id : ℕ) → AreOperands nodes id ss → AreOperands nodes id ts → ss ≡ ts
+operands_one nodes [] [] id e g = refl
+operands_one nodes [] (t ∷ ts) id e g = absurd (none-some _ (sym (ap (node_at nodes) e) ∙ g.1))
+operands_one nodes (s ∷ ss) [] id e g = absurd (none-some _ (sym (ap (node_at nodes) g) ∙ e.1))
+operands_one nodes (s ∷ ss) (t ∷ ts) id e g =
+    let node = same_node _ _ (node_at nodes id) e.1 g.1 in
+    let seen = seen_same s t (ap (λ (n : Node). n.seen) node) in
+    let below : e.0 ≡ g.0 = ap (λ (n : Node). n.below) node in
+    let rest = operands_one nodes ss ts g.0 (subst (λ b. AreOperands nodes b ss) below e.2) g.2 in
+    (λ i. seen i ∷ rest i)
+
+pub walks_one : (nodes : List Node) (ws vs : List Walked) (id : ℕ) → AreWalks nodes id ws → AreWalks nodes id vs → ws ≡ vs
+walks_one nodes [] [] id e g = refl
+walks_one nodes [] (v ∷ vs) id e g = absurd (none-some _ (sym (ap (node_at nodes) e) ∙ g.1))
+walks_one nodes (w ∷ ws) [] id e g = absurd (none-some _ (sym (ap (node_at nodes) g) ∙ e.1))
+walks_one nodes (w ∷ ws) (v ∷ vs) id e g =
+    let node = same_node _ _ (node_at nodes id) e.1 g.1 in
+    let over = seen_same w.over v.over (ap (λ (n : Node). n.seen) node) in
+    let gathers = kinds_same w.gathers v.gathers (ap (λ (n : Node). n.gathers.digits) node) in
+    let below : e.0 ≡ g.0 = ap (λ (n : Node). n.below) node in
+    let rest = walks_one nodes ws vs g.0 (subst (λ b. AreWalks nodes b ws) below e.2) g.2 in
+    (λ i. record { over = over i; gathers = gathers i } ∷ rest i)
+
+-- one spot is of one point, and one point has one spot
+pub spot_one : (nodes : List Node) (spot : Spot) (p q : Point) → IsSpot nodes spot p → IsSpot nodes spot q → p ≡ q
+spot_one nodes spot p q h g =
+    let operands = operands_one nodes p.operands q.operands spot.operands h.operands g.operands in
+    let walks = walks_one nodes p.walks q.walks spot.walks h.walks g.walks in
+    let layers = sym h.layers ∙ g.layers in
+    (λ i. record { operands = operands i; walks = walks i; layers = layers i })
+
+pub spots_same : (nodes : List Node) (a b : Spot) (p : Point) → IsShared nodes → IsSpot nodes a p → IsSpot nodes b p → a ≡ b
+spots_same nodes a b p shared h g =
+    let operands = operands_same nodes p.operands a.operands b.operands shared h.operands g.operands in
+    let walks = walks_same nodes p.walks a.walks b.walks shared h.walks g.walks in
+    let layers = h.layers ∙ sym g.layers in
+    (λ i. record { operands = operands i; walks = walks i; layers = layers i })
+
+-- ---- nodes found by their keys
+
+pub found_shared : (nodes : List Node) (places : BTreeMap ((ℕ × ℕ) × ℕ) ℕ) → AreFound nodes places → IsShared nodes
+found_shared nodes places h i j n e g = same_Some i j (sym (h i n e) ∙ h j n g)
+
+-- ---- a node more
+
+exact : (x y : (ℕ × ℕ) × ℕ) → order x y ≡ Equal → x ≡ y
+exact x y e = exact_pairs (λ (a b : ℕ × ℕ). ordering_then (nat_cmp a.0 b.0) (nat_cmp a.1 b.1)) nat_cmp (exact_pairs nat_cmp nat_cmp exact_unsigned exact_unsigned) exact_unsigned x y e
+
+is_equal : (o : Ordering) → is_eq o ≡ true → o ≡ Equal
+is_equal Less e = absurd (both_ways (is_eq Less) refl e)
+is_equal Equal e = refl
+is_equal Greater e = absurd (both_ways (is_eq Greater) refl e)
+
+push_cases : (nodes : List Node) (m : Node) (i : ℕ) (n : Node) → slice_get (nodes ++ m ∷ []) i ≡ Some n → (slice_get nodes i ≡ Some n) ⊎ ((i ≡ length nodes) × (m ≡ n))
+push_cases [] m zero n h = inr (refl, same_Some m n h)
+push_cases [] m (suc i) n h = absurd (none-some n h)
+push_cases (x ∷ nodes) m zero n h = inl h
+push_cases (x ∷ nodes) m (suc i) n h = elim (push_cases nodes m i n h) [
+  | inl below ↦ inl below
+  | inr last ↦ inr (ap suc last.0, last.1)
+]
+
+pub get_last : (nodes : List Node) (m : Node) → slice_get (nodes ++ m ∷ []) (length nodes) ≡ Some m
+get_last [] m = refl
+get_last (x ∷ nodes) m = get_last nodes m
+
+pub found_put : (nodes : List Node) (before after : BTreeMap ((ℕ × ℕ) × ℕ) ℕ) (n : Node) → AreFound nodes before → get order before (key n) ≡ None → Updates order before after (key n) (Some (length nodes)) → AreFound nodes after
+found_put nodes before after n h none put i m at = by (is_at (order (key n)) (key m)) refl
+  where
+    by : (v : Bool) → is_at (order (key n)) (key m) ≡ v → get order after (key m) ≡ Some i
+    by true e =
+        let same : key n ≡ key m = exact (key n) (key m) (is_equal (order (key n) (key m)) e) in
+        absurd (none-some i (sym none ∙ ap (get order before) same ∙ h i m at))
+    by false e = put.0 (key m) ∙ ap (λ b. cond b (Some (length nodes)) (get order before (key m))) e ∙ h i m at
+
+pub found_push : (nodes : List Node) (before after : BTreeMap ((ℕ × ℕ) × ℕ) ℕ) (n : Node) → AreFound nodes before → get order before (key n) ≡ None → Updates order before after (key n) (Some (length nodes)) → AreFound (nodes ++ n ∷ []) after
+found_push nodes before after n h none put i m at = elim (push_cases nodes n i m at) [
+  | inl below ↦ found_put nodes before after n h none put i m below
+  | inr last ↦ subst (λ (x : Node). get order after (key x) ≡ Some i) last.1 (put.1 ∙ ap (λ (j : ℕ). Some j) (sym last.0))
+]
+
+pub node_before : (nodes : List Node) (id : ℕ) → (id ≡ 0 → ⊥) → slice_get nodes (id - 1) ≡ node_at nodes id
+node_before nodes zero some = absurd (some refl)
+node_before nodes (suc i) some = ap (slice_get nodes) (omega arith)
+
+pub grows_push : (nodes : List Node) (n : Node) → Grows nodes (nodes ++ n ∷ [])
+grows_push nodes n = (n ∷ [], refl)
+
+-- the node behind the others
+pub pushed_at : (nodes : List Node) (n : Node) (place : ℕ) → place ≡ length nodes → node_at (nodes ++ n ∷ []) (place + 1) ≡ Some n
+pushed_at nodes n place e = ap (node_at (nodes ++ n ∷ [])) (add-one place ∙ ap suc e) ∙ get_last nodes n

@@ -1,0 +1,6 @@
+pub mod Flat
+pub mod Stacked
+pub mod Ways
+pub mod Plain
+pub mod Joins
+pub mod Operations

@@ -1,0 +1,59 @@
+-- Lists that share their ends: each node has what stands first and the number of the rest.
+use Rattle.std.specs.Prelude.{◌≡◌, ℕ, zero, suc, ◌+◌, ◌*◌, ◌++◌, List, [], ◌∷◌, Option, None, Some, slice_get}
+use Rattle.std.specs.declared.cmp.Ordering.{Ordering}
+use Rattle.std.specs.Ordering.{nat_cmp, ordering_then}
+use Rattle.std.specs.BTreeMap.{BTreeMap, get}
+use Rattle.hera_meaning.specs.declared.scalars.Kind.{Kind}
+use Rattle.hera_typed.specs.Points.{Seen, Walked, Point}
+use Rattle.hera_effects.specs.declared.forms.FlatForm.TheVariants as flat
+use Rattle.hera_effects.specs.declared.forms.FlatSeen.{FlatSeen}
+use Rattle.hera_effects.specs.declared.forms.FlatSeen.TheVariants as flat_seens
+use Rattle.hera_effects.specs.declared.stacks.Node.{Node}
+use Rattle.hera_effects.specs.declared.spots.Spot.{Spot}
+use Rattle.hera_effects.specs.Flat.{digit, flat_kinds, flat_seen}
+
+-- the node of a number; the list without items has the number 0
+abbrev pub node_at : List Node → ℕ → Option Node
+node_at nodes zero = None
+node_at nodes (suc i) = slice_get nodes i
+
+-- the operands of a number, the newest first
+abbrev pub AreOperands : List Node → ℕ → List Seen → Type 0
+AreOperands nodes id [] = id ≡ 0
+AreOperands nodes id (s ∷ ss) = (below : ℕ) × (node_at nodes id ≡ Some (record { seen = flat_seen s; gathers = flat_kinds []; below = below })) × AreOperands nodes below ss
+
+abbrev pub AreWalks : List Node → ℕ → List Walked → Type 0
+AreWalks nodes id [] = id ≡ 0
+AreWalks nodes id (w ∷ ws) = (below : ℕ) × (node_at nodes id ≡ Some (record { seen = flat_seen w.over; gathers = flat_kinds w.gathers; below = below })) × AreWalks nodes below ws
+
+pub record IsSpot (nodes : List Node) (spot : Spot) (p : Point) : Type 0 where
+  pub operands : AreOperands nodes spot.operands p.operands
+  pub walks : AreWalks nodes spot.walks p.walks
+  pub layers : spot.layers ≡ p.layers
+
+-- no node stands twice
+abbrev pub IsShared : List Node → Type 0
+IsShared nodes = (i j : ℕ) (n : Node) → slice_get nodes i ≡ Some n → slice_get nodes j ≡ Some n → i ≡ j
+
+-- nodes stay, others come behind them
+abbrev pub Grows : List Node → List Node → Type 0
+Grows before after = (more : List Node) × (after ≡ before ++ more)
+
+-- ---- under which key a node is found
+
+abbrev pub seen_number : FlatSeen → ℕ
+seen_number flat_seens.NoRows = 0
+seen_number (flat_seens.Known flat.Delta) = 4
+seen_number (flat_seens.Known (flat.Scalar k)) = 8 * digit k
+seen_number (flat_seens.Known (flat.Tuple ks)) = 8 * ks.digits + 1
+seen_number (flat_seens.Known (flat.Table ks)) = 8 * ks.digits + 2
+
+abbrev pub key : Node → (ℕ × ℕ) × ℕ
+key n = ((seen_number n.seen, n.gathers.digits), n.below)
+
+abbrev pub order : (ℕ × ℕ) × ℕ → (ℕ × ℕ) × ℕ → Ordering
+order x y = ordering_then (ordering_then (nat_cmp x.0.0 y.0.0) (nat_cmp x.0.1 y.0.1)) (nat_cmp x.1 y.1)
+
+-- each node is found at its place
+abbrev pub AreFound : List Node → BTreeMap ((ℕ × ℕ) × ℕ) ℕ → Type 0
+AreFound nodes places = (i : ℕ) (n : Node) → slice_get nodes i ≡ Some n → get order places (key n) ≡ Some i

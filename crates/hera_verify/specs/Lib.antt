@@ -1,0 +1,5 @@
+pub mod Rejected
+pub mod Looks
+pub mod Spans
+pub mod Slots
+pub mod Tables

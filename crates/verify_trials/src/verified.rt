@@ -1,0 +1,62 @@
+//! A small file, verified as it is and spoiled.
+ghost use Rattle.std.specs.Prelude.{IfOk};
+ghost use Rattle.hera_code_file.specs.Files.{AreNoted};
+
+use hera_code_file::{CodeFile, read_code};
+use hera_host::HostTable;
+use hera_verify::{VerifyFault, verify};
+use std::alloc::Global;
+use std::test::Fail;
+
+/// The file of `main { print 2 + 3 * 4; }`.
+const FILE: [u8; 77] = [
+    0x48, 0x45, 0x52, 0x41, 0x43, 0x4f, 0x44, 0x45, 0, 0, 0, 0, 0, 1, 0, 0, 0, 0, 0, 0, 0, 0, 0, 0,
+    0, 0, 0, 0, 0, 0, 0, 7, 0, 0, 0x80, 0, 0, 0, 0, 0, 0, 2, 0, 0, 0x80, 0, 0, 0, 0, 0, 0, 3, 0, 0,
+    0x80, 0, 0, 0, 0, 0, 0, 4, 4, 4, 0, 0, 0, 0x13, 4, 2, 0, 0, 0, 0x0f, 0x14, 0, 0x19,
+];
+
+/// The file with another byte at a place, read.
+fn spoiled(alloc: Global, place: usize, value: u8) -> Result<CodeFile, Fail>
+    ensures { IfOk result (λ file. AreNoted file.code.bodies file.notes.bodies.items) }
+{
+    let mut bytes = Vec::from_slice(alloc, &FILE)?;
+    if let Some(byte) = bytes.get_mut(place) {
+        *byte = value;
+    }
+    match read_code(alloc, &bytes) {
+        Ok(file) => Ok(file),
+        Err(_) => Err("the bytes are no file".into()),
+    }
+}
+
+/// Where the file is rejected. None where it is verified.
+fn rejected_at(alloc: Global, file: &CodeFile) -> Result<Option<u32>, Fail>
+    requires { AreNoted file.now.code.bodies file.now.notes.bodies.items }
+{
+    if file.code.instrs.len() >= 1 << 32 {
+        return Err("the file is too long".into());
+    }
+    match verify(alloc, file, &HostTable::new(alloc)) {
+        Ok(()) => Ok(None),
+        Err(VerifyFault::Rejected { at }) => Ok(Some(at)),
+        Err(VerifyFault::Memory) => Err("memory ran out".into()),
+    }
+}
+
+#[test]
+fn code_is_verified_or_rejected_where_it_breaks(rt: HostRuntime) -> Result<(), Fail> {
+    // As it is; Mul made Not; a bool printed; Halt made Ret, which stands in main; Halt made Commit, which ends no code.
+    let cases = [
+        (0, 0x48, None),
+        (63, 1, Some(3)),
+        (75, 1, Some(5)),
+        (76, 0x12, Some(6)),
+        (76, 0x16, Some(7)),
+    ];
+    for (place, value, at) in cases {
+        let file = spoiled(rt.alloc(), place, value)?;
+        assert_eq!(rt; rejected_at(rt.alloc(), &file)?, at);
+        drop(file);
+    }
+    Ok(())
+}
