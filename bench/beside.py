@@ -43,20 +43,11 @@ QUERIES = {
 JOIN = PAIR + "main { print count(join(P, Q)); print count(join(P, Q)) when {+P(1, 99999), -Q(5, 5)}; }"
 
 
-class Bench:
-    """A folder with scripts and databases, and the program."""
-
-    def __init__(self, program, times, only, folder):
-        self.program, self.times, self.only, self.folder = program, times, only, folder
-
-    def at(self, name):
-        return os.path.join(self.folder, name)
+class Bench(run.Bench):
+    """A folder with scripts and databases."""
 
     def script(self, text):
-        path = self.at("script.hera")
-        with open(path, "w") as target:
-            target.write(text)
-        return path
+        return self.write("script.hera", text)
 
     def fill(self, name, text, work, checkpointed):
         """Makes a database of hera's and one of SQLite's, each in a folder."""
@@ -76,7 +67,7 @@ class Bench:
 
     def row(self, title, ours, peers, before=lambda: None):
         """A line of the table: both times, the ratio, both peaks."""
-        if self.only is not None and self.only not in title:
+        if not self.is_wanted(title):
             return
         runs = {"ours": [], "peers": []}
         for _ in range(self.times):
@@ -86,12 +77,7 @@ class Bench:
         if any(it[2] for it in runs["ours"] + runs["peers"]) or runs["ours"][0][3] != runs["peers"][0][3]:
             print(f"| {title} | the two differ: {runs['ours'][0][2:]} and {runs['peers'][0][2:]} |"[:300])
             return
-        mine, theirs = min(runs["ours"]), min(runs["peers"])
-        print(
-            f"| {title} | {theirs[0]:.3f} s, {theirs[1]:.0f} MB | {mine[0]:.3f} s, {mine[1]:.0f} MB "
-            f"| {mine[0] / theirs[0]:.2f} |",
-            flush=True,
-        )
+        run.beside(title, min(runs["ours"]), min(runs["peers"]))
 
     def stored(self, title, name, text, work):
         """The same work over a copy of a stored database."""

@@ -3,16 +3,26 @@
 
     bench/cases.py [FOLDER]
 
-It goes through the cases of stdin, but for those that let calls fail, and those of `list`. FOLDER is another checkout.
+It goes through the cases of stdin, but for those that let calls fail, and those of `list`. Of woven scripts it is looked at
+whether those that commit print and store what they do one after another. FOLDER is another checkout.
 """
 
 import os
 import sys
 
-from commands import Folder
+import rules
+import script as scripts
+import tables
+from beside_scripts import judge_weave, wanted_guard
+from commands import Answer, Folder, number_of
+from common import Wrong
 
-FOLDERS = ("init", "run", "dump", "checkpoint", "widen", "import", "export")
-SCRIPTS = ("check", "list", "eval", "init", "run", "widen", "import")
+FOLDERS = ("init", "run", "dump", "checkpoint", "widen", "import", "export", "guard", "weave")
+# Where the FILE words begin, and the most of them.
+FILES = {
+    "check": (1, 1), "list": (1, 1), "eval": (2, 1), "init": (2, 1), "run": (3, 1), "widen": (2, 1), "import": (3, 1),
+    "guard": (3, 2), "weave": (4, 64),
+}
 PLACES = {"select": 0, "left": 1, "right": 2}
 
 
@@ -48,20 +58,82 @@ class Session:
     def __init__(self, data):
         self.data, self.name, self.folder = data, "", Folder()
 
-    def answer(self, words, lines):
-        """What the case prints, or None where it is not told here."""
-        name = words[1] if len(words) > 1 and words[0] in FOLDERS else ""
+    def sources(self, words, lines):
+        """The texts of the FILE words: of those before the last the ones that are given come first."""
+        first, most = FILES.get(words[0], (0, 0)) if words else (0, 0)
+        names = words[first : first + most]
+        given = [line.split(b" ", 2)[2] for line in lines if line.startswith((b"=> rules ", b"=> before "))]
+        given += [self.read(name) for name in names[:-1] if name != "-"]
+        given += [b""] * (len(names) - 1 - len(given))
+        last = b"\n".join(line for line in lines if not line.startswith(b"=> "))
+        return given + [last + (self.read(names[-1]) if names and names[-1] != "-" else b"")]
+
+    def read(self, name):
+        path = os.path.join(self.data, name)
+        if not os.path.isfile(path):
+            return b""
+        with open(path, "rb") as file:
+            return file.read()
+
+    def answer(self, words, lines, found):
+        """What the case prints, and its status, or None where it is not told here. Found is what is stored."""
+        form = bool(words) and words[0] in FOLDERS
+        if form and words[0] in ("guard", "weave"):
+            form = FILES[words[0]][0] < len(words) <= sum(FILES[words[0]])
+        name = words[1] if form and len(words) > 1 else ""
         if not name or name != self.name:
             self.folder = Folder()
         self.name = name
+        texts = self.sources(words, lines)
         settings = [line[3:].decode() for line in lines if line.startswith(b"=> ")]
-        source = b"\n".join(line for line in lines if not line.startswith(b"=> "))
-        if words and words[0] in SCRIPTS and words[-1] != "-" and os.path.isfile(os.path.join(self.data, words[-1])):
-            with open(os.path.join(self.data, words[-1]), "rb") as file:
-                source += file.read()
-        if not all([set_file(self.folder, line) for line in settings]):
+        if not all([set_file(self.folder, line) for line in settings if line.split()[0] not in ("rules", "before")]):
             return None
-        return self.folder.call(words, source)
+        if not form or words[0] not in ("guard", "weave"):
+            return self.folder.call(words, texts[-1])
+        try:
+            return self.guard(words, texts) if words[0] == "guard" else self.weave(words, texts, found)
+        except Answer as answer:
+            return answer.args
+
+    def guard(self, words, texts):
+        """What a guarded run prints, where its folder has a database if its scripts are accepted."""
+        turns = number_of(words[2], 0, 2**64 - 1)
+        if len(texts) != 2:
+            raise Answer(b"usage\n", 2)
+        for check, text in ((tables.lines_of, texts[0]), (rules.check, texts[1])):
+            refused_by(check, text)
+        catalogue, state = self.folder.open()
+        text, status, after, runs = wanted_guard(*texts, catalogue, state, turns)
+        if runs:
+            self.folder.renew(catalogue, after)
+        return text, status
+
+    def weave(self, words, texts, found):
+        """What is found, where it is an answer of these sessions."""
+        turns, _ = (number_of(word, 0, 2**64 - 1) for word in words[2:4])
+        for text in texts:
+            refused_by(rules.check, text)
+        catalogue, state = self.folder.open()
+        for text in texts:
+            missing = tables.missing(scripts.read(text), catalogue)
+            if missing:
+                raise Answer(b"differs %s\n" % missing, 5)
+        try:
+            after = judge_weave(found.removesuffix(b"-- 0\n"), texts, catalogue, [state], turns)
+        except Wrong as wrong:
+            return str(wrong).encode(), 0
+        self.folder.renew(catalogue, after)
+        return found.removesuffix(b"-- 0\n"), 0
+
+
+def refused_by(check, text):
+    """Ends with the line of the refusal, where there is one."""
+    try:
+        answer = check(text)
+    except scripts.Refused as refused:
+        raise Answer(b"refused %s at %d\n" % (refused.name.encode(), refused.at), 3)
+    if isinstance(answer, tuple) and answer[1]:
+        raise Answer(*answer)
 
 
 def main():
@@ -71,9 +143,9 @@ def main():
     stored = parts_of(os.path.join(crate, "stdout"))
     for heading, lines in parts_of(os.path.join(crate, "stdin")):
         _, colon, words = heading.partition(b": ")
-        answer = session.answer(words.decode().split(" ") if colon else [], lines)
         place = next((place for place, (it, _) in enumerate(stored) if it == heading), None)
         found = None if place is None else b"\n".join(stored.pop(place)[1] + [b""])
+        answer = session.answer(words.decode().split(" ") if colon else [], lines, found or b"")
         if answer is None:
             continue
         compared += 1

@@ -22,19 +22,8 @@ COMMITS = DECLARATION + "\nmain {{ int i = 0; while (i < {count}) {{ apply {{+R(
 RULES = "R.n: band;\n"
 
 
-class Folder:
-    """A folder with a database of rows that no guard refuses, scripts, and the program."""
-
-    def __init__(self, program, times, folder):
-        self.program, self.times, self.folder = program, times, folder
-
-    def at(self, name):
-        return os.path.join(self.folder, name)
-
-    def write(self, name, text):
-        with open(self.at(name), "w") as target:
-            target.write(text)
-        return self.at(name)
+class Folder(run.Bench):
+    """A folder with a database of rows that no guard refuses, and scripts."""
 
     def fill(self, rows):
         lines = "".join(f"{i},{i % 101}\n" for i in range(rows))
@@ -72,7 +61,7 @@ def main():
     parser.add_argument("program")
     options = parser.parse_args()
     with tempfile.TemporaryDirectory() as name:
-        folder = Folder(os.path.abspath(options.program), options.times, name)
+        folder = Folder(os.path.abspath(options.program), options.times, None, name)
         folder.fill(options.rows)
         folder.write("rules", RULES)
         commits = folder.write("commits.hera", COMMITS.format(count=options.commits, rows=options.rows))

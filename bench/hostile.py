@@ -14,6 +14,7 @@ Its parts:
   rules    scripts of guards over databases and runs, by `guard`
   orders   words for ORDER and woven scripts, by `weave`: those that commit are as runs one after another
   code     packed scripts, whole and spoiled, by `pack` and `exec`
+  full     a half with no room for what `run`, `guard`, `import` and `checkpoint` write, and a file of 2^20 records
   memory   each allocation of a command refused in turn: on a script, and on init, run, dump and checkpoint of a folder
   crash    the same over files in memory, with a crash behind each (with --cases, the built program of hera_cases)
 
@@ -34,6 +35,7 @@ import time
 
 import beside_scripts
 import code_file
+import full
 import meaning
 import memory
 import reader
@@ -158,9 +160,11 @@ def try_run(program, folder, script, turns):
 
 # What a call may take of memory, in bytes: far more than any of these scripts wants.
 MEMORY = 4 << 30
-PARTS = {"bytes": try_bytes, "halves": try_halves, "scripts": try_scripts, **beside_scripts.PARTS}
+PARTS = {"bytes": try_bytes, "halves": try_halves, "scripts": try_scripts, **beside_scripts.PARTS, **full.PARTS}
+# The parts that have an end of their own.
+ENDING = ("bytes", "full")
 # The command without which a part is left out.
-NEEDS = {"csv": "import", "rules": "guard", "orders": "weave", "code": "exec"}
+NEEDS = {"csv": "import", "rules": "guard", "orders": "weave", "code": "exec", "full": "import"}
 
 
 def work(part, options, number, answers):
@@ -173,8 +177,7 @@ def work(part, options, number, answers):
             for inputs in PARTS[part](options.program, folder, draw, number, options.processes):
                 count += inputs
                 if count >= share if share else time.monotonic() > end:
-                    # The part `bytes` has an end of its own.
-                    if part != "bytes":
+                    if part not in ENDING:
                         break
             answers.put((count, None))
         except Wrong as wrong:

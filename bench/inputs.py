@@ -6,6 +6,7 @@ import random
 import re
 
 from reader import EXAMPLES, PAGES
+from tables import pages_of
 from typed_phrases import TypedPhrases
 
 KEYWORDS = (
@@ -250,20 +251,6 @@ class Halves:
     def row(self, kinds):
         return b"".join(self.field(kind) for kind in kinds)
 
-    def pages(self, size, relation, rows):
-        """The pages of so many bytes of a relation with these rows, filled in order."""
-        pages, page, count = [], b"", 0
-        for row in rows:
-            if 4 + len(page) + len(row) > size:
-                pages.append((count, page))
-                page, count = b"", 0
-            page += row
-            count += 1
-        if count:
-            pages.append((count, page))
-        number = relation.to_bytes(2, "big")
-        return [(number + count.to_bytes(2, "big") + page).ljust(size, b"\0") for count, page in pages]
-
     def record(self, kinds_of):
         atoms = {}
         for _ in range(self.draw.randrange(5)):
@@ -289,7 +276,7 @@ class Halves:
         pages = []
         for relation, kinds in enumerate(kinds_of):
             rows = {self.row(kinds) for _ in range(self.draw.choice([0, 1, 2, 40, 300]))}
-            pages += self.pages(size, relation, sorted(row for row in rows if 4 + len(row) <= size))
+            pages += pages_of(size, relation, sorted(row for row in rows if 4 + len(row) <= size))
         journal = b"".join(self.record(kinds_of) for _ in range(self.draw.randrange(3))) if kinds_of else b""
         behind = self.draw.randbytes(self.draw.choice([0, 0, 5]))
         count = len(kinds_of).to_bytes(2, "big")

@@ -15,6 +15,9 @@ WIDE = b"relation R(a int, b text); relation S(a int); relation T(k int);"
 NONE = b"no database\n"
 ADD = b"a\n3\n"
 GUARDED = TWO + b"main { apply {+R(4)}; commit; }"
+FIRST, SECOND = (TWO + b"main { apply {+R(%d)}; commit; }" % row for row in (5, 6))
+# How many lines a command prints for each commit, where that is not one.
+LINES = {"weave": 2}
 
 
 def rows_text(count):
@@ -22,7 +25,7 @@ def rows_text(count):
 
 
 # What `dump` prints where R has the rows from 1 to this.
-ROWS = [b"relation R(a int);\n" + rows_text(count) + b"relation S(a int);\nrows 0\n" for count in range(5)]
+ROWS = [b"relation R(a int);\n" + rows_text(count) + b"relation S(a int);\nrows 0\n" for count in range(7)]
 
 
 def widened(count):
@@ -52,12 +55,13 @@ class Refuser:
 
 def may_be_left(name, printed, start, end):
     """What `dump` may print behind a command that printed this and found no memory. It begins over so many rows and ends over
-    so many, one more behind each line."""
+    so many, one more behind each commit's lines."""
     if name == "init":
         return [NONE, ROWS[0]]
     if name == "widen":
         return [widened(start)] if printed else [ROWS[start], widened(start)]
-    return ROWS[start : end + 1][printed.count(b"\n") * (end > start) :][:2]
+    commits = printed.count(b"\n") // LINES.get(name, 1)
+    return ROWS[start : end + 1][commits * (end > start) :][:2]
 
 
 def is_cut(answer, whole):
@@ -95,9 +99,10 @@ ALONE = ("check", "list", "eval", "drill")
 def steps_over(folder):
     """Commands over a folder one after the other: the name, the words, what is printed, the rows before and behind."""
     folder.write("script", COMMITS)
-    for name, text in (("wide", WIDE), ("add", ADD), ("rules", b"R.a: band;"), ("guarded", GUARDED)):
+    texts = {"wide": WIDE, "add": ADD, "rules": b"R.a: band;", "guarded": GUARDED, "first": FIRST, "second": SECOND}
+    at = {name: os.path.join(folder.path, name) for name in texts}
+    for name, text in texts.items():
         folder.write(name, text)
-    at = {name: os.path.join(folder.path, name) for name in ("wide", "add", "rules", "guarded")}
     d = folder.database
     return [
         ("init", ["init", d, folder.script], b"created\n", 0, 0),
@@ -107,7 +112,8 @@ def steps_over(folder):
         ("import", ["import", d, "R", at["add"]], b"imported 1\n", 2, 3),
         ("export", ["export", d, "R"], b"a\n1\n2\n3\n", 3, 3),
         ("guard", ["guard", d, "100", at["rules"], at["guarded"]], b"commit 1\n", 3, 4),
-        ("widen", ["widen", d, at["wide"]], b"widened\n", 4, 4),
+        ("weave", ["weave", d, "100", "0", at["first"], at["second"]], b"session 0\ncommit 1\nsession 1\ncommit 1\n", 4, 6),
+        ("widen", ["widen", d, at["wide"]], b"widened\n", 6, 6),
     ]
 
 

@@ -63,6 +63,32 @@ def shown(seconds):
     return "-" if seconds is None else f"{seconds:.3f}"
 
 
+class Bench:
+    """A folder with files and databases, the program, and how often and of which rows its times are taken."""
+
+    def __init__(self, program, times, only, folder):
+        self.program, self.times, self.only, self.folder = program, times, only, folder
+
+    def at(self, name):
+        return os.path.join(self.folder, name)
+
+    def write(self, name, text):
+        with open(self.at(name), "w") as target:
+            target.write(text)
+        return self.at(name)
+
+    def is_wanted(self, title):
+        return self.only is None or self.only in title
+
+
+def beside(title, ours, peers):
+    """Prints a line of a table: a peer's seconds and peak, ours, and how many times its time ours is."""
+    print(
+        f"| {title} | {peers[0]:.3f} s, {peers[1]:.0f} MB | {ours[0]:.3f} s, {ours[1]:.0f} MB | {ours[0] / peers[0]:.2f} |",
+        flush=True,
+    )
+
+
 class Table:
     """Rows of figures, a column a program."""
 

@@ -80,23 +80,16 @@ def once(words, output):
     return usage.ru_utime + usage.ru_stime, usage.ru_maxrss / 1024, process.returncode
 
 
-class Bench:
-    """A folder with files of rows and databases, and the program."""
-
-    def __init__(self, program, times, only, folder):
-        self.program, self.times, self.only, self.folder = program, times, only, folder
-
-    def at(self, name):
-        return os.path.join(self.folder, name)
+class Bench(run.Bench):
+    """A folder with files of rows and databases."""
 
     def empty(self, declarations):
         """Both databases, without rows."""
         shutil.rmtree(self.at("ours"), ignore_errors=True)
         if os.path.exists(self.at("peer")):
             os.remove(self.at("peer"))
-        with open(self.at("script.hera"), "w") as target:
-            target.write(declarations[0] + "\nmain { }\n")
-        run.once([self.program, "init", self.at("ours"), self.at("script.hera")])
+        script = self.write("script.hera", declarations[0] + "\nmain { }\n")
+        run.once([self.program, "init", self.at("ours"), script])
         run.once(["sqlite3", self.at("peer"), declarations[1]])
 
     def best(self, words, before, output="printed"):
@@ -110,14 +103,11 @@ class Bench:
         if ours is None or peers is None:
             print(f"| {title} | one of the two failed |", flush=True)
             return
-        print(
-            f"| {title} | {peers[0]:.3f} s, {peers[1]:.0f} MB | {ours[0]:.3f} s, {ours[1]:.0f} MB | {ours[0] / peers[0]:.2f} |",
-            flush=True,
-        )
+        run.beside(title, ours, peers)
 
     def both(self, title, declarations, make, shuffled):
         """An import of the rows into empty databases, and an export of them."""
-        if self.only is not None and self.only not in title:
+        if not self.is_wanted(title):
             return
         path = self.at("rows.csv")
         apart(write, path, make, shuffled)
