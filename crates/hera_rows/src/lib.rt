@@ -11,6 +11,7 @@ mod marks;
 mod packing;
 mod row_buf;
 mod row_set;
+mod single;
 mod sorted;
 mod stacks;
 mod walks;

@@ -9,12 +9,13 @@ pub struct Spot {
     pub row: usize,
 }
 
-/// About where a walk through one set stands: in what is kept, and where rows are put into that as it is seen, among
-/// those.
+/// About where a walk through one set stands: in what is kept, and where rows are put into that as it is seen, among those
+/// that were put in last, and among those that were put in before these.
 #[derive(Clone, Copy)]
 pub struct Side {
     pub kept: Spot,
     pub put_in: Spot,
+    pub below: Spot,
 }
 
 /// About where a walk stands: in a set, and in a second one where two are seen as one.
@@ -41,6 +42,7 @@ impl RowMark {
         let side = Side {
             kept: Spot::start(),
             put_in: Spot::start(),
+            below: Spot::start(),
         };
         RowMark {
             first: side,

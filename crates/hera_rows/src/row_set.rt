@@ -7,16 +7,27 @@ ghost use Rattle.hera_sets.specs.Rows.{is_past, IsAscending, put, holds, without
 
 use super::blocks::Blocks;
 use super::stacks::Near;
-use super::{RowMark, Sorted, Spot};
+use super::{RowBuf, RowMark, Sorted, Spot, same_rows, single};
 use std::alloc::{AllocError, Global};
 use std::marker::Model;
 
-/// A strictly ascending list of rows, in blocks.
+/// The rows of a set.
+#[derive(Drop)]
+enum Kept {
+    /// None.
+    Nothing,
+    /// One.
+    One(RowBuf),
+    /// Those of the blocks, of which all may have been taken out.
+    Many(Box<Blocks>),
+}
+
+/// A strictly ascending list of rows: none, one in a buffer of its own, or rows in blocks.
 ///
-/// A set into which no row came has no buffer: it takes no memory, and little place wherever it stands. One whose rows
-/// were all taken out may keep its buffer.
+/// A set into which no row came takes no memory, and one into which one row came no more than a buffer for it. One whose
+/// rows were all taken out may keep its blocks.
 pub struct RowSet {
-    kept: Option<Box<Blocks>>,
+    kept: Kept,
     alloc: Global,
 }
 
@@ -41,7 +52,10 @@ impl RowSet {
     pub fn new(alloc: Global) -> RowSet
         ensures { result ≡ [] }
     {
-        RowSet { kept: None, alloc }
+        RowSet {
+            kept: Kept::Nothing,
+            alloc,
+        }
     }
 
     /// The set of these rows, in a place of their own.
@@ -49,9 +63,19 @@ impl RowSet {
         ensures { IfOk result (λ set. set ≡ rows) }
     {
         Ok(RowSet {
-            kept: Some(Box::new(alloc, rows)?),
+            kept: Kept::Many(Box::new(alloc, rows)?),
             alloc,
         })
+    }
+
+    /// The set of one row.
+    fn of_one(alloc: Global, one: RowBuf) -> RowSet
+        ensures { result ≡ one ∷ [] }
+    {
+        RowSet {
+            kept: Kept::One(one),
+            alloc,
+        }
     }
 
     /// How many rows there are.
@@ -61,8 +85,9 @@ impl RowSet {
         ensures ordered { IsAscending self.now }
     {
         match &self.kept {
-            None => 0,
-            Some(rows) => rows.len(),
+            Kept::Many(rows) => rows.len(),
+            Kept::One(_) => 1,
+            Kept::Nothing => 0,
         }
     }
 
@@ -73,8 +98,9 @@ impl RowSet {
         ensures { slice_get self.now i ≡ Some result.now }
     {
         match &self.kept {
-            None => &[],
-            Some(rows) => rows.row(i),
+            Kept::Many(rows) => rows.row(i),
+            Kept::One(one) => one.bytes(),
+            Kept::Nothing => &[],
         }
     }
 
@@ -85,8 +111,12 @@ impl RowSet {
         ensures ordered { IsAscending self.now }
     {
         match &self.kept {
-            None => Near { row: None, spot },
-            Some(rows) => rows.above_near(bound, spot),
+            Kept::Many(rows) => rows.above_near(bound, spot),
+            Kept::One(one) => Near {
+                row: single::above(one, bound),
+                spot,
+            },
+            Kept::Nothing => Near { row: None, spot },
         }
     }
 
@@ -96,8 +126,12 @@ impl RowSet {
         ensures ordered { IsAscending self.now }
     {
         match &self.kept {
-            None => Near { row: None, spot },
-            Some(rows) => rows.not_below_near(bound, spot),
+            Kept::Many(rows) => rows.not_below_near(bound, spot),
+            Kept::One(one) => Near {
+                row: single::not_below(one, bound),
+                spot,
+            },
+            Kept::Nothing => Near { row: None, spot },
         }
     }
 
@@ -108,8 +142,14 @@ impl RowSet {
         ensures err { OnErr result (self.new ≡ self.old) }
     {
         match &mut self.kept {
-            Some(rows) => rows.insert(row),
-            None => {
+            Kept::Many(rows) => rows.insert(row),
+            Kept::One(one) => {
+                let mut rows = single::in_blocks(self.alloc, one)?;
+                let new = rows.insert(row)?;
+                *self = RowSet::of(self.alloc, rows)?;
+                Ok(new)
+            }
+            Kept::Nothing => {
                 self.push_last(row)?;
                 Ok(true)
             }
@@ -124,11 +164,16 @@ impl RowSet {
         ensures err { OnErr result (self.new ≡ self.old) }
     {
         match &mut self.kept {
-            Some(rows) => rows.push_last(row),
-            None => {
-                let mut rows = Blocks::new(self.alloc);
+            Kept::Many(rows) => rows.push_last(row),
+            Kept::One(one) => {
+                let mut rows = single::in_blocks(self.alloc, one)?;
                 rows.push_last(row)?;
                 *self = RowSet::of(self.alloc, rows)?;
+                Ok(())
+            }
+            Kept::Nothing => {
+                let one = RowBuf::new(self.alloc, row)?;
+                *self = RowSet::of_one(self.alloc, one);
                 Ok(())
             }
         }
@@ -140,8 +185,15 @@ impl RowSet {
         ensures removed { self.new ≡ without row.now self.old }
     {
         match &mut self.kept {
-            None => false,
-            Some(rows) => rows.remove(row),
+            Kept::Many(rows) => rows.remove(row),
+            Kept::One(one) => {
+                let found = single::has(one, row);
+                if found {
+                    *self = RowSet::new(self.alloc);
+                }
+                found
+            }
+            Kept::Nothing => false,
         }
     }
 
@@ -150,8 +202,9 @@ impl RowSet {
         ensures { IfOk result (λ copy. copy ≡ self.now) }
     {
         match &self.kept {
-            None => Ok(RowSet::new(self.alloc)),
-            Some(rows) => RowSet::of(self.alloc, rows.copy()?),
+            Kept::Many(rows) => RowSet::of(self.alloc, rows.copy()?),
+            Kept::One(one) => Ok(RowSet::of_one(self.alloc, one.copy()?)),
+            Kept::Nothing => Ok(RowSet::new(self.alloc)),
         }
     }
 
@@ -160,8 +213,8 @@ impl RowSet {
         ensures { IsTrue result ↔ (self.now ≡ other.now) }
     {
         match (&self.kept, &other.kept) {
-            (Some(rows), Some(others)) => rows.equal(others),
-            _ => self.len() == 0 && other.len() == 0,
+            (Kept::Many(rows), Kept::Many(others)) => rows.equal(others),
+            _ => same_rows(self, other),
         }
     }
 }
@@ -171,8 +224,9 @@ impl Sorted for RowSet {
 
     fn above<'s>(&'s self, bound: Option<&[u8]>) -> Option<&'s [u8]> {
         match &self.kept {
-            None => None,
-            Some(rows) => rows.above(bound),
+            Kept::Many(rows) => rows.above(bound),
+            Kept::One(one) => single::above(one, bound),
+            Kept::Nothing => None,
         }
     }
 
@@ -190,8 +244,9 @@ impl Sorted for RowSet {
 
     fn has(&self, row: &[u8]) -> bool {
         match &self.kept {
-            None => false,
-            Some(rows) => rows.has(row),
+            Kept::Many(rows) => rows.has(row),
+            Kept::One(one) => single::has(one, row),
+            Kept::Nothing => false,
         }
     }
 }

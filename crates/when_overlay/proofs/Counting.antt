@@ -44,7 +44,7 @@ pub record Balance (before after : List Row) : Type 0 where
   pub taken : length (changes Minus before after) ≤ length before
   pub put : length (changes Plus before after) ≤ length after
 
-balance : (before after : List Row) → IsAscending before → IsAscending after → Balance before after
+pub balance : (before after : List Row) → IsAscending before → IsAscending after → Balance before after
 balance before after up vp =
     let old = parts (holds after) before in
     let new = parts (holds before) after in
@@ -72,11 +72,11 @@ changed_named Minus (Some Minus) h p g e = g refl
 abbrev pub changes_row : Sign → List Row → List Row → Row → Bool
 changes_row s before after q = is_change s (holds before q) (holds after q)
 
-holds-changes : (s : Sign) (before after : List Row) (q : Row) → holds (changes s before after) q ≡ changes_row s before after q
+pub holds-changes : (s : Sign) (before after : List Row) (q : Row) → holds (changes s before after) q ≡ changes_row s before after q
 holds-changes Plus before after q = holds-filter (is_apart before) after q
 holds-changes Minus before after q = holds-filter (is_apart after) before q ∙ and_swap (not (holds after q)) (holds before q)
 
-ascending_changes : (s : Sign) (before after : List Row) → IsAscending before → IsAscending after → IsAscending (changes s before after)
+pub ascending_changes : (s : Sign) (before after : List Row) → IsAscending before → IsAscending after → IsAscending (changes s before after)
 ascending_changes Plus before after up vp = ascending_filter (is_apart before) after vp
 ascending_changes Minus before after up vp = ascending_filter (is_apart after) before up
 

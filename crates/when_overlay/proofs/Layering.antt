@@ -117,6 +117,10 @@ pub path_none : (ls : List Layer) → path ls None ≡ []
 path_none [] = refl
 path_none (l ∷ ls) = refl
 
+-- behind no layers the deltas are those below
+pub path_end : (ls : List Layer) (ds : List Delta) → ds ++ path ls None ≡ ds
+path_end ls ds = ap (λ p. ds ++ p) (path_none ls) ∙ append-nil ds
+
 -- behind no layers and no deltas there is none
 pub path_bare : (ls : List Layer) (ds : List Delta) → ds ≡ [] → ds ++ path ls None ≡ []
 path_bare ls ds e = ap (λ p. ds ++ p) (path_none ls) ∙ append-nil ds ∙ e

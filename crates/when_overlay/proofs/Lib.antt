@@ -3,3 +3,4 @@ pub mod Signing
 pub mod Meeting
 pub mod Viewing
 pub mod Counting
+pub mod Changing

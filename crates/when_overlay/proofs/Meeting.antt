@@ -157,6 +157,13 @@ next_newest b r rows es ds d e =
     next_append b (rows ++ pluses r es) (named_in r Plus d)
     ∙ ap (next_of b) (append_assoc rows (pluses r es) (named_in r Plus d) ∙ ap (λ xs. rows ++ xs) (sym (named-push r Plus es d) ∙ ap (named r Plus) (sym e)))
 
+-- what the last delta puts in, beside what those before it do
+pub next_last : (b : Option Row) (r : ℕ) (es ds : List Delta) (d : Delta) → ds ≡ es ++ d ∷ [] →
+    least_of (next_of b (named r Plus es)) (next_of b (named_in r Plus d)) ≡ next_of b (named r Plus ds)
+next_last b r es ds d e =
+    next_append b (named r Plus es) (named_in r Plus d)
+    ∙ ap (next_of b) (sym (named-push r Plus es d) ∙ ap (named r Plus) (sym e))
+
 -- a delta that is in order does not take out what it puts in
 still : (t : Atom → Bool) (xs : List Atom) (k : Row) → holds (keys_of xs) k ≡ false → holds (keys_of (filter t xs)) k ≡ false
 still t [] k h = refl
@@ -188,17 +195,24 @@ one_sign (a ∷ xs) k up h =
 found_named : (b : Option Row) (r : ℕ) (d : Delta) (o : Option Row) (q : Row) → o ≡ next_of b (named_in r Plus d) → o ≡ Some q → holds (named_in r Plus d) q ≡ true
 found_named b r d o q h g = sym (holds-normal (named_in r Plus d) q) ∙ find_held b (normal (named_in r Plus d)) q (sym h ∙ g)
 
+-- what a delta puts in it does not take out
+pub apart_signs : (r : ℕ) (xs : List Atom) (q : Row) → IsDelta (atoms xs) → holds (rows_named r (plus_atoms xs)) q ≡ true → holds (rows_named r (minus_atoms xs)) q ≡ false
+apart_signs r xs q up h = rows_named-key r (minus_atoms xs) q ∙ one_sign xs (r ∷ q) up (sym (rows_named-key r (plus_atoms xs) q) ∙ h)
+
 put_in_here : (r : ℕ) (d : Delta) (q : Row) → IsDelta d → holds (named_in r Plus d) q ≡ true → sign_in r d q ≡ Some Plus
 put_in_here r fail q up h = absurd (false≢true h)
-put_in_here r (atoms xs) q up h =
-    let out : holds (rows_named r (minus_atoms xs)) q ≡ false = rows_named-key r (minus_atoms xs) q ∙ one_sign xs (r ∷ q) up (sym (rows_named-key r (plus_atoms xs) q) ∙ h) in
-    rw (out, h) refl
+put_in_here r (atoms xs) q up h = rw (apart_signs r xs q up h, h) refl
 
 -- a row found among those that the last delta puts in is put in
 pub newest_sign : (b : Option Row) (r : ℕ) (es ds : List Delta) (d : Delta) (o : Option Row) (q : Row) → ds ≡ es ++ d ∷ [] → IsDelta d → o ≡ next_of b (named_in r Plus d) → o ≡ Some q → sign_over r ds q ≡ Some Plus
 newest_sign b r es ds d o q e up h g =
     ap (λ xs. sign_over r xs q) e ∙ sign_over-append r es (d ∷ []) q
     ∙ ap (λ (s : Option Sign). later s (sign_over r es q)) (put_in_here r d q up (found_named b r d o q h g))
+
+-- what the last delta says decides, and else those before it
+pub last_sign : (r : ℕ) (es ds : List Delta) (d : Delta) (q : Row) → ds ≡ es ++ d ∷ [] → sign_over r es q ≡ Some Plus → sign_over r ds q ≡ later (sign_in r d q) (Some Plus)
+last_sign r es ds d q e h =
+    ap (λ xs. sign_over r xs q) e ∙ sign_over-append r es (d ∷ []) q ∙ ap (later (sign_in r d q)) h
 
 -- ---- one delta alone
 

@@ -1,6 +1,7 @@
 //! How many rows there are after commits and layers: the rows that these name are looked at, and no
 //! others.
 ghost use Rattle.std.specs.Prelude.{◌≡◌, ◌<◌, ◌≤◌, ◌+◌, ◌^◌, ◌++◌, length, MatchOption};
+ghost use Rattle.std.specs.List.{filter};
 ghost use Rattle.hera_sets.specs.Rows.{IsAscending, holds};
 ghost use Rattle.when_overlay.specs.Changed.{changed, rows_after};
 ghost use Rattle.when_overlay.specs.Counting.{changes, is_change};
@@ -10,9 +11,9 @@ use crate::Layers;
 use crate::seeks::{has, named_above};
 use delta_atoms::Delta;
 use hera_meaning::{RelId, Sign};
-use hera_rows::Sorted;
+use hera_rows::{RowMark, RowSet, Sorted};
+use hera_sets::is_same;
 use std::alloc::Global;
-use std::slice::from_ref;
 
 /// The most rows that are counted: 2^63 - 1.
 const ROWS_LIMIT: u64 = 9_223_372_036_854_775_807;
@@ -94,16 +95,50 @@ pub struct Change {
     pub taken_out: u64,
 }
 
+/// Whether a row is one of these, looked for beside the mark first.
+fn is_among<S: Sorted>(rows: &S, row: &[u8], mark: &mut RowMark) -> bool
+    ensures found { result ≡ holds (S.rows rows.now) row.now }
+    ensures ordered { IsAscending (S.rows rows.now) }
+{
+    match rows.not_below(row, mark) {
+        Some(found) => is_same(row, found),
+        None => false,
+    }
+}
+
+/// How many rows of a set are among these.
+fn count_shared<S: Sorted>(rows: &S, named: &RowSet) -> usize
+    ensures count { result ≡ length (filter (holds (S.rows rows.now)) named.now) }
+    ensures few { result ≤ length named.now }
+{
+    let mut count: usize = 0;
+    let mut mark = RowMark::start();
+    for i in 0..named.len() {
+        let shared = is_among(rows, named.row(i), &mut mark);
+        count += usize::from(shared);
+    }
+    count
+}
+
 /// How a delta changes the number of these rows of a relation; none where there are 2^64 or more. Only the rows that the
 /// delta names are looked for. It takes no memory.
 pub fn change_of<S: Sorted>(alloc: Global, rows: &S, rel: RelId, delta: &Delta) -> Option<Change>
     ensures { MatchOption result (2 ^ 64 ≤ length (S.rows rows.now) + length (changed rel.0 (S.rows rows.now) delta.now)) (λ change. length (changed rel.0 (S.rows rows.now) delta.now) + change.taken_out ≡ length (S.rows rows.now) + change.put_in) }
 {
+    let _ = alloc;
+    if delta.is_fail() {
+        return Some(Change {
+            put_in: 0,
+            taken_out: 0,
+        });
+    }
     // for the proof alone: the rows ascend
     let _ordered = rows.has(&[]);
-    let layers = Layers::new(alloc);
-    let deltas = from_ref(delta);
-    let put_in = count_changes(rows, deltas, &layers, None, rel, Sign::Plus)?;
-    let taken_out = count_changes(rows, deltas, &layers, None, rel, Sign::Minus)?;
-    Some(Change { put_in, taken_out })
+    let plus = delta.part(rel, Sign::Plus);
+    let put_in = plus.len() - count_shared(rows, plus);
+    let taken_out = count_shared(rows, delta.part(rel, Sign::Minus));
+    Some(Change {
+        put_in: put_in as u64,
+        taken_out: taken_out as u64,
+    })
 }

@@ -1,5 +1,5 @@
 //! The first row from a bound on, which may be the bound: whether that is there is looked for beside a mark.
-ghost use Rattle.std.specs.Prelude.{◌≡◌, ◌++◌};
+ghost use Rattle.std.specs.Prelude.{◌≡◌, ◌++◌, [], None};
 ghost use Rattle.std.specs.List.{find};
 ghost use Rattle.std.specs.Option.{option_copied};
 ghost use Rattle.hera_sets.specs.Rows.{IsAscending, holds};
@@ -79,6 +79,48 @@ fn not_below_met<'s>(
     above_met(pages, commits, layers, tip, rel, Some(bound), mark)
 }
 
+/// The first row from the bound on of the pages, whose rows are all that are there where there are neither commits nor
+/// layers, and about where it stands.
+fn not_below_in_pages<'s>(
+    pages: &IndexedRel<'s>,
+    commits: &'s [Delta],
+    layers: &'s Layers,
+    rel: RelId,
+    bound: &[u8],
+    mark: ViewMark,
+) -> SeenRow<'s>
+    requires { commits.now ≡ [] }
+    ensures least { option_copied result.row ≡ find (is_from bound.now) (rows_after rel.0 pages.now (commits.now ++ path layers.now.layers None)) }
+    ensures ordered { IsAscending (rows_after rel.0 pages.now (commits.now ++ path layers.now.layers None)) }
+{
+    let near = pages.not_below_near(bound, mark.pages);
+    let mark = ViewMark {
+        pages: near.place,
+        ..mark
+    };
+    let row = near.row;
+    SeenRow { row, mark }
+}
+
+/// The first row from the bound on of those that are there behind all commits, without layers.
+fn not_below_behind<'s>(
+    pages: &IndexedRel<'s>,
+    commits: &'s [Delta],
+    layers: &'s Layers,
+    rel: RelId,
+    bound: &'s [u8],
+    mark: ViewMark,
+) -> SeenRow<'s>
+    requires { IsTip layers.now.layers None }
+    ensures least { option_copied result.row ≡ find (is_from bound.now) (rows_after rel.0 pages.now (commits.now ++ path layers.now.layers None)) }
+    ensures ordered { IsAscending (rows_after rel.0 pages.now (commits.now ++ path layers.now.layers None)) }
+{
+    match commits.split_last() {
+        Some(_) => not_below_met(pages, commits, layers, None, rel, bound, mark),
+        None => not_below_in_pages(pages, commits, layers, rel, bound, mark),
+    }
+}
+
 /// The first row from the bound on of a set, and about where it stands.
 fn not_below_alone<'s>(rows: &'s RowSet, bound: &[u8], mark: ViewMark) -> SeenRow<'s>
     ensures least { option_copied result.row ≡ find (is_from bound.now) rows.now }
@@ -108,6 +150,9 @@ pub(crate) fn not_below_near<'s>(
 {
     match put_in_alone(pages, commits, layers, tip, rel) {
         Some(rows) => not_below_alone(rows, bound, mark),
-        None => not_below_met(pages, commits, layers, tip, rel, bound, mark),
+        None => match tip {
+            Some(_) => not_below_met(pages, commits, layers, tip, rel, bound, mark),
+            None => not_below_behind(pages, commits, layers, rel, bound, mark),
+        },
     }
 }

@@ -11,12 +11,13 @@ use hera_meaning::{RelId, Sign};
 use hera_rows::{Near, Side, Spot};
 use rel_pages::Place;
 
-/// About where a walk stands: in the pages, and among the rows that the newest layer puts in. It only saves
-/// time: whatever the numbers are, the answer is the same.
+/// About where a walk stands: in the pages, among the rows that the newest layer puts in, and among those that the delta
+/// right below it puts in. It only saves time: whatever the numbers are, the answer is the same.
 #[derive(Clone, Copy)]
 pub struct ViewMark {
     pub pages: Place,
     pub put_in: Spot,
+    pub below: Spot,
 }
 
 impl ViewMark {
@@ -28,17 +29,20 @@ impl ViewMark {
         ViewMark {
             pages: Place::start(),
             put_in: Spot::start(),
+            below: Spot::start(),
         }
     }
 
     /// A mark for who has none to tell.
     pub(crate) fn nowhere() -> ViewMark {
+        let spot = Spot {
+            block: usize::MAX,
+            row: 0,
+        };
         ViewMark {
             pages: Place::nowhere(),
-            put_in: Spot {
-                block: usize::MAX,
-                row: 0,
-            },
+            put_in: spot,
+            below: spot,
         }
     }
 
@@ -48,6 +52,7 @@ impl ViewMark {
         ViewMark {
             pages: Place::of(side.kept),
             put_in: side.put_in,
+            below: side.below,
         }
     }
 
@@ -57,6 +62,7 @@ impl ViewMark {
         Side {
             kept: self.pages.spot(),
             put_in: self.put_in,
+            below: self.below,
         }
     }
 }

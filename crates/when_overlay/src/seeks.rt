@@ -6,17 +6,17 @@ ghost use Rattle.hera_sets.specs.Rows.{is_past, IsAscending, holds};
 ghost use Rattle.hera_sets.specs.Sets.{least_of};
 ghost use Rattle.when_overlay.specs.Changed.{rows_after};
 ghost use Rattle.hera_meaning.specs.declared.scalars.Sign.TheVariants.{Plus};
-ghost use Rattle.when_overlay.specs.Layered.{IsTip, path};
-ghost use Rattle.when_overlay.specs.Seeking.{named_in, named, met, next_of, sign_over, stands};
+ghost use Rattle.when_overlay.specs.Layered.{IsTip, path, layer_at};
+ghost use Rattle.when_overlay.specs.Seeking.{named_in, named, met, next_of, later, sign_in, sign_over, stands};
 
 use crate::Layers;
 use crate::marks::{SeenRow, ViewMark, put_in_near};
-use crate::signs::sign_of;
+use crate::signs::{sign_in, sign_of};
 use delta_atoms::Delta;
 use hera_meaning::{RelId, Sign};
-use hera_rows::{RowSet, Sorted};
+use hera_rows::{RowSet, Sorted, Spot};
 use hera_sets::{is_below, is_same};
-use rel_pages::{IndexedRel, Near, Place};
+use rel_pages::{IndexedRel, Place};
 
 /// The lesser of two rows, where a row stands before none.
 fn lesser<'s>(x: Option<&'s [u8]>, y: Option<&'s [u8]>) -> Option<&'s [u8]>
@@ -100,8 +100,111 @@ pub(crate) fn named_above<'s>(
     )
 }
 
-/// The first row past the bound of those that stand in the pages or that a commit or a layer puts in, and
-/// about where it stands in the pages.
+/// The first row past a bound of those that some deltas put in. The last of them is looked at beside a spot first: the
+/// first that it puts in, which stands behind that delta, and about where.
+#[derive(Clone, Copy)]
+struct PutIn<'s> {
+    row: Option<&'s [u8]>,
+    own: Option<&'s [u8]>,
+    spot: Spot,
+}
+
+/// The first row past the bound that one of the commits puts in, of which this is the last.
+fn put_in_by_last<'s>(
+    commits: &'s [Delta],
+    last: &'s Delta,
+    below: &'s [Delta],
+    rel: RelId,
+    bound: Option<&[u8]>,
+    spot: Spot,
+) -> PutIn<'s>
+    requires { commits.now ≡ below.now ++ last.now ∷ [] }
+    ensures next { option_copied result.row ≡ next_of (option_copied bound.entry) (named rel.0 Plus commits.now) }
+    ensures own { (q : List ℕ) → option_copied result.own ≡ Some q → sign_over rel.0 commits.now q ≡ Some Plus }
+{
+    let _ = commits;
+    let near = put_in_near(last, rel, bound, spot);
+    let rest = parts_above(below, rel, Sign::Plus, bound);
+    PutIn {
+        row: lesser(rest, near.row),
+        own: near.row,
+        spot: near.spot,
+    }
+}
+
+/// The first row past the bound that one of the commits puts in.
+fn put_in_by_commits<'s>(
+    commits: &'s [Delta],
+    rel: RelId,
+    bound: Option<&[u8]>,
+    spot: Spot,
+) -> PutIn<'s>
+    ensures next { option_copied result.row ≡ next_of (option_copied bound.entry) (named rel.0 Plus commits.now) }
+    ensures own { (q : List ℕ) → option_copied result.own ≡ Some q → sign_over rel.0 commits.now q ≡ Some Plus }
+{
+    match commits.split_last() {
+        Some((last, below)) => put_in_by_last(commits, last, below, rel, bound, spot),
+        None => PutIn {
+            row: None,
+            own: None,
+            spot,
+        },
+    }
+}
+
+/// The first row past the bound that this layer, one below it or a commit puts in.
+fn put_in_up_to<'s>(
+    commits: &'s [Delta],
+    layers: &'s Layers,
+    i: usize,
+    rel: RelId,
+    bound: Option<&[u8]>,
+    spot: Spot,
+) -> PutIn<'s>
+    requires { i < length layers.now.layers }
+    ensures next { option_copied result.row ≡ next_of (option_copied bound.entry) (named rel.0 Plus (commits.now ++ path layers.now.layers (Some i))) }
+    ensures own { (q : List ℕ) → option_copied result.own ≡ Some q → sign_over rel.0 (commits.now ++ path layers.now.layers (Some i)) q ≡ Some Plus }
+{
+    let layer = layers.layer(i);
+    let near = put_in_near(&layer.delta, rel, bound, spot);
+    let rest = named_above(commits, layers, layer.parent, rel, Sign::Plus, bound);
+    PutIn {
+        row: lesser(rest, near.row),
+        own: near.row,
+        spot: near.spot,
+    }
+}
+
+/// The first row past the bound that a commit or a layer puts in.
+fn put_in_above<'s>(
+    commits: &'s [Delta],
+    layers: &'s Layers,
+    tip: Option<usize>,
+    rel: RelId,
+    bound: Option<&[u8]>,
+    spot: Spot,
+) -> PutIn<'s>
+    requires { IsTip layers.now.layers tip }
+    ensures next { option_copied result.row ≡ next_of (option_copied bound.entry) (named rel.0 Plus (commits.now ++ path layers.now.layers tip)) }
+    ensures own { (q : List ℕ) → option_copied result.own ≡ Some q → sign_over rel.0 (commits.now ++ path layers.now.layers tip) q ≡ Some Plus }
+{
+    match tip {
+        Some(i) => put_in_up_to(commits, layers, i, rel, bound, spot),
+        None => put_in_by_commits(commits, rel, bound, spot),
+    }
+}
+
+/// A row that was met below a layer or a commit, or none, and about where it stands in the pages; and of the delta right
+/// below, the first row past the bound that it puts in, and about where that stands.
+#[derive(Clone, Copy)]
+struct MetBelow<'s> {
+    row: Option<&'s [u8]>,
+    place: Place,
+    own: Option<&'s [u8]>,
+    spot: Spot,
+}
+
+/// The first row past the bound of those that stand in the pages or that a commit or a layer puts in.
 fn met_near<'s>(
     pages: &IndexedRel<'s>,
     commits: &'s [Delta],
@@ -109,17 +212,20 @@ fn met_near<'s>(
     tip: Option<usize>,
     rel: RelId,
     bound: Option<&[u8]>,
-    place: Place,
-) -> Near<'s>
+    mark: ViewMark,
+) -> MetBelow<'s>
     requires { IsTip layers.now.layers tip }
     ensures next { option_copied result.row ≡ find (is_past (option_copied bound.entry)) (met rel.0 pages.now (commits.now ++ path layers.now.layers tip)) }
+    ensures own { (q : List ℕ) → option_copied result.own ≡ Some q → sign_over rel.0 (commits.now ++ path layers.now.layers tip) q ≡ Some Plus }
     ensures ordered { IsAscending pages.now }
 {
-    let near = pages.above_near(bound, place);
-    let added = named_above(commits, layers, tip, rel, Sign::Plus, bound);
-    Near {
-        row: lesser(near.row, added),
+    let near = pages.above_near(bound, mark.pages);
+    let added = put_in_above(commits, layers, tip, rel, bound, mark.below);
+    MetBelow {
+        row: lesser(near.row, added.row),
         place: near.place,
+        own: added.own,
+        spot: added.spot,
     }
 }
 
@@ -189,6 +295,45 @@ fn is_kept_of(
     is_kept(commits, layers, tip, rel, row)
 }
 
+/// Whether a row that is put in right below a delta is there behind it: it is where that does not take it out.
+fn is_left(newest: &Delta, rel: RelId, row: &[u8]) -> bool
+    ensures { result ≡ stands (later (sign_in rel.0 newest.now row.now) (Some Plus)) true }
+{
+    match sign_in(newest, rel, row) {
+        Some(Sign::Minus) => false,
+        Some(Sign::Plus) => true,
+        None => true,
+    }
+}
+
+/// Whether the row that was met under this layer, if one was, is there. It is so where it is the one that is known to be put
+/// in by it, and where it is the one known to be put in right below, it alone is asked.
+fn is_kept_under(
+    commits: &[Delta],
+    layers: &Layers,
+    i: usize,
+    rel: RelId,
+    row: Option<&[u8]>,
+    own: Option<&[u8]>,
+    below: Option<&[u8]>,
+) -> bool
+    requires tip { i < length layers.now.layers }
+    requires put_in { (q : List ℕ) → option_copied own ≡ Some q → sign_over rel.0 (commits.now ++ path layers.now.layers (Some i)) q ≡ Some Plus }
+    requires below { (q : List ℕ) → option_copied below ≡ Some q → IfSome (layer_at layers.now.layers i) (λ l. sign_over rel.0 (commits.now ++ path layers.now.layers (Some i)) q ≡ later (sign_in rel.0 l.delta q) (Some Plus)) }
+    ensures { IfSome row.entry (λ row. result ≡ stands (sign_over rel.0 (commits.now ++ path layers.now.layers (Some i)) row.now) true) }
+{
+    let Some(row) = row else {
+        return true;
+    };
+    if is_that(own, row) {
+        return true;
+    }
+    if is_that(below, row) {
+        return is_left(&layers.layer(i).delta, rel, row);
+    }
+    is_kept(commits, layers, Some(i), rel, row)
+}
+
 /// A row that was met, or none, and whether it is there.
 #[derive(Clone, Copy)]
 struct Met<'s> {
@@ -241,11 +386,12 @@ fn met_behind<'s>(
     ensures ordered { IsAscending pages.now }
 {
     let own = put_in_near(last, rel, bound, mark.put_in);
-    let near = met_near(pages, below, layers, None, rel, bound, mark.pages);
+    let near = met_near(pages, below, layers, None, rel, bound, mark);
     let row = lesser(near.row, own.row);
     let mark = ViewMark {
         pages: near.place,
         put_in: own.spot,
+        below: near.spot,
     };
     Met {
         found: SeenRow { row, mark },
@@ -290,23 +436,16 @@ fn met_under<'s>(
 {
     let newest = layers.layer(i);
     let own = put_in_near(&newest.delta, rel, bound, mark.put_in);
-    let near = met_near(
-        pages,
-        commits,
-        layers,
-        newest.parent,
-        rel,
-        bound,
-        mark.pages,
-    );
+    let near = met_near(pages, commits, layers, newest.parent, rel, bound, mark);
     let row = lesser(near.row, own.row);
     let mark = ViewMark {
         pages: near.place,
         put_in: own.spot,
+        below: near.spot,
     };
     Met {
         found: SeenRow { row, mark },
-        kept: is_kept_of(commits, layers, Some(i), rel, row, own.row),
+        kept: is_kept_under(commits, layers, i, rel, row, own.row, near.own),
     }
 }
 

@@ -9,7 +9,7 @@ use hera_meaning::{RelId, Sign};
 use hera_rows::Sorted;
 
 /// What a delta says of a row: that it is put in, or taken out, or nothing.
-fn sign_in(delta: &Delta, rel: RelId, row: &[u8]) -> Option<Sign>
+pub(crate) fn sign_in(delta: &Delta, rel: RelId, row: &[u8]) -> Option<Sign>
     ensures { result ≡ sign_in rel.0 delta.now row.now }
 {
     if delta.is_fail() {

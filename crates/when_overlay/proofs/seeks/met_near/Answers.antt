@@ -8,5 +8,5 @@ use Rattle.when_overlay.proofs.seeks.met_near.Goals as goal
 pub returns-clause-next : goal.returns-clause-next
 returns-clause-next c =
     c.lesser.ensures
-    ∙ (λ j. least_of (c.above_near-near.ensures.next j) (c.named_above-added.ensures j))
+    ∙ (λ j. least_of (c.above_near-near.ensures.next j) (c.put_in_above-added.ensures.next j))
     ∙ next_met (option_copied c.args.bound) c.args.rel.0 c.args.pages.now (c.args.commits.now ++ path c.args.layers.now.layers c.args.tip) c.above_near-near.ensures.ordered
