@@ -4,7 +4,7 @@ use Rattle.hera_sets.specs.Rows.{Row}
 use Rattle.hera_meaning.specs.declared.trees.Op.{Op}
 use Rattle.hera_meaning.specs.declared.trees.Op.TheVariants.{Neg, Not, Add, Sub, Mul, Div, Rem, Eq, Ne, Lt, Le, Gt, Ge, In, Field, MakeRow, MakeRel, Project, Union, Minus, Inter, Join, Group, Count, Empty, Sum, Min, Max, Atom as atom_op, Bulk, Ins, Del, IsFail, Smash, Merge}
 use Rattle.hera_meaning.specs.Fits.{fits_of, is_good_op}
-use Rattle.hera_prims.specs.Tables.{is_relational, tables}
+use Rattle.hera_fits.specs.Tables.{is_relational, tables}
 use Rattle.hera_frames.specs.Kinds.{left_of, right_of, PassAlike}
 
 pub fit_alike : (op : Op) (few rows few_right right : List Row) → PassAlike (left_of op) few rows → PassAlike (right_of op) few_right right → (is_relational op && fits_of op (tables op few few_right)) ≡ (is_relational op && fits_of op (tables op rows right))

@@ -1,10 +1,10 @@
 -- The newest operands are collected one by one, and the others stay.
-use Rattle.std.proofs.Common.{◌≡◌, ℕ, zero, suc, ◌+◌, ◌-◌, ◌<◌, ◌≤◌, List, [], ◌∷◌, ◌++◌, length, take, drop, get_or, map, max, refl, sym, ap, ◌∙◌, subst, arith, add-one}
+use Rattle.std.proofs.Common.{◌≡◌, ℕ, zero, suc, ◌+◌, ◌-◌, ◌<◌, ◌≤◌, List, [], ◌∷◌, ◌++◌, length, take, drop, get_or, map, max, sym, ap, ◌∙◌, subst, arith, add-one}
 use Rattle.std.specs.Prelude.{slice_set}
 use Rattle.std.proofs.Math.Seq.{take-suc, take-append_seam}
 use Rattle.std.proofs.lemmas.List.{take_all, take-append-drop, take_more_set, take-set-le, drop_at, length-take-le, length-drop, drop-append-le}
-use Rattle.hera_prims.specs.Newest.{newest}
-use Rattle.hera_prims.proofs.Stacks.{newest_push, newest_length}
+use Rattle.hera_fits.specs.Newest.{newest}
+use Rattle.hera_fits.proofs.Stacks.{newest_push, newest_length}
 use Rattle.hera_meaning.specs.Deltas.{State}
 use Rattle.when_overlay.specs.declared.layers.Layer.{Layer}
 use Rattle.hera_frames.specs.declared.operands.Operand.{Operand}
@@ -39,19 +39,6 @@ pub record IsHolding (s : State) (ls : List Layer) (old new : List Operand) (fro
   pub first : AreHeld (newest item_of (drop from (take i new)))
   pub same : all_collected s ls new ≡ all_collected s ls old
   pub low : reach (newest item_of new) ≤ reach (newest item_of old)
-
-nothing_taken : {A : Type 0} → (n : ℕ) (xs : List A) → drop n (take n xs) ≡ []
-nothing_taken zero xs = refl
-nothing_taken (suc n) [] = refl
-nothing_taken (suc n) (x ∷ xs) = nothing_taken n xs
-
-pub holding_start : (s : State) (ls : List Layer) (os : List Operand) (from : ℕ) → IsHolding s ls os os from from
-holding_start s ls os from = record {
-  older = refl;
-  first = subst (λ xs. AreHeld (newest item_of xs)) (sym (nothing_taken from os)) tt;
-  same = refl;
-  low = omega arith;
-}
 
 -- one more behind those that have their values
 more_at : (ys zs : List Operand) (from i : ℕ) (x : Operand) → from ≤ i → i ≤ length ys → zs ≡ take i ys ++ x ∷ [] → IsHeld (item_of x) → AreHeld (newest item_of (drop from (take i ys))) → AreHeld (newest item_of (drop from zs))

@@ -8,9 +8,10 @@ use Rattle.hera_meaning.specs.Deltas.{State}
 use Rattle.hera_meaning.specs.Values.{Value, int_value}
 use Rattle.hera_code.specs.Machine.{taken}
 use Rattle.when_overlay.specs.declared.layers.Layer.{Layer}
-use Rattle.hera_frames.specs.declared.values.Datum.{Datum}
-use Rattle.hera_frames.specs.declared.values.Datum.TheVariants.{Int}
-use Rattle.hera_frames.specs.Items.{Item, held, relation, plain_of, held_in, operands_at, IsHeld, AreHeld}
+use Rattle.hera_values.specs.declared.values.Datum.{Datum}
+use Rattle.hera_values.specs.declared.values.Datum.TheVariants.{Int}
+use Rattle.hera_frames.specs.Items.{Item, held, relation, held_in, operands_at, IsHeld, AreHeld}
+use Rattle.hera_values.specs.Little.{plain_of}
 use Rattle.hera_frames.specs.Calling.{IsNewestHeld, IsBegun}
 
 -- ---- one more of those that come first
@@ -61,16 +62,6 @@ pub more_held : (items : List Item) (i : ℕ) (x : Item) → Some x ≡ slice_ge
 more_held items i x e h all = subst (λ k. AreHeld (take k items)) (sym (add-one i)) (held_more items i x e h all)
 
 -- ---- the slots
-
-zeros_plain : (n : ℕ) → map plain_of (replicate n (Int (pos 0))) ≡ replicate n (int_value (pos 0))
-zeros_plain zero = refl
-zeros_plain (suc n) = ap (λ xs. int_value (pos 0) ∷ xs) (zeros_plain n)
-
--- the int 0 in each slot
-pub all_zero : (n : ℕ) (none all : List Datum) → none ≡ [] → all ≡ none ++ replicate n (Int (pos 0)) → map plain_of all ≡ replicate (n - 0) (int_value (pos 0))
-all_zero n none all h e =
-    let whole : n ≡ n - 0 = omega arith in
-    ap (map plain_of) (e ∙ ap (λ xs. xs ++ replicate n (Int (pos 0))) h) ∙ zeros_plain n ∙ ap (λ k. replicate k (int_value (pos 0))) whole
 
 reverse_cons : {A : Type 0} → (x : A) (xs : List A) → reverse (x ∷ xs) ≡ reverse xs ++ x ∷ []
 reverse_cons x xs = reverse_onto xs x []

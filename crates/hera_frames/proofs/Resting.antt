@@ -3,8 +3,8 @@ use Rattle.std.proofs.Common.{◌≡◌, ℕ, suc, ◌+◌, ◌-◌, ◌<◌, �
 use Rattle.std.specs.Prelude.{slice_set}
 use Rattle.std.proofs.lemmas.List.{take-set, take_more_set, take-append-le, take_all}
 use Rattle.std.proofs.Math.Seq.{take-suc}
-use Rattle.hera_prims.specs.Newest.{newest}
-use Rattle.hera_prims.proofs.Stacks.{newest_push}
+use Rattle.hera_fits.specs.Newest.{newest}
+use Rattle.hera_fits.proofs.Stacks.{newest_push}
 
 -- the one behind them waits too from now on
 pub waits_more : {A : Type 0} → (xs : List A) (n : ℕ) (y : A) → n < length xs → newest (λ x. x) (take (n + 1) (slice_set xs n y)) ≡ y ∷ newest (λ x. x) (take n xs)

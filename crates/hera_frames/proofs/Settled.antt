@@ -3,19 +3,15 @@ use Rattle.std.proofs.Common.{◌≡◌, ℕ, zero, suc, ◌+◌, ◌<◌, ◌�
 use Rattle.std.specs.Prelude.{slice_set}
 use Rattle.std.proofs.Math.Seq.{take-suc}
 use Rattle.std.proofs.lemmas.List.{take_all, map-append}
-use Rattle.hera_prims.specs.Newest.{newest}
-use Rattle.hera_prims.proofs.Stacks.{newest_push}
+use Rattle.hera_fits.specs.Newest.{newest}
+use Rattle.hera_fits.proofs.Stacks.{newest_push}
 use Rattle.hera_meaning.specs.Deltas.{State}
 use Rattle.when_overlay.specs.declared.layers.Layer.{Layer}
 use Rattle.hera_frames.specs.declared.operands.Operand.{Operand}
 use Rattle.hera_frames.specs.Items.{Item, held, relation, item_of, value_at, operands_at, collected, is_relation, IsHeld, AreHeld, reach_of, reach}
-use Rattle.hera_frames.specs.Walking.{Rest, given, named, Pace, to_come, walk_at, is_named, IsGiven, AreGiven, settled, rest_reach, walks_reach}
+use Rattle.hera_reads.specs.Walking.{Rest, given, named, Pace, to_come, walk_at, is_named, IsGiven, AreGiven, settled, rest_reach, walks_reach}
 
 -- ---- operands
-
-pub held_itself : (s : State) (ls : List Layer) (item : Item) → is_relation item ≡ false → collected s ls item ≡ item
-held_itself s ls (held v) h = refl
-held_itself s ls (relation r k) h = cc
 
 pub unrelated : (item : Item) → is_relation item ≡ false → IsHeld item
 unrelated (held v) h = tt
@@ -47,9 +43,6 @@ pub reach_drop : (n : ℕ) (items : List Item) → reach (drop n items) ≤ reac
 reach_drop zero items = omega arith
 reach_drop (suc n) [] = omega arith
 reach_drop (suc n) (item ∷ items) = let h = reach_drop n items in omega (arith, h)
-
-pub reach_rest : (item : Item) (items : List Item) → reach items ≤ reach (item ∷ items)
-reach_rest item items = omega arith
 
 -- ---- walks
 
@@ -115,9 +108,6 @@ pub reach_more : (os : List Operand) (i most count : ℕ) (o : Operand) → i < 
 reach_more os i most count o h e g =
     let next : reach (newest item_of (take (i + 1) os)) ≡ max (reach_of (item_of o)) (reach (newest item_of (take i os))) = ap reach (newest_more item_of os i o h e) in
     omega (arith, g, next)
-
-pub reach_end : (os : List Operand) (i most count : ℕ) → length os ≤ i → count ≡ min most (reach (newest item_of (take i os))) → count ≡ min most (reach (newest item_of os))
-reach_end os i most count h g = g ∙ ap (λ items. min most (reach items)) (newest_end item_of os i h)
 
 pub paces_more : (ws : List Pace) (i most count : ℕ) (w : Pace) → i < length ws → w ≡ get_or ws i w → count ≡ min most (walks_reach (newest (λ x. x) (take i ws))) →
     max count (min most (rest_reach w.rest)) ≡ min most (walks_reach (newest (λ x. x) (take (i + 1) ws)))

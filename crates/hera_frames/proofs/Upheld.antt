@@ -1,5 +1,5 @@
 -- What a change of the layers leaves as it is, and what stays named by layers that are there.
-use Rattle.std.proofs.Common.{◌≡◌, ℕ, suc, ◌+◌, ◌-◌, ◌<◌, ◌≤◌, Bool, false, List, [], ◌∷◌, length, drop, map, max, min, Option, Some, refl, sym, ap, ◌∙◌, subst, arith}
+use Rattle.std.proofs.Common.{◌≡◌, ℕ, suc, ◌+◌, ◌-◌, ◌<◌, ◌≤◌, Bool, false, List, [], ◌∷◌, length, map, max, min, Option, Some, refl, sym, ap, ◌∙◌, subst, arith}
 use Rattle.hera_sets.specs.Rows.{Row, is_past}
 use Rattle.std.specs.List.{filter}
 use Rattle.hera_meaning.specs.Deltas.{Delta, State, atoms, is_fail, rows_at, apply_of}
@@ -8,12 +8,12 @@ use Rattle.hera_meaning.specs.Values.{table}
 use Rattle.hera_code.specs.Machine.{after_layers}
 use Rattle.when_overlay.specs.declared.layers.Layer.{Layer}
 use Rattle.hera_frames.specs.declared.frames.Frame.{Frame}
-use Rattle.hera_frames.specs.Branched.{Branches, pending_of, under, seen_at, lowest}
+use Rattle.hera_reads.specs.Branched.{Branches, pending_of, under, seen_at, lowest}
 use Rattle.hera_frames.specs.Items.{Item, held, relation, value_at, operands_at, collected, reach_of, reach}
-use Rattle.hera_frames.specs.Walking.{Rest, given, named, Pace, to_come, walk_at, settled, rest_reach, walks_reach}
+use Rattle.hera_reads.specs.Walking.{Rest, given, named, Pace, to_come, walk_at, settled, rest_reach, walks_reach}
 use Rattle.hera_frames.specs.Waiting.{frame_at, IsWithin, NamesNone, AreKept, IsUpheld, frame_settled}
-use Rattle.hera_frames.proofs.Branching.{under_lower, under_here, seen_lower, seen_lowest, under_lowest, length_lowest}
-use Rattle.hera_frames.proofs.Settled.{items_collected, items_held, items_are_held, reach_collected, walks_settled, walks_given, walks_are_given, reach_settled}
+use Rattle.hera_reads.proofs.Branching.{under_lower, under_here, seen_lower, seen_lowest, under_lowest, length_lowest}
+use Rattle.hera_frames.proofs.Settled.{items_collected, items_are_held, reach_collected, walks_settled, walks_are_given, reach_settled}
 
 -- ---- two lists of layers that agree in the oldest ones, over two states
 
@@ -41,30 +41,30 @@ walks_agree s ls t ms n a (w ∷ ws) h =
 
 frame_agree : (s : State) (ls : List Layer) (t : State) (ms : List Layer) (n : ℕ) → Agree s ls t ms n → (f : Frame) (floor : ℕ) → floor ≤ n → IsWithin floor f → frame_at s ls f ≡ frame_at t ms f
 frame_agree s ls t ms n a f floor h w =
-    let tip : f.tip < n = let g = w.tip in omega (arith, h, g) in
+    let tip : f.point.tip < n = let g = w.tip in omega (arith, h, g) in
     let operands : reach f.operands.items ≤ n = let g = w.operands in omega (arith, h, g) in
     let walks : walks_reach f.walks ≤ n = let g = w.walks in omega (arith, h, g) in
     λ i. record {
-      at = f.at;
+      at = f.point.at;
       operands = items_agree s ls t ms n a f.operands.items operands i;
       locals = f.locals;
       walks = walks_agree s ls t ms n a f.walks walks i;
-      layers = a.ways f.tip tip i;
-      own = f.own;
+      layers = a.ways f.point.tip tip i;
+      own = f.point.own;
     }
 
 pub frames_agree : (s : State) (ls : List Layer) (t : State) (ms : List Layer) (n : ℕ) → Agree s ls t ms n → (floor : ℕ) (names : Bool) (fs : List Frame) → floor ≤ n → AreKept ls floor names fs → map (frame_at s ls) fs ≡ map (frame_at t ms) fs
 frames_agree s ls t ms n a floor names [] h k = refl
 frames_agree s ls t ms n a floor names (f ∷ fs) h k =
-    let lower : f.floor ≤ n = let g = k.1.floor in omega (arith, h, g) in
-    λ i. frame_agree s ls t ms n a f floor h k.1 i ∷ frames_agree s ls t ms n a f.floor f.names_below fs lower k.3 i
+    let lower : f.point.floor ≤ n = let g = k.1.floor in omega (arith, h, g) in
+    λ i. frame_agree s ls t ms n a f floor h k.1 i ∷ frames_agree s ls t ms n a f.point.floor f.point.names_below fs lower k.3 i
 
 pub kept_agree : (ls ms : List Layer) (n : ℕ) → ((k : ℕ) → k < n → under ls k ≡ under ms k) → (floor : ℕ) (names : Bool) (fs : List Frame) → floor ≤ n → AreKept ls floor names fs → AreKept ms floor names fs
 kept_agree ls ms n a floor names [] h k = tt
 kept_agree ls ms n a floor names (f ∷ fs) h k =
-    let tip : f.tip < n = let g = k.1.tip in omega (arith, h, g) in
-    let lower : f.floor ≤ n = let g = k.1.floor in omega (arith, h, g) in
-    (subst (λ (ds : List Delta). f.own ≤ length ds) (a f.tip tip) k.0, k.1, k.2, kept_agree ls ms n a f.floor f.names_below fs lower k.3)
+    let tip : f.point.tip < n = let g = k.1.tip in omega (arith, h, g) in
+    let lower : f.point.floor ≤ n = let g = k.1.floor in omega (arith, h, g) in
+    (subst (λ (ds : List Delta). f.point.own ≤ length ds) (a f.point.tip tip) k.0, k.1, k.2, kept_agree ls ms n a f.point.floor f.point.names_below fs lower k.3)
 
 -- one more layer; the layers that are left when the newest ones are dropped; a pending delta that is stored
 pub agree_more : (s : State) (l : Layer) (ls : List Layer) → Agree s ls s (l ∷ ls) (length ls)
@@ -95,33 +95,20 @@ pub frames_settled_at : (s t : State) (ls ms : List Layer) → ((k : ℕ) → un
 frames_settled_at s t ls ms same [] = refl
 frames_settled_at s t ls ms same (f ∷ fs) =
     λ i. record {
-      at = f.at;
+      at = f.point.at;
       operands = items_collected s t ls ms f.operands.items i;
       locals = f.locals;
       walks = walks_settled s t ls ms f.walks i;
-      layers = same f.tip i;
-      own = f.own;
+      layers = same f.point.tip i;
+      own = f.point.own;
     } ∷ frames_settled_at s t ls ms same fs i
-
-pub frames_unnamed : (s t : State) (ls ms : List Layer) → ((k : ℕ) → under ms k ≡ under ls k) → (floor : ℕ) (names : Bool) (fs : List Frame) → names ≡ false → AreKept ls floor names fs → map (frame_at t ms) fs ≡ map (frame_at s ls) fs
-frames_unnamed s t ls ms same floor names [] none h = refl
-frames_unnamed s t ls ms same floor names (f ∷ fs) none h =
-    let g = h.2 none in
-    λ i. record {
-      at = f.at;
-      operands = items_held s t ls ms f.operands.items g.operands i;
-      locals = f.locals;
-      walks = walks_given s t ls ms f.walks g.walks i;
-      layers = same f.tip i;
-      own = f.own;
-    } ∷ frames_unnamed s t ls ms same f.floor f.names_below fs g.below h.3 i
 
 pub kept_settled : (s : State) (ls : List Layer) (floor : ℕ) (names : Bool) (fs : List Frame) → AreKept ls floor names fs → AreKept ls floor false (map (frame_settled s ls) fs)
 kept_settled s ls floor names [] h = tt
 kept_settled s ls floor names (f ∷ fs) h =
     let operands : reach (map (collected s ls) f.operands.items) ≤ floor = let e = reach_collected s ls f.operands.items in omega (arith, e) in
     let walks : walks_reach (map (settled s ls) f.walks) ≤ floor = let e = reach_settled s ls f.walks in omega (arith, e) in
-    (h.0, record { tip = h.1.tip; operands = operands; walks = walks; floor = h.1.floor }, (λ _. record { operands = items_are_held s ls f.operands.items; walks = walks_are_given s ls f.walks; below = refl }), kept_settled s ls f.floor f.names_below fs h.3)
+    (h.0, record { tip = h.1.tip; operands = operands; walks = walks; floor = h.1.floor }, (λ _. record { operands = items_are_held s ls f.operands.items; walks = walks_are_given s ls f.walks; below = refl }), kept_settled s ls f.point.floor f.point.names_below fs h.3)
 
 -- ---- what instructions keep
 
@@ -150,30 +137,15 @@ module _ (c : Branches) (own floor : ℕ) (items : List Item) (walks : List Pace
         callers = kept_agree c.layers (record { parent = Some c.tip; delta = d } ∷ c.layers) (length c.layers) (λ k g. sym (under_lower (record { parent = Some c.tip; delta = d }) c.layers k g)) floor names fs u.below u.callers;
       }
 
-  drop_one : (ds : List Delta) → own ≤ length ds → own - 1 ≤ length (drop 1 ds)
-  drop_one [] h = omega (arith, h)
-  drop_one (d ∷ ds) h = omega (arith, h)
-
-  pub upheld_leave : (tip : ℕ) → tip < length c.layers → under c.layers tip ≡ drop 1 (under c.layers c.tip) → IsUpheld c own floor items walks names fs →
-      IsUpheld (record c { layers = c.layers; tip = tip }) (own - 1) floor items walks names fs
-  upheld_leave tip within e u = record {
-    tip = within;
-    owned = subst (λ (ds : List Delta). own - 1 ≤ length ds) (sym e) (drop_one (under c.layers c.tip) u.owned);
-    operands = u.operands;
-    paces = u.paces;
-    below = u.below;
-    callers = u.callers;
-  }
-
   -- a call: the running frame waits from now on
-  pub upheld_call : (f : Frame) (some : Bool) → f.tip ≡ c.tip → f.own ≡ own → f.floor ≡ floor → f.names_below ≡ names → reach f.operands.items ≤ length c.layers → f.walks ≡ walks →
+  pub upheld_call : (f : Frame) (some : Bool) → f.point.tip ≡ c.tip → f.point.own ≡ own → f.point.floor ≡ floor → f.point.names_below ≡ names → reach f.operands.items ≤ length c.layers → f.walks ≡ walks →
       (some ≡ false → NamesNone f) → IsUpheld c own floor items walks names fs → IsUpheld c 0 (length c.layers) [] [] some (f ∷ fs)
   upheld_call f some tip owns floors below operands paces none u =
-      let within : f.tip < length c.layers = subst (λ k. k < length c.layers) (sym tip) u.tip in
-      let owned : f.own ≤ length (under c.layers f.tip) = subst (λ k. f.own ≤ length (under c.layers k)) (sym tip) (subst (λ k. k ≤ length (under c.layers c.tip)) (sym owns) u.owned) in
+      let within : f.point.tip < length c.layers = subst (λ k. k < length c.layers) (sym tip) u.tip in
+      let owned : f.point.own ≤ length (under c.layers f.point.tip) = subst (λ k. f.point.own ≤ length (under c.layers k)) (sym tip) (subst (λ k. k ≤ length (under c.layers c.tip)) (sym owns) u.owned) in
       let reached : walks_reach f.walks ≤ length c.layers = subst (λ ws. walks_reach ws ≤ length c.layers) (sym paces) u.paces in
-      let lower : f.floor ≤ length c.layers = subst (λ k. k ≤ length c.layers) (sym floors) u.below in
-      let callers : AreKept c.layers f.floor f.names_below fs = subst (λ k. AreKept c.layers k f.names_below fs) (sym floors) (subst (λ b. AreKept c.layers floor b fs) (sym below) u.callers) in
+      let lower : f.point.floor ≤ length c.layers = subst (λ k. k ≤ length c.layers) (sym floors) u.below in
+      let callers : AreKept c.layers f.point.floor f.point.names_below fs = subst (λ k. AreKept c.layers k f.point.names_below fs) (sym floors) (subst (λ b. AreKept c.layers floor b fs) (sym below) u.callers) in
       record {
         tip = u.tip;
         owned = omega arith;
@@ -181,24 +153,6 @@ module _ (c : Branches) (own floor : ℕ) (items : List Item) (walks : List Pace
         paces = omega arith;
         below = omega arith;
         callers = (owned, record { tip = within; operands = operands; walks = reached; floor = lower }, none, callers);
-      }
-
-  -- a return: what the frame names is below the floor, and so is there
-  pub upheld_return : (f : Frame) → IsUpheld c own floor items walks names (f ∷ fs) →
-      IsUpheld (record c { layers = c.layers; tip = f.tip }) f.own f.floor f.operands.items f.walks f.names_below fs
-  upheld_return f u =
-      let lower : floor ≤ length c.layers = u.below in
-      let tip : f.tip < floor = u.callers.1.tip in
-      let operands : reach f.operands.items ≤ floor = u.callers.1.operands in
-      let paces : walks_reach f.walks ≤ floor = u.callers.1.walks in
-      let below : f.floor ≤ floor = u.callers.1.floor in
-      record {
-        tip = omega (arith, lower, tip);
-        owned = u.callers.0;
-        operands = omega (arith, lower, operands);
-        paces = omega (arith, lower, paces);
-        below = omega (arith, lower, below);
-        callers = u.callers.3;
       }
 
   -- the layers that `release` leaves

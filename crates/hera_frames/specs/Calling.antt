@@ -11,7 +11,7 @@ use Rattle.when_overlay.specs.declared.layers.Layer.{Layer}
 use Rattle.hera_frames.specs.declared.frames.Frame.{Frame}
 use Rattle.hera_frames.specs.declared.frames.Point.{Point}
 use Rattle.hera_frames.specs.Items.{Item, held, operands_at, IsHeld}
-use Rattle.hera_frames.specs.Walking.{Pace}
+use Rattle.hera_reads.specs.Walking.{Pace}
 
 -- the newest operand is there, and has its value
 abbrev pub IsNewestHeld : List Item → Type 0
@@ -26,9 +26,6 @@ answer_values (Some v) = flat_value v ∷ []
 abbrev pub answered : Option Flat → List Item
 answered answer = map held (answer_values answer)
 
-abbrev pub point_of : Frame → Point
-point_of f = record { at = f.at; tip = f.tip; own = f.own; floor = f.floor; names_below = f.names_below }
-
 -- the slots of a body begin with the newest operands as its arguments, and the other operands are left
 pub record IsBegun (params slots : ℕ) (old new : List Item) (locals : List Value) : Type 0 where
   pub args : List Value
@@ -41,7 +38,7 @@ pub record IsBegun (params slots : ℕ) (old new : List Item) (locals : List Val
 pub record IsCalled (body : BodyInfo) (p : Point) (items : List Item) (locals : List Value) (walks : List Pace) (slots : List Value) (old new : List Frame) : Type 0 where
   pub frame : Frame
   pub waits : new ≡ frame ∷ old
-  pub point : point_of frame ≡ p
+  pub point : frame.point ≡ p
   pub locals_are : frame.locals ≡ locals
   pub walks_are : frame.walks ≡ walks
   pub begun : IsBegun body.params body.slots items frame.operands.items slots
@@ -51,7 +48,7 @@ pub record IsCalled (body : BodyInfo) (p : Point) (items : List Item) (locals : 
 pub record IsResumed (more : List Item) (p : Point) (items : List Item) (locals : List Value) (walks : List Pace) (old new : List Frame) : Type 0 where
   pub frame : Frame
   pub waited : old ≡ frame ∷ new
-  pub point : point_of frame ≡ p
+  pub point : frame.point ≡ p
   pub items_are : items ≡ more ++ frame.operands.items
   pub locals_are : locals ≡ frame.locals
   pub walks_are : walks ≡ frame.walks

@@ -1,16 +1,12 @@
--- Operands and slots: values, or relations that are named with a layer.
-use Rattle.std.specs.Prelude.{ℕ, suc, Bool, true, false, List, [], ◌∷◌, Option, None, Some, map, max, pos}
-use Rattle.hera_meaning.specs.declared.scalars.Scalar.{Scalar}
-use Rattle.hera_meaning.specs.declared.scalars.Scalar.TheVariants.{Int as int_scalar, Bool as bool_scalar, Text as text_scalar}
+-- Operands: values, or relations that are named with a layer.
+use Rattle.std.specs.Prelude.{ℕ, suc, Bool, true, false, List, [], ◌∷◌, Option, None, map, max, pos}
 use Rattle.hera_meaning.specs.Deltas.{State, rows_at}
-use Rattle.hera_meaning.specs.Values.{Value, scalar, tuple, table, delta, int_value}
-use Rattle.delta_atoms.specs.Plain.{value_of}
+use Rattle.hera_meaning.specs.Values.{Value, table, delta, int_value}
 use Rattle.when_overlay.specs.declared.layers.Layer.{Layer}
-use Rattle.hera_frames.specs.declared.values.Datum.{Datum}
-use Rattle.hera_frames.specs.declared.values.Datum.TheVariants.{Int, Bool as Truth, Tuple, Large}
+use Rattle.hera_values.specs.Little.{plain_of}
+use Rattle.hera_reads.specs.Branched.{seen_at}
 use Rattle.hera_frames.specs.declared.operands.Operand.{Operand}
 use Rattle.hera_frames.specs.declared.operands.Operand.TheVariants.{Held, Named}
-use Rattle.hera_frames.specs.Branched.{seen_at}
 
 -- an operand: a value, or a relation as it is under a layer
 pub data Item : Type 0 where
@@ -22,27 +18,9 @@ pub record Shelf : Type 0 where
   pub items : List Item
   pub spare : ℕ
 
-abbrev pub plain_of : Datum → Value
-plain_of (Int n) = scalar (int_scalar n)
-plain_of (Truth b) = scalar (bool_scalar b)
-plain_of (Tuple row) = tuple row.value.items
-plain_of (Large v) = value_of v.value
-
 abbrev pub item_of : Operand → Item
 item_of (Held v) = held (plain_of v)
 item_of (Named rel tip) = relation rel.0 tip
-
--- ints and bools, which take no memory
-abbrev pub is_small_scalar : Scalar → Bool
-is_small_scalar (int_scalar n) = true
-is_small_scalar (bool_scalar b) = true
-is_small_scalar (text_scalar t) = false
-
-abbrev pub is_small : Value → Bool
-is_small (scalar s) = is_small_scalar s
-is_small (tuple r) = false
-is_small (table rows) = false
-is_small (delta d) = false
 
 -- the value of an operand, over the committed state and under the layers
 abbrev pub value_at : State → List Layer → Item → Value
@@ -83,6 +61,15 @@ abbrev pub are_deltas : List Item → Bool
 are_deltas (held (delta b) ∷ held (delta a) ∷ items) = true
 are_deltas items = false
 
+-- what an operand is that holds its value, by a test of that value, and what the newest operand is
+abbrev pub held_of : {A : Type 0} → (Value → Option A) → Item → Option A
+held_of f (held v) = f v
+held_of f (relation r k) = None
+
+abbrev pub newest_of : {A : Type 0} → (Value → Option A) → List Item → Option A
+newest_of f [] = None
+newest_of f (item ∷ items) = held_of f item
+
 -- the value that an operand holds, and the one that the newest operand holds; the int 0 where there is none
 abbrev pub held_in : Item → Value
 held_in (held v) = v
@@ -91,8 +78,3 @@ held_in (relation r k) = int_value (pos 0)
 abbrev pub newest_in : List Item → Value
 newest_in [] = int_value (pos 0)
 newest_in (item ∷ items) = held_in item
-
--- the value in a slot, where one is there
-abbrev pub slot_in : Option Value → Value
-slot_in None = int_value (pos 0)
-slot_in (Some v) = v

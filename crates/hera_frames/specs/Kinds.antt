@@ -1,11 +1,10 @@
 -- The schemas that an operation names, and lists of rows of which all are of a schema where all of others are.
-use Rattle.std.specs.Prelude.{◌≡◌, Bool, true, false, ◌&&◌, List, [], ◌∷◌, Option, None, Some}
+use Rattle.std.specs.Prelude.{◌≡◌, List, Option, None, Some}
 use Rattle.std.specs.List.{list_all}
 use Rattle.hera_sets.specs.Rows.{Row}
 use Rattle.hera_meaning.specs.declared.schemas.Attr.{Attr}
 use Rattle.hera_meaning.specs.declared.trees.Op.{Op}
 use Rattle.hera_meaning.specs.declared.trees.Op.TheVariants.{Project, Join, Group, Sum, Min, Max}
-use Rattle.hera_meaning.specs.Scalars.{is_same_kind}
 use Rattle.hera_meaning.specs.Rows.{is_row}
 
 -- the schema of the first operand's rows
@@ -22,12 +21,6 @@ left_of _ = None
 abbrev pub right_of : Op → Option (List Attr)
 right_of (Join left right) = Some right
 right_of _ = None
-
--- as many attributes, of the same kinds in order
-abbrev pub have_same_kinds : List Attr → List Attr → Bool
-have_same_kinds [] [] = true
-have_same_kinds (a ∷ attrs) (b ∷ others) = is_same_kind a.kind b.kind && have_same_kinds attrs others
-have_same_kinds _ _ = false
 
 -- where a schema is asked for, both lists are of it or neither is
 abbrev pub PassAlike : Option (List Attr) → List Row → List Row → Type 0

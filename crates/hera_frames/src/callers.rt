@@ -1,12 +1,14 @@
 //! Frames that wait, and the memory of those that have gone on.
-ghost use Rattle.std.specs.Prelude.{◌≡◌, ◌≤◌, true, false, None, [], length, take, OnOk, OnErr, MatchOption};
+ghost use Rattle.std.specs.Prelude.{◌≡◌, ◌≤◌, None, [], length, take, OnOk, OnErr, MatchOption};
 ghost use Rattle.hera_frames.specs.Items.{AreHeld};
-ghost use Rattle.hera_prims.specs.Newest.{newest};
+ghost use Rattle.hera_fits.specs.Newest.{newest};
 ghost use Rattle.hera_frames.specs.Calling.{IsCalled, IsResumed, answered};
 
-use crate::{Frame, Locals, Operands, Point, Stack, Walk};
+use crate::{Frame, Operands, Point};
 use hera_code::BodyInfo;
 use hera_flat::Flat;
+use hera_reads::{Stack, Walk};
+use hera_values::Locals;
 use std::alloc::{AllocError, Global};
 use std::marker::Model;
 
@@ -23,7 +25,7 @@ pub struct Callers {
 impl Model for Callers {
     ghost use Rattle.std.specs.Prelude.{◌≤◌, List, take};
     ghost use Rattle.std.specs.Vec.{vec_len};
-    ghost use Rattle.hera_prims.specs.Newest.{newest};
+    ghost use Rattle.hera_fits.specs.Newest.{newest};
     ghost use Rattle.hera_frames.specs.declared.frames.Frame.{Frame};
 
     ghost Value = { List Frame };
@@ -45,42 +47,11 @@ impl Callers {
     }
 
     /// Calls a body: the running frame, whose operands, slots and walks are passed, waits from now on at this
-    /// point, and what the body starts with is left in their place. False, with all as before, where an
-    /// argument is not there or names a relation, or where the memory for the call is not made. It takes no
-    /// memory.
+    /// point, and what the body starts with is left in their place. It takes memory where no earlier call left enough.
+    /// Without it all is as before.
     #[tactic(auto, using(crate::proofs::Resting::rests))]
     #[inline]
     pub fn call(
-        &mut self,
-        body: &BodyInfo,
-        point: Point,
-        operands: &mut Operands,
-        locals: &mut Locals,
-        walks: &mut Stack<Walk>,
-    ) -> bool
-        requires { body.now.params ≤ body.now.slots }
-        ensures called { result ≡ true → IsCalled body.now point operands.old.items locals.old walks.old locals.new self.old self.new }
-        ensures no_operands { result ≡ true → operands.new.items ≡ [] }
-        ensures no_walks { result ≡ true → walks.new ≡ [] }
-        ensures kept { result ≡ false → self.new ≡ self.old }
-        ensures kept_operands { result ≡ false → operands.new ≡ operands.old }
-        ensures kept_locals { result ≡ false → locals.new ≡ locals.old }
-        ensures kept_walks { result ≡ false → walks.new ≡ walks.old }
-    {
-        if self.count >= self.frames.len() {
-            return false;
-        }
-        if !self.frames[self.count].call(body, point, operands, locals, walks) {
-            return false;
-        }
-        self.count += 1;
-        true
-    }
-
-    /// Calls a body as `call` does, with the memory for the call made where it is missing. Without memory all is
-    /// as before.
-    #[tactic(auto, using(crate::proofs::Resting::rests))]
-    pub fn call_anew(
         &mut self,
         alloc: Global,
         body: &BodyInfo,
@@ -103,7 +74,7 @@ impl Callers {
         if self.count == self.frames.len() {
             self.frames.push(Frame::idle(alloc))?;
         }
-        self.frames[self.count].call_anew(body, point, operands, locals, walks)?;
+        self.frames[self.count].call(body, point, operands, locals, walks)?;
         self.count += 1;
         Ok(())
     }

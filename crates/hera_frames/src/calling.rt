@@ -2,18 +2,19 @@
 //! of this takes memory.
 ghost use Rattle.std.specs.Prelude.{◌≡◌, ◌≤◌, ◌+◌, ◌++◌, ◌∷◌, [], true, false, None, length, map, take, drop};
 ghost use Rattle.std.specs.Vec.{vec_len, vec_capacity};
-ghost use Rattle.hera_frames.specs.Items.{plain_of, held, held_in, AreHeld};
+ghost use Rattle.hera_values.specs.Little.{plain_of};
+ghost use Rattle.hera_frames.specs.Items.{held, held_in, AreHeld};
 ghost use Rattle.hera_frames.specs.Calling.{IsNewestHeld, answered};
 
-use crate::values::Datum;
 use crate::{Operand, Operands};
 use hera_flat::Flat;
+use hera_values::Datum;
 use std::mem::swap;
 
 impl Operands {
     /// How many operands there are.
     #[inline]
-    #[tactic(auto, using(hera_prims::proofs::Stacks::newest_length))]
+    #[tactic(auto, using(hera_fits::proofs::Stacks::newest_length))]
     pub fn len(&self) -> usize
         ensures { result ≡ length self.now.items }
     {

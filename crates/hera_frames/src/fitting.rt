@@ -4,13 +4,13 @@ ghost use Rattle.std.specs.List.{list_all};
 ghost use Rattle.std.specs.Option.{option_copied};
 ghost use Rattle.hera_meaning.specs.Rows.{is_row};
 ghost use Rattle.hera_meaning.specs.Fits.{fits_of};
-ghost use Rattle.hera_prims.specs.Tables.{is_relational, tables};
-ghost use Rattle.hera_frames.specs.Seeing.{rows_seen};
+ghost use Rattle.hera_fits.specs.Tables.{is_relational, tables};
+ghost use Rattle.hera_reads.specs.Seeing.{rows_seen};
 ghost use Rattle.hera_frames.specs.Kinds.{left_of, right_of, PassAlike};
 
-use crate::Seen;
+use hera_fits::fits_rel;
 use hera_meaning::{Op, Schema};
-use hera_prims::fits_rel;
+use hera_reads::Seen;
 
 /// Whether `prim_rel` has an answer over these relations, as `fits_rel` tells. Each row of a relation that is named
 /// is of its schema. So no row of one is looked at where that schema has the kinds that the operation asks for. It

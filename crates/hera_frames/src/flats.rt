@@ -1,146 +1,40 @@
-//! Ints, bools and tuples among operands and slots, without memory but where a tuple has no buffer that it
-//! can go into.
-ghost use Rattle.std.specs.Prelude.{◌≡◌, ◌≤◌, [], ◌∷◌, true, false, Some, IfOk, IfSome, MatchOption, drop, length, slice_get};
-ghost use Rattle.std.specs.Option.{is_some};
-ghost use Rattle.hera_meaning.specs.Values.{scalar, tuple, table};
-ghost use Rattle.delta_atoms.specs.Plain.{value_of};
-ghost use Rattle.hera_meaning.specs.Worlds.{set_local};
-ghost use Rattle.hera_row.specs.Fields.{told};
+//! Ints, bools and tuples among operands, without memory but where a tuple has no buffer that it can go into.
+ghost use Rattle.std.specs.Prelude.{◌≡◌, ◌≤◌, ◌<◌, [], ◌∷◌, true, false, Some, IfOk, IfSome, drop, length};
+ghost use Rattle.hera_meaning.specs.Values.{bool_value, tuple, table};
 ghost use Rattle.hera_flat.specs.Flats.{flat_value, IsGiven};
-ghost use Rattle.hera_frames.specs.Items.{plain_of, item_of, held, held_in, newest_in, slot_in, reach};
+ghost use Rattle.hera_values.specs.Little.{flat_of, int_of};
+ghost use Rattle.hera_code.specs.Machine.{as_bool};
+ghost use Rattle.hera_frames.specs.Items.{item_of, held, held_in, newest_in, held_of, newest_of, reach};
 
-use crate::values::{Datum, let_go, refill};
-use crate::{Locals, Operand, Operands};
-use delta_atoms::Value;
+use crate::{Operand, Operands};
 use hera_flat::Flat;
-use hera_meaning::{Op, ScalarRef, Schema};
-use hera_row::{check_row, field};
+use hera_meaning::{Op, Schema};
 use hera_rows::{RowSet, Sorted};
+use hera_values::{Datum, let_go, refill};
 use std::alloc::{AllocError, Global};
 use std::mem::replace;
-
-/// The int or bool, where the scalar is one.
-#[inline]
-fn flat_scalar(s: ScalarRef<'_>) -> Option<Flat>
-    ensures { IfSome result (λ f. scalar (told s.entry) ≡ flat_value f) }
-{
-    match s {
-        ScalarRef::Int(n) => Some(Flat::Int(n)),
-        ScalarRef::Bool(b) => Some(Flat::Bool(b)),
-        ScalarRef::Text(_) => None,
-    }
-}
-
-/// The int or bool at a place of a row, where there is one and the row is of the schema.
-fn row_field(schema: &Schema, i: usize, row: &[u8]) -> Option<Flat>
-    ensures { IfSome result (IsGiven (Op.Field schema.now i) (tuple row.now ∷ [])) }
-{
-    if i >= schema.len() || !check_row(schema, row) {
-        return None;
-    }
-    flat_scalar(field(schema, row, i))
-}
-
-impl Datum {
-    /// The int or bool at a place of a tuple, where there is one and the tuple is of the schema.
-    #[inline]
-    fn flat_field(&self, schema: &Schema, i: usize) -> Option<Flat>
-        ensures { IfSome result (IsGiven (Op.Field schema.now i) (plain_of self.now ∷ [])) }
-    {
-        match self {
-            Datum::Int(_) => None,
-            Datum::Bool(_) => None,
-            Datum::Tuple(row) => row_field(schema, i, row),
-            Datum::Large(_) => None,
-        }
-    }
-
-    /// The int or bool, where it is one.
-    #[inline]
-    fn flat(&self) -> Option<Flat>
-        ensures { IfSome result (λ f. plain_of self.now ≡ flat_value f) }
-    {
-        match self {
-            Datum::Int(n) => Some(Flat::Int(*n)),
-            Datum::Bool(b) => Some(Flat::Bool(*b)),
-            _ => None,
-        }
-    }
-
-    /// The value of an int or a bool.
-    #[inline]
-    pub(crate) fn of_flat(v: Flat) -> Datum
-        ensures { plain_of result ≡ flat_value v }
-    {
-        match v {
-            Flat::Int(n) => Datum::Int(n),
-            Flat::Bool(b) => Datum::Bool(b),
-        }
-    }
-
-    /// The rows, where the value is a relation.
-    #[inline]
-    fn held_rows(&self) -> Option<&RowSet>
-        ensures { IfSome result (λ rows. plain_of self.now ≡ table rows.now) }
-    {
-        match self {
-            Datum::Large(v) => large_rows(v),
-            _ => None,
-        }
-    }
-
-    /// Puts an int or a bool in the place of a value that may be another one.
-    #[inline(never)]
-    fn renew(&mut self, v: Flat)
-        ensures { plain_of self.new ≡ flat_value v }
-    {
-        let_go(replace(self, Datum::of_flat(v)));
-    }
-
-    /// Puts an int in the value's place.
-    #[inline(always)]
-    fn put_int(&mut self, n: i64)
-        ensures { plain_of self.new ≡ flat_value (Flat.Int n) }
-    {
-        match self {
-            Datum::Int(place) => *place = n,
-            Datum::Bool(_) => *self = Datum::Int(n),
-            _ => self.renew(Flat::Int(n)),
-        }
-    }
-
-    /// Puts a bool in the value's place.
-    #[inline(always)]
-    fn put_bool(&mut self, b: bool)
-        ensures { plain_of self.new ≡ flat_value (Flat.Bool b) }
-    {
-        match self {
-            Datum::Bool(place) => *place = b,
-            Datum::Int(_) => *self = Datum::Bool(b),
-            _ => self.renew(Flat::Bool(b)),
-        }
-    }
-
-    /// Puts an int or a bool in the value's place.
-    #[inline(always)]
-    pub(crate) fn put_flat(&mut self, v: Flat)
-        ensures { plain_of self.new ≡ flat_value v }
-    {
-        match v {
-            Flat::Int(n) => self.put_int(n),
-            Flat::Bool(b) => self.put_bool(b),
-        }
-    }
-}
 
 impl Operand {
     /// The int or bool, where it is one.
     #[inline]
     fn flat(&self) -> Option<Flat>
-        ensures { IfSome result (λ f. item_of self.now ≡ held (flat_value f)) }
+        ensures exact { result ≡ held_of flat_of (item_of self.now) }
+        ensures flat { IfSome result (λ f. item_of self.now ≡ held (flat_value f)) }
     {
         match self {
             Operand::Held(v) => v.flat(),
+            Operand::Named { .. } => None,
+        }
+    }
+
+    /// The int, where it is one.
+    #[inline]
+    fn int(&self) -> Option<i64>
+        ensures exact { result ≡ held_of int_of (item_of self.now) }
+        ensures int { IfSome result (λ n. item_of self.now ≡ held (flat_value (Flat.Int n))) }
+    {
+        match self {
+            Operand::Held(v) => v.int(),
             Operand::Named { .. } => None,
         }
     }
@@ -171,81 +65,17 @@ impl Operand {
     }
 }
 
-impl Locals {
-    /// The int or bool in a slot, where there is one.
-    #[inline]
-    #[tactic(auto, using(crate::proofs::Slots::copies))]
-    pub fn flat_at(&self, i: usize) -> Option<Flat>
-        ensures { IfSome result (λ f. slice_get self.now i ≡ Some (flat_value f)) }
-    {
-        match self.items.get(i) {
-            None => None,
-            Some(v) => v.flat(),
-        }
-    }
-
-    /// The int in a slot, where there is one.
-    #[inline]
-    #[tactic(auto, using(crate::proofs::Slots::copies))]
-    pub fn int_at(&self, i: usize) -> Option<i64>
-        ensures { IfSome result (λ n. slice_get self.now i ≡ Some (flat_value (Flat.Int n))) }
-    {
-        match self.items.get(i) {
-            Some(Datum::Int(n)) => Some(*n),
-            _ => None,
-        }
-    }
-
-    /// The int or bool at a place of the tuple in a slot, where there is one and the tuple is of the schema.
-    #[inline]
-    #[tactic(auto, using(crate::proofs::Slots::copies))]
-    pub fn field_at(&self, i: usize, schema: &Schema, place: usize) -> Option<Flat>
-        ensures there { IfSome result (λ f. slice_get self.now i ≡ Some (slot_in (slice_get self.now i))) }
-        ensures given { IfSome result (IsGiven (Op.Field schema.now place) (slot_in (slice_get self.now i) ∷ [])) }
-    {
-        match self.items.get(i) {
-            None => None,
-            Some(v) => v.flat_field(schema, place),
-        }
-    }
-
-    /// The rows of the relation in a slot, where there is one. None is copied.
-    #[inline]
-    #[tactic(auto, using(crate::proofs::Slots::copies))]
-    pub fn rows_at(&self, i: usize) -> Option<&RowSet>
-        ensures { IfSome result (λ rows. slice_get self.now i ≡ Some (table rows.now)) }
-    {
-        match self.items.get(i) {
-            None => None,
-            Some(v) => v.held_rows(),
-        }
-    }
-
-    /// Puts an int or a bool into a slot, if the slot is there.
-    #[inline]
-    #[tactic(auto, using(crate::proofs::Slots::slots))]
-    pub fn put_flat(&mut self, i: usize, v: Flat) -> bool
-        ensures there { result ≡ is_some (slice_get self.old i) }
-        ensures put { self.new ≡ set_local self.old i (flat_value v) }
-    {
-        if i < self.items.len() {
-            self.items[i].put_flat(v);
-            true
-        } else {
-            false
-        }
-    }
-}
-
 impl Operands {
     /// The newest operand, where it is an int.
     #[inline]
+    #[tactic(auto, using(crate::proofs::Truths::newest_ones))]
     pub fn newest_int(&self) -> Option<i64>
-        ensures { IfSome result (λ n. self.now.items ≡ held (flat_value (Flat.Int n)) ∷ drop 1 self.now.items) }
+        ensures exact { result ≡ newest_of int_of self.now.items }
+        ensures int { IfSome result (λ n. self.now.items ≡ held (flat_value (Flat.Int n)) ∷ drop 1 self.now.items) }
     {
         match self.newest(0) {
-            Some(Operand::Held(Datum::Int(n))) => Some(*n),
-            _ => None,
+            None => None,
+            Some(operand) => operand.int(),
         }
     }
 
@@ -265,12 +95,27 @@ impl Operands {
 
     /// The newest operand, where it is an int or a bool.
     #[inline]
+    #[tactic(auto, using(crate::proofs::Truths::newest_ones))]
     pub fn newest_flat(&self) -> Option<Flat>
-        ensures { IfSome result (λ f. self.now.items ≡ held (flat_value f) ∷ drop 1 self.now.items) }
+        ensures exact { result ≡ newest_of flat_of self.now.items }
+        ensures flat { IfSome result (λ f. self.now.items ≡ held (flat_value f) ∷ drop 1 self.now.items) }
     {
         match self.newest(0) {
             None => None,
             Some(operand) => operand.flat(),
+        }
+    }
+
+    /// The newest operand, where it is a bool.
+    #[inline]
+    #[tactic(auto, using(crate::proofs::Truths::truths))]
+    pub fn newest_bool(&self) -> Option<bool>
+        ensures exact { result ≡ newest_of as_bool self.now.items }
+        ensures items { IfSome result (λ b. self.now.items ≡ held (bool_value b) ∷ drop 1 self.now.items) }
+    {
+        match self.newest(0) {
+            None => None,
+            Some(operand) => operand.bool_of(),
         }
     }
 
@@ -313,10 +158,11 @@ impl Operands {
 
     /// Puts an int or a bool upon the others, if its place is there.
     #[inline]
-    #[tactic(auto, using(hera_prims::proofs::Stacks::newest_push))]
+    #[tactic(auto, using(hera_fits::proofs::Stacks::newest_push))]
     pub fn push_flat(&mut self, v: Flat) -> bool
         ensures pushed { result ≡ true → self.new.items ≡ held (flat_value v) ∷ self.old.items }
         ensures full { result ≡ false → self.new ≡ self.old }
+        ensures spared { 0 < self.old.spare → result ≡ true }
     {
         if self.items.len() < self.items.capacity() {
             self.items.push_reserved(Operand::Held(Datum::of_flat(v)));
@@ -329,7 +175,7 @@ impl Operands {
     /// Puts a tuple upon the others, if its place is there. Its row goes into the idle buffer, or into a new
     /// one. Where memory for it is refused all is as before.
     #[inline]
-    #[tactic(auto, using(hera_prims::proofs::Stacks::newest_push))]
+    #[tactic(auto, using(hera_fits::proofs::Stacks::newest_push))]
     pub fn push_tuple(&mut self, row: &[u8]) -> bool
         ensures pushed { result ≡ true → self.new.items ≡ held (tuple row.now) ∷ self.old.items }
         ensures full { result ≡ false → self.new ≡ self.old }
@@ -362,7 +208,7 @@ impl Operands {
 
     /// Puts an int or a bool in the place of the newest operand. Where that was a tuple its buffer is idle.
     #[inline]
-    #[tactic(auto, using(hera_prims::proofs::Stacks::newest_push))]
+    #[tactic(auto, using(hera_fits::proofs::Stacks::newest_push))]
     pub fn replace_tuple(&mut self, v: Flat)
         requires { 1 ≤ length self.old.items }
         ensures items { self.new.items ≡ held (flat_value v) ∷ drop 1 self.old.items }
@@ -376,7 +222,7 @@ impl Operands {
 
     /// Puts an int or a bool in the place of the newest operand.
     #[inline(always)]
-    #[tactic(auto, using(crate::proofs::Tops::lasts))]
+    #[tactic(auto, using(hera_reads::proofs::Tops::lasts))]
     pub fn replace_newest(&mut self, v: Flat)
         requires { 1 ≤ length self.old.items }
         ensures items { self.new.items ≡ held (flat_value v) ∷ drop 1 self.old.items }
@@ -395,17 +241,6 @@ impl Operands {
     {
         self.drop_newest();
         self.replace_newest(v);
-    }
-}
-
-/// The rows, where the value is a relation.
-#[inline]
-fn large_rows(v: &Value) -> Option<&RowSet>
-    ensures { IfSome result (λ rows. value_of v.now ≡ table rows.now) }
-{
-    match v {
-        Value::Rel(rows) => Some(rows),
-        _ => None,
     }
 }
 

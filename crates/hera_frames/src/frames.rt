@@ -1,36 +1,18 @@
 //! Frames that wait.
-ghost use Rattle.std.specs.Prelude.{◌≡◌, ◌≢◌, ◌≤◌, ◌++◌, true, false, None, [], length, take, OnOk, OnErr, MatchOption};
+ghost use Rattle.std.specs.Prelude.{◌≡◌, ◌≢◌, ◌≤◌, ◌++◌, None, [], length, take, OnOk, OnErr, MatchOption};
 ghost use Rattle.hera_frames.specs.Items.{AreHeld};
-ghost use Rattle.hera_frames.specs.Calling.{IsBegun, point_of, answered};
+ghost use Rattle.hera_frames.specs.Calling.{IsBegun, answered};
 
-use crate::{Locals, Operands, Stack, Walk};
+use crate::Operands;
+use crate::slots::begin;
 use hera_code::BodyInfo;
 use hera_flat::Flat;
+use hera_reads::{Stack, Walk};
+use hera_values::Locals;
 use std::alloc::{AllocError, Global};
 use std::mem::swap;
 
-/// A frame that waits: where it goes on, its operands, slots and walks, and the layers under which it reads.
-#[derive(Drop)]
-pub struct Frame {
-    /// The address at which it goes on.
-    pub at: usize,
-    /// Its operands.
-    pub operands: Operands,
-    /// Its slots.
-    pub locals: Locals,
-    /// Its open walks.
-    pub walks: Stack<Walk>,
-    /// The number of the layer under which it reads.
-    pub tip: usize,
-    /// How many of the layers under which it reads it has pushed itself.
-    pub own: usize,
-    /// The number of the first layer that no frame below names.
-    pub floor: usize,
-    /// Whether a frame below may name a relation.
-    pub names_below: bool,
-}
-
-/// Where a frame goes on, and the layers under which it reads, as in `Frame`.
+/// Where a frame goes on, and the layers under which it reads.
 #[derive(Clone, Copy)]
 pub struct Point {
     /// The address at which it goes on.
@@ -45,57 +27,40 @@ pub struct Point {
     pub names_below: bool,
 }
 
+/// A frame that waits: where it goes on, its operands, slots and walks.
+#[derive(Drop)]
+pub struct Frame {
+    /// Where it goes on.
+    pub point: Point,
+    /// Its operands.
+    pub operands: Operands,
+    /// Its slots.
+    pub locals: Locals,
+    /// Its open walks.
+    pub walks: Stack<Walk>,
+}
+
 impl Frame {
     /// A frame without operands, slots and walks. It takes no memory.
     pub(crate) fn idle(alloc: Global) -> Frame {
         Frame {
-            at: 0,
+            point: Point {
+                at: 0,
+                tip: 0,
+                own: 0,
+                floor: 0,
+                names_below: false,
+            },
             operands: Operands::new(alloc),
             locals: Locals::new(alloc),
             walks: Stack::new(alloc),
-            tip: 0,
-            own: 0,
-            floor: 0,
-            names_below: false,
         }
     }
 
     /// Becomes the frame that calls a body, with what is passed, and leaves there what the body starts with:
-    /// its slots, no operands and no walks. False where the arguments are not there or one names a relation,
-    /// or where this frame has no memory for the slots; what is passed is then as before. It takes no memory.
-    #[inline]
+    /// its slots, no operands and no walks. It takes memory where this frame has less than the slots need. Without it
+    /// what is passed is as before.
     pub(crate) fn call(
-        &mut self,
-        body: &BodyInfo,
-        point: Point,
-        operands: &mut Operands,
-        locals: &mut Locals,
-        walks: &mut Stack<Walk>,
-    ) -> bool
-        requires { body.now.params ≤ body.now.slots }
-        ensures begun { result ≡ true → IsBegun body.now.params body.now.slots operands.old.items self.new.operands.items locals.new }
-        ensures point { result ≡ true → point_of self.new ≡ point }
-        ensures locals { result ≡ true → self.new.locals ≡ locals.old }
-        ensures walks { result ≡ true → self.new.walks ≡ walks.old }
-        ensures no_operands { result ≡ true → operands.new.items ≡ [] }
-        ensures no_walks { result ≡ true → walks.new ≡ [] }
-        ensures kept_operands { result ≡ false → operands.new ≡ operands.old }
-        ensures kept_locals { result ≡ false → locals.new ≡ locals.old }
-        ensures kept_walks { result ≡ false → walks.new ≡ walks.old }
-    {
-        if !self
-            .locals
-            .begin(operands, body.params as usize, body.slots as usize)
-        {
-            return false;
-        }
-        self.wait(point, operands, locals, walks);
-        true
-    }
-
-    /// Becomes the frame that calls a body as `call` does, with memory made for the slots where this frame has
-    /// less. Without memory what is passed is as before.
-    pub(crate) fn call_anew(
         &mut self,
         body: &BodyInfo,
         point: Point,
@@ -107,7 +72,7 @@ impl Frame {
         requires there { body.now.params ≤ length operands.old.items }
         requires held { AreHeld (take body.now.params operands.old.items) }
         ensures begun { OnOk result (IsBegun body.now.params body.now.slots operands.old.items self.new.operands.items locals.new) }
-        ensures point { OnOk result (point_of self.new ≡ point) }
+        ensures point { OnOk result (self.new.point ≡ point) }
         ensures locals { OnOk result (self.new.locals ≡ locals.old) }
         ensures walks { OnOk result (self.new.walks ≡ walks.old) }
         ensures no_operands { OnOk result (operands.new.items ≡ []) }
@@ -116,8 +81,12 @@ impl Frame {
         ensures kept_locals { OnErr result (locals.new ≡ locals.old) }
         ensures kept_walks { OnErr result (walks.new ≡ walks.old) }
     {
-        self.locals
-            .begin_anew(operands, body.params as usize, body.slots as usize)?;
+        begin(
+            &mut self.locals,
+            operands,
+            body.params as usize,
+            body.slots as usize,
+        )?;
         self.wait(point, operands, locals, walks);
         Ok(())
     }
@@ -132,7 +101,7 @@ impl Frame {
         locals: &mut Locals,
         walks: &mut Stack<Walk>,
     )
-        ensures point { point_of self.new ≡ point }
+        ensures point { self.new.point ≡ point }
         ensures operands { self.new.operands.items ≡ operands.old.items }
         ensures locals { self.new.locals ≡ locals.old }
         ensures walks { self.new.walks ≡ walks.old }
@@ -144,11 +113,7 @@ impl Frame {
         swap(&mut self.locals, locals);
         self.walks.clear();
         swap(&mut self.walks, walks);
-        self.at = point.at;
-        self.tip = point.tip;
-        self.own = point.own;
-        self.floor = point.floor;
-        self.names_below = point.names_below;
+        self.point = point;
     }
 
     /// Goes on, in place of the frame that it has called, whose operands, slots and walks are passed: they
@@ -162,7 +127,7 @@ impl Frame {
         locals: &mut Locals,
         walks: &mut Stack<Walk>,
     ) -> Option<Point>
-        ensures point { MatchOption result (self.new ≡ self.old) (λ p. point_of self.old ≡ p) }
+        ensures point { MatchOption result (self.new ≡ self.old) (λ p. self.old.point ≡ p) }
         ensures operands { MatchOption result (operands.new ≡ operands.old) (λ p. operands.new.items ≡ answered answer ++ self.old.operands.items) }
         ensures locals { MatchOption result (locals.new ≡ locals.old) (λ p. locals.new ≡ self.old.locals) }
         ensures walks { MatchOption result (walks.new ≡ walks.old) (λ p. walks.new ≡ self.old.walks) }
@@ -175,12 +140,6 @@ impl Frame {
         swap(&mut self.locals, locals);
         walks.clear();
         swap(&mut self.walks, walks);
-        Some(Point {
-            at: self.at,
-            tip: self.tip,
-            own: self.own,
-            floor: self.floor,
-            names_below: self.names_below,
-        })
+        Some(self.point)
     }
 }

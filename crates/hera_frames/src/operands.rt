@@ -7,17 +7,17 @@ ghost use Rattle.hera_code.specs.Machine.{taken, as_bool, as_tuple, as_table, as
 ghost use Rattle.when_overlay.specs.declared.layers.Layer.{Layer};
 ghost use Rattle.when_overlay.specs.Changed.{after_all};
 ghost use Rattle.std.specs.Vec.{vec_len, vec_capacity};
-ghost use Rattle.hera_prims.specs.Newest.{newest};
-ghost use Rattle.hera_frames.specs.Items.{plain_of, item_of, held, relation, is_relation, value_at, operands_at, collected, AreHeld, are_deltas, reach_of, reach};
-ghost use Rattle.hera_frames.specs.Seeing.{rows_seen};
+ghost use Rattle.hera_fits.specs.Newest.{newest};
+ghost use Rattle.hera_values.specs.Little.{plain_of};
+ghost use Rattle.hera_frames.specs.Items.{item_of, held, relation, is_relation, value_at, operands_at, collected, AreHeld, are_deltas, reach_of, reach};
+ghost use Rattle.hera_reads.specs.Seeing.{rows_seen};
 
-use crate::values::{Datum, into_delta, into_row, let_go};
-use crate::walks::rows_past;
-use crate::{Changes, Seen};
 use delta_atoms::{Delta, Value};
+use hera_fits::Args;
 use hera_meaning::RelId;
-use hera_prims::Args;
+use hera_reads::{Changes, Seen, rows_past};
 use hera_rows::RowBuf;
+use hera_values::{Datum, into_delta, into_row, let_go};
 use std::alloc::{AllocError, Global};
 use std::marker::Model;
 use std::mem::replace;
@@ -143,7 +143,7 @@ pub struct Operands {
 impl Model for Operands {
     ghost use Rattle.std.specs.Prelude.{◌-◌};
     ghost use Rattle.std.specs.Vec.{vec_capacity, vec_len};
-    ghost use Rattle.hera_prims.specs.Newest.{newest};
+    ghost use Rattle.hera_fits.specs.Newest.{newest};
     ghost use Rattle.hera_frames.specs.Items.{Shelf, item_of};
 
     ghost Value = { Shelf };
@@ -172,7 +172,7 @@ impl Operands {
     }
 
     /// Puts a value upon the others. It takes no memory where spare is above 0.
-    #[tactic(auto, using(hera_prims::proofs::Stacks::newest_push))]
+    #[tactic(auto, using(hera_fits::proofs::Stacks::newest_push))]
     pub fn push(&mut self, v: Datum) -> Result<(), AllocError>
         ensures ok { OnOk result (self.new.items ≡ held (plain_of v) ∷ self.old.items) }
         ensures err { OnErr result (self.new.items ≡ self.old.items) }
@@ -184,7 +184,7 @@ impl Operands {
     }
 
     /// Puts the name of a relation under a layer upon the others. It takes no memory where spare is above 0.
-    #[tactic(auto, using(hera_prims::proofs::Stacks::newest_push))]
+    #[tactic(auto, using(hera_fits::proofs::Stacks::newest_push))]
     pub fn push_named(&mut self, rel: RelId, tip: usize) -> Result<(), AllocError>
         ensures ok { OnOk result (self.new.items ≡ relation rel.0 tip ∷ self.old.items) }
         ensures err { OnErr result (self.new.items ≡ self.old.items) }
@@ -196,7 +196,7 @@ impl Operands {
     }
 
     /// Takes the newest operand off. It takes no memory.
-    #[tactic(auto, using(hera_prims::proofs::Stacks::newest_push))]
+    #[tactic(auto, using(hera_fits::proofs::Stacks::newest_push))]
     pub fn pop(&mut self) -> Option<Operand>
         ensures items { MatchOption result ((self.old.items ≡ []) × (self.new.items ≡ [])) (λ o. self.old.items ≡ item_of o ∷ self.new.items) }
         ensures within { reach self.new.items ≤ reach self.old.items }
@@ -224,7 +224,7 @@ impl Operands {
     }
 
     /// The operand at place `i`, the newest of which is 0.
-    #[tactic(auto, using(hera_prims::proofs::Stacks::places))]
+    #[tactic(auto, using(hera_fits::proofs::Stacks::places))]
     #[inline]
     pub fn newest(&self, i: usize) -> Option<&Operand>
         ensures { option_map (λ o. item_of o.now) result ≡ slice_get self.now.items i }

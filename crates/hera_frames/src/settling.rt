@@ -2,13 +2,14 @@
 //! nothing names are dropped.
 ghost use Rattle.std.specs.Prelude.{◌≡◌, [], false, suc, min, max, map, OnOk, IfOk};
 ghost use Rattle.when_overlay.specs.Changed.{after_all};
-ghost use Rattle.hera_frames.specs.Branched.{lowest};
+ghost use Rattle.hera_reads.specs.Branched.{lowest};
 ghost use Rattle.hera_frames.specs.Items.{reach};
-ghost use Rattle.hera_frames.specs.Walking.{settled, AreGiven, walks_reach};
+ghost use Rattle.hera_reads.specs.Walking.{settled, AreGiven, walks_reach};
 ghost use Rattle.hera_frames.specs.Waiting.{poured, frame_settled};
 
-use crate::{Callers, Changes, Frame, Operands, Stack, Walk};
+use crate::{Callers, Frame, Operands};
 use delta_atoms::Delta;
+use hera_reads::{Changes, Stack, Walk};
 use std::alloc::{AllocError, Global};
 use when_overlay::Stored;
 
@@ -65,24 +66,17 @@ fn settle_frame(
     ensures { IfOk result (λ f. f ≡ frame_settled stored.now.state changes.now.layers frame) }
 {
     let Frame {
-        at,
+        mut point,
         operands,
         locals,
         walks,
-        tip,
-        own,
-        floor,
-        names_below: _,
     } = frame;
+    point.names_below = false;
     Ok(Frame {
-        at,
+        point,
         operands: operands.settle(alloc, changes, stored)?,
         locals,
         walks: settle_walks(alloc, walks, changes, stored)?,
-        tip,
-        own,
-        floor,
-        names_below: false,
     })
 }
 

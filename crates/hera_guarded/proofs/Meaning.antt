@@ -12,9 +12,9 @@ use Rattle.hera_code.specs.Machine.{ended}
 use Rattle.hera_code.specs.Reached.{code_at}
 use Rattle.hera_code.specs.Scheme.{code_of}
 use Rattle.hera_codegen.specs.Correct.{events_in, AreStoresOf}
-use Rattle.hera_machine.specs.declared.events.End.{End}
-use Rattle.hera_machine.specs.declared.events.End.TheVariants.{Stuck}
-use Rattle.hera_machine.specs.Standing.{stop_of}
+use Rattle.hera_steps.specs.declared.events.End.{End}
+use Rattle.hera_steps.specs.declared.events.End.TheVariants.{Stuck}
+use Rattle.hera_steps.specs.Telling.{stop_of}
 use Rattle.hera_volume.specs.Time.{Image}
 use Rattle.hera_store.specs.Databases.{Database, Holds}
 use Rattle.hera_store.specs.Standing as seen

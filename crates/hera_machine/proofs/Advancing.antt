@@ -10,7 +10,7 @@ use Rattle.hera_code.specs.declared.instrs.Code.{Code}
 use Rattle.hera_code.specs.Machine.{Machine, Step, code_step}
 use Rattle.hera_machine.specs.declared.events.Event.{Event}
 use Rattle.hera_machine.specs.declared.events.Event.TheVariants.{Quiet, Out, Commit, Ended}
-use Rattle.hera_machine.specs.Descends.{left}
+use Rattle.hera_steps.specs.Descends.{left}
 use Rattle.hera_machine.specs.Standing.{Standing, machine_over, event_over, IsNearer, GoesQuietly, Tells, IsLess}
 
 -- quiet instructions, then the place made for one more operand, then a step

@@ -1,5 +1,5 @@
 -- What a step leaves of the pending delta, and of the counts after it.
-use Rattle.std.proofs.Common.{◌≡◌, ℕ, zero, suc, ◌+◌, Bool, true, false, List, [], ◌∷◌, length, Option, Some, None, refl, sym, ap, ◌∙◌, subst}
+use Rattle.std.proofs.Common.{◌≡◌, ℕ, zero, suc, ◌+◌, Bool, true, false, List, [], ◌∷◌, length, Option, Some, None, refl, sym, ◌∙◌, subst}
 use Rattle.std.specs.Prelude.{slice_get, nat_lt, nat_le}
 use Rattle.hera_sets.specs.Rows.{Row}
 use Rattle.hera_meaning.specs.declared.schemas.RelDecl.{RelDecl}
@@ -18,12 +18,11 @@ use Rattle.hera_code.specs.declared.instrs.Code.{Code}
 use Rattle.hera_code.specs.declared.instrs.Instr.{Instr}
 use Rattle.hera_code.specs.declared.instrs.Instr.TheVariants.{Push, Load, Store, Rel, Prim, Host, Jump, Unless, Back, Enter, Leave, Walk as walk_instr, Next, Keep, Gather, Yield, Drop, Call, Ret, RetVal, Print, Apply, Commit, Rollback, Assert, Halt}
 use Rattle.hera_code.specs.Machine.{Walk, Frame, Machine, ended, stuck, Step, quiet, says, commits, ends, current_state, needs, if_step, needs_that, as_scalar, as_bool, as_tuple, as_table, as_delta, on_top, on_walk, taken, spends, rows_value, answer_step, leaves_layer, next_row, goes_back, unless_fail, applies, act}
-use Rattle.hera_frames.specs.Counted.{AreCounts}
-use Rattle.hera_frames.specs.Items.{Item, value_at, operands_at}
-use Rattle.hera_machine.specs.declared.events.Told.{Told}
-use Rattle.hera_machine.specs.declared.events.Told.TheVariants as told
-use Rattle.hera_machine.specs.Working.{Work, machine_at}
-use Rattle.hera_machine.specs.Telling.{step_at}
+use Rattle.hera_reads.specs.Counted.{AreCounts}
+use Rattle.hera_steps.specs.declared.events.Told.{Told}
+use Rattle.hera_steps.specs.declared.events.Told.TheVariants as told
+use Rattle.hera_steps.specs.Working.{Work, machine_at}
+use Rattle.hera_steps.specs.Telling.{step_at}
 use Rattle.hera_machine.specs.declared.events.Event.{Event}
 use Rattle.hera_machine.specs.declared.events.Event.TheVariants.{Quiet, Out, Commit as CommitEvent}
 use Rattle.hera_machine.specs.Standing.{Standing, commit_over, event_over}
@@ -154,29 +153,6 @@ module _ (code : Code) (rels : List RelDecl) (hosts : Hosts) (s : State) (ns : L
       → AreCountsBehind s ns (act code rels hosts (Some i) s m)
   behind_apply (Apply place) a proper h = applied_top place m.operands proper h
   behind_apply i a proper h = cc
-
--- ---- the newest operand
-
-module _ (s : State) (w old : Work) (same : w ≡ old) where
-  pub none_newest : None ≡ slice_get w.operands 0 → (v : Value) → slice_get (machine_at s old).operands 0 ≡ Some v → ⊥
-  none_newest here v is = by w.operands here (subst (λ (x : Work). slice_get (machine_at s x).operands 0 ≡ Some v) (sym same) is)
-    where
-      by : (items : List Item) → None ≡ slice_get items 0 → slice_get (operands_at s w.layers items) 0 ≡ Some v → ⊥
-      by [] e g = cc
-      by (x ∷ items) e g = cc
-
-  newest_value : (item : Item) → Some item ≡ slice_get w.operands 0 → (v : Value) → slice_get (machine_at s old).operands 0 ≡ Some v → value_at s w.layers item ≡ v
-  newest_value item here v is = by w.operands here (subst (λ (x : Work). slice_get (machine_at s x).operands 0 ≡ Some v) (sym same) is)
-    where
-      by : (items : List Item) → Some item ≡ slice_get items 0 → slice_get (operands_at s w.layers items) 0 ≡ Some v → value_at s w.layers item ≡ v
-      by [] e g = cc
-      by (x ∷ items) e g =
-          let one : item ≡ x = cc in
-          let other : value_at s w.layers x ≡ v = cc in
-          ap (value_at s w.layers) one ∙ other
-
-  pub newest_delta : (item : Item) (o : Option Delta) → Some item ≡ slice_get w.operands 0 → o ≡ as_delta (value_at s w.layers item) → (v : Value) (d : Delta) → slice_get (machine_at s old).operands 0 ≡ Some v → as_delta v ≡ Some d → o ≡ Some d
-  newest_delta item o here told v d is of = told ∙ ap as_delta (newest_value item here v is) ∙ of
 
 -- ---- a quiet step
 

@@ -12,19 +12,18 @@ use Rattle.hera_meaning.specs.Worlds.{set_local}
 use Rattle.hera_meaning.specs.Fits.{arity, fits_of}
 use Rattle.hera_meaning.specs.Primitives.{gives, given}
 use Rattle.hera_code.specs.declared.instrs.Code.{Code}
-use Rattle.hera_code.specs.declared.instrs.Instr.TheVariants.{Prim}
 use Rattle.hera_code.specs.Forward.{Forward}
 use Rattle.hera_code.specs.Machine.{Machine, Step, quiet, needs, needs_that, on_top, on_some, answers, answer_step, needs_slot, act, code_step}
 use Rattle.hera_frames.specs.Items.{Item, held, relation, are_deltas, operands_at}
-use Rattle.hera_machine.specs.declared.events.Told.{Told}
-use Rattle.hera_machine.specs.declared.events.Told.TheVariants as told
-use Rattle.hera_machine.specs.Descends.{left}
+use Rattle.hera_steps.specs.declared.events.Told.{Told}
+use Rattle.hera_steps.specs.declared.events.Told.TheVariants as told
+use Rattle.hera_steps.specs.Descends.{left}
 use Rattle.hera_machine.specs.Pairs.{IsJoinAt, joins, then_stores}
 use Rattle.hera_machine.specs.Standing.{GoesQuietly}
-use Rattle.hera_machine.specs.Telling.{step_at}
-use Rattle.hera_machine.specs.Working.{Work, machine_at}
-use Rattle.hera_machine.proofs.Lowered.{Lowers, step_lowers}
-use Rattle.hera_machine.proofs.Nearing.{left_over}
+use Rattle.hera_steps.specs.Telling.{step_at}
+use Rattle.hera_steps.specs.Working.{Work, machine_at}
+use Rattle.hera_steps.proofs.Lowered.{Lowers, step_lowers}
+use Rattle.hera_steps.proofs.Nearing.{left_over}
 use Rattle.hera_machine.proofs.Quietly.{quietly_none, quietly_more}
 
 -- ---- what is joined

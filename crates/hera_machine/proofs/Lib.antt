@@ -1,16 +1,5 @@
-pub mod Lowered
 pub mod Along
-pub mod Nearing
-pub mod Changing
-pub mod Instructing
-pub mod Relating
-pub mod Answering
 pub mod Advancing
 pub mod Quietly
-pub mod Walked
-pub mod Calling
-pub mod Smashed
-pub mod Storing
-pub mod Sights
 pub mod Joined
 pub mod Counted

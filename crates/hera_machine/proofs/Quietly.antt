@@ -11,17 +11,19 @@ use Rattle.hera_meaning.specs.declared.trees.Op.{Op}
 use Rattle.hera_meaning.specs.Values.{Value, int_value}
 use Rattle.hera_code.specs.declared.instrs.Code.{Code}
 use Rattle.hera_code.specs.declared.instrs.Instr.{Instr}
-use Rattle.hera_code.specs.declared.instrs.Instr.TheVariants.{Push, Load, Prim, Unless}
+use Rattle.hera_code.specs.declared.instrs.Instr.TheVariants.{Push, Load, Prim, Unless, Store}
 use Rattle.hera_meaning.specs.Fits.{arity, fits_of}
 use Rattle.hera_meaning.specs.Primitives.{Answer, gives, refuses, given}
 use Rattle.hera_code.specs.Forward.{Forward}
 use Rattle.hera_code.specs.Machine.{Machine, Step, quiet, says, commits, ends, Taken, taken, needs, needs_that, on_some, answers, answer_step, on_with, pushes, act, code_step}
 use Rattle.hera_frames.specs.Waiting.{frame_at}
 use Rattle.hera_code.specs.Reached.{after_step, exec_code}
-use Rattle.hera_machine.specs.Descends.{left}
-use Rattle.hera_machine.specs.Pairs.{with_value, then_parts, IsPast}
-use Rattle.hera_machine.specs.Working.{Work, machine_at}
-use Rattle.hera_machine.proofs.Lowered.{Lowers, step_lowers}
+use Rattle.hera_flat.specs.declared.flat.Flat.{Flat}
+use Rattle.hera_flat.specs.Flats.{flat_value, IsGiven}
+use Rattle.hera_steps.specs.Descends.{left}
+use Rattle.hera_machine.specs.Pairs.{with_value, ahead, then_parts, then_stores, IsPast}
+use Rattle.hera_steps.specs.Working.{Work, machine_at}
+use Rattle.hera_steps.proofs.Lowered.{Lowers, step_lowers}
 use Rattle.hera_machine.specs.Standing.{Standing, machine_over, GoesQuietly}
 
 module _ (code : Code) (rels : List RelDecl) (hosts : Hosts) (s : State) where
@@ -128,6 +130,97 @@ module _ (code : Code) (rels : List RelDecl) (hosts : Hosts) (s : State) (m p : 
       let t : parts.mid.turns * (l + l) ≡ m.turns * (l + l) = ap (λ n. n * (l + l)) (parts.past.1) in
       let c : length parts.mid.callers * l ≡ length m.callers * l = ap (λ fs. length fs * l) (parts.past.2) in
       omega (arith, t, c, parts.past.0, lower.less_left)
+
+-- ---- a load in front of two or three
+
+module _ (code : Code) (rels : List RelDecl) (hosts : Hosts) (s : State) where
+  -- an instruction that is quiet leaves less
+  step_less : (m n : Machine) → Forward code → quiet n ≡ code_step code rels hosts s m → left (length code.instrs) n < left (length code.instrs) m
+  step_less m n forward step =
+      let lower : Lowers (length code.instrs) m (quiet n) = subst (λ t. Lowers (length code.instrs) m t) (sym step) (step_lowers code rels hosts forward (slice_get code.instrs m.at) s m refl) in
+      lower.less_left
+
+-- the machine behind a quiet step, which then stores
+record Storing (j : ℕ) (m p : Machine) (t : Step) : Type 0 where
+  mid : Machine
+  first : t ≡ quiet mid
+  store : quiet p ≡ then_stores j (quiet mid)
+  past : StandsPast m (quiet mid)
+
+storing : (j : ℕ) (m p : Machine) (t : Step) → StandsPast m t → quiet p ≡ then_stores j t → Storing j m p t
+storing j m p (quiet n) past done = record { mid = n; first = refl; store = done; past = past }
+storing j m p (says bs n) past done = absurd (subst IsQuiet done tt)
+storing j m p (commits d n) past done = absurd (subst IsQuiet done tt)
+storing j m p (ends stop) past done = absurd (subst IsQuiet done tt)
+
+-- an int is pushed and an operation done on it and the operand below
+module _ (code : Code) (rels : List RelDecl) (hosts : Hosts) (s : State) (up p : Machine) (z : ℤ) (op : Op) (place : ℕ)
+    (next : slice_get code.instrs up.at ≡ Some (Push (scalar_const (int_scalar z)))) (third : slice_get code.instrs (up.at + 1) ≡ Some (Prim op place)) where
+  abbrev both : Machine
+  both = on_with (int_value z ∷ up.operands) up
+
+  pushes_it : quiet both ≡ code_step code rels hosts s up
+  pushes_it = sym (ap (λ o. act code rels hosts o s up) next)
+
+  computed_less : (n : Machine) → Forward code → quiet n ≡ with_value place op (int_value z) up → left (length code.instrs) n < left (length code.instrs) up
+  computed_less n forward done =
+      let a = step_less code rels hosts s up both forward pushes_it in
+      let b = step_less code rels hosts s both n forward (done ∙ sym (ap (λ o. act code rels hosts o s both) third)) in
+      omega (arith, a, b)
+
+  pub pushed_less : Forward code → quiet p ≡ with_value place op (int_value z) up → left (length code.instrs) p < left (length code.instrs) up
+  pushed_less forward done = computed_less p forward done
+
+  module _ (j : ℕ) (fourth : slice_get code.instrs (up.at + 2) ≡ Some (Store j)) (done : quiet p ≡ then_stores j (with_value place op (int_value z) up)) where
+    storings : Storing j both p (with_value place op (int_value z) up)
+    storings = storing j both p (with_value place op (int_value z) up) (stands_computed place op both) done
+
+    at_fourth : slice_get code.instrs storings.mid.at ≡ Some (Store j)
+    at_fourth = let two : up.at + 1 + 1 ≡ up.at + 2 = omega arith in ap (slice_get code.instrs) (storings.past.0 ∙ two) ∙ fourth
+
+    stores_it : quiet p ≡ code_step code rels hosts s storings.mid
+    stores_it = storings.store ∙ sym (ap (λ o. act code rels hosts o s storings.mid) at_fourth)
+
+    pub quietly_kept : GoesQuietly code rels hosts s up p
+    quietly_kept = quietly_more code rels hosts s up storings.mid p (quietly_pushed code rels hosts s up storings.mid op place z next third (sym storings.first)) stores_it
+
+    pub kept_less : Forward code → left (length code.instrs) p < left (length code.instrs) up
+    kept_less forward =
+        let first = computed_less storings.mid forward (sym storings.first) in
+        let rest = step_less code rels hosts s storings.mid p forward stores_it in
+        omega (arith, first, rest)
+
+-- a slot is loaded
+module _ (code : Code) (rels : List RelDecl) (hosts : Hosts) (s : State) (m : Machine) (i : ℕ) (v : Value) (here : slice_get code.instrs m.at ≡ Some (Load i)) (there : slice_get m.locals i ≡ Some v) where
+  loads : quiet (ahead 1 v m) ≡ code_step code rels hosts s m
+  loads = sym (ap (λ o. act code rels hosts o s m) here ∙ ap (λ o. pushes o m) there)
+
+  pub quietly_load : GoesQuietly code rels hosts s m (ahead 1 v m)
+  quietly_load = quietly_more code rels hosts s m m (ahead 1 v m) (quietly_none code rels hosts s m m refl) loads
+
+  pub load_less : Forward code → left (length code.instrs) (ahead 1 v m) < left (length code.instrs) m
+  load_less forward = step_less code rels hosts s m (ahead 1 v m) forward loads
+
+  -- and an operation done on it, which gives an int or a bool
+  module _ (op : Op) (place : ℕ) (f : Flat) (next : slice_get code.instrs (m.at + 1) ≡ Some (Prim op place)) (is : IsGiven op (v ∷ []) f) where
+    gives_it : quiet (ahead 2 (flat_value f) m) ≡ with_value place op v m
+    gives_it =
+        let up : Machine = on_with (v ∷ m.operands) m in
+        let two : m.at + 1 + 1 ≡ m.at + 2 = omega arith in
+        sym
+        (ap (λ n. on_some n (v ∷ m.operands) (λ args vs. answers place op args vs up)) is.0
+        ∙ ap (λ b. needs_that b (answer_step place (given op (v ∷ [])) m.operands up)) is.1
+        ∙ ap (λ r. answer_step place r m.operands up) is.2
+        ∙ ap (λ a. quiet (record m { at = a; operands = flat_value f ∷ m.operands })) two)
+
+    pub quietly_found : GoesQuietly code rels hosts s m (ahead 2 (flat_value f) m)
+    quietly_found = quietly_loaded code rels hosts s m (ahead 2 (flat_value f) m) op place i v here next there gives_it
+
+    pub found_less : Forward code → left (length code.instrs) (ahead 2 (flat_value f) m) < left (length code.instrs) m
+    found_less forward =
+        let a = step_less code rels hosts s m (ahead 1 v m) forward loads in
+        let b = step_less code rels hosts s (ahead 1 v m) (ahead 2 (flat_value f) m) forward (gives_it ∙ sym (ap (λ o. act code rels hosts o s (ahead 1 v m)) next)) in
+        omega (arith, a, b)
 
 -- two instructions further less is left
 pub past_less : (l : ℕ) (old new : Work) → IsPast old new → old.at + 1 < l → left l (machine_at [] new) < left l (machine_at [] old)

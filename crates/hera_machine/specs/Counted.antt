@@ -4,7 +4,7 @@ use Rattle.hera_meaning.specs.Deltas.{State, apply_of}
 use Rattle.hera_code.specs.declared.instrs.Instr.{Instr}
 use Rattle.hera_code.specs.declared.instrs.Instr.TheVariants.{Apply, Rollback}
 use Rattle.hera_code.specs.Machine.{Step, quiet, says, commits, ends}
-use Rattle.hera_frames.specs.Counted.{AreCounts}
+use Rattle.hera_reads.specs.Counted.{AreCounts}
 use Rattle.hera_machine.specs.Standing.{Standing, machine_over}
 
 -- after the pending delta of a machine that stands over a committed state

@@ -11,11 +11,15 @@ use Rattle.hera_code.specs.declared.instrs.Code.{Code}
 use Rattle.hera_code.specs.declared.instrs.Instr.TheVariants.{Prim, Store}
 use Rattle.hera_code.specs.Machine.{Machine, Step, quiet, on_with, on_top, on_some, answers, needs_address, needs_slot, by_bool}
 use Rattle.hera_frames.specs.Items.{are_deltas}
-use Rattle.hera_machine.specs.Working.{Work}
+use Rattle.hera_steps.specs.Working.{Work}
 
 -- the operation at the place, where the value stands upon the operands of a machine, an instruction behind it
 abbrev pub with_value : ℕ → Op → Value → Machine → Step
 with_value place op v m = on_some (arity op) (v ∷ m.operands) (λ args vs. answers place op args vs (on_with (v ∷ m.operands) m))
+
+-- so many instructions further, with one more operand
+abbrev pub ahead : ℕ → Value → Machine → Machine
+ahead k v m = record m { at = m.at + k; operands = v ∷ m.operands }
 
 -- behind a quiet instruction, a jump by the value that it put up
 abbrev pub then_parts : Code → ℕ → Step → Step

@@ -4,19 +4,17 @@ use Rattle.std.specs.declared.alloc.AllocError.{AllocError}
 use Rattle.hera_meaning.specs.declared.schemas.RelDecl.{RelDecl}
 use Rattle.hera_meaning.specs.Deltas.{Delta, State, apply_of}
 use Rattle.hera_meaning.specs.Hosts.{Hosts}
-use Rattle.hera_meaning.specs.Run.{finished, stopped, out_of_turns}
 use Rattle.hera_meaning.specs.Worlds as worlds
 use Rattle.hera_code.specs.declared.instrs.Code.{Code}
-use Rattle.hera_code.specs.Machine.{Machine, Stop, ended, stuck, Step, quiet, says, commits, ends, code_step}
+use Rattle.hera_code.specs.Machine.{Machine, ended, stuck, Step, quiet, says, commits, ends, code_step}
 use Rattle.hera_code.specs.Reached.{exec_code}
-use Rattle.hera_machine.specs.declared.events.End.{End}
-use Rattle.hera_machine.specs.declared.events.End.TheVariants.{Done, Trap, Spent, Stuck}
 use Rattle.hera_machine.specs.declared.events.Event.{Event}
 use Rattle.hera_machine.specs.declared.events.Event.TheVariants.{Quiet, Out, Commit, Ended}
 use Rattle.hera_machine.specs.declared.events.Status.{Status}
 use Rattle.hera_machine.specs.declared.events.Status.TheVariants.{Working, Over, GaveUp}
-use Rattle.hera_machine.specs.Descends.{left, IsLower}
-use Rattle.hera_machine.specs.Working.{Work, machine_at}
+use Rattle.hera_steps.specs.Descends.{left, IsLower}
+use Rattle.hera_steps.specs.Telling.{stop_of}
+use Rattle.hera_steps.specs.Working.{Work, machine_at}
 
 -- the code and its relations, the machine at work, whether it works, and the delta of a commit that was not
 -- taken yet; for how many further operands the place is there; and the machine for which it stands over the
@@ -33,13 +31,6 @@ pub record Standing : Type 0 where
 -- the machine of the code for which a machine stands over a committed state
 abbrev pub machine_over : State → Standing → Machine
 machine_over s m = machine_at s m.work
-
--- why a run is over
-abbrev pub stop_of : End → Stop
-stop_of Done = ended finished
-stop_of (Trap name at) = ended (stopped name at)
-stop_of Spent = ended out_of_turns
-stop_of Stuck = stuck
 
 -- a commit of the delta that waits; the machine then stands over the state that it stored
 abbrev pub commit_over : State → Option Delta → Standing → Step

@@ -1,20 +1,7 @@
 //! What steps tell.
 
-use delta_atoms::Delta;
-use hera_meaning::{Line, TrapName};
-
-/// How a run ends.
-#[derive(Clone, Copy, PartialEq, Eq, Debug)]
-pub enum End {
-    /// The program's end.
-    Done,
-    /// A trap, and the byte offset of its place.
-    Trap(TrapName, u32),
-    /// A turn was due, and none was left.
-    Spent,
-    /// What an instruction needs was not there, or was of another kind.
-    Stuck,
-}
+use hera_meaning::Line;
+use hera_steps::End;
 
 /// What a step tells.
 #[derive(Drop)]
@@ -38,13 +25,4 @@ pub enum Status {
     Over(End),
     /// A step found no memory.
     GaveUp,
-}
-
-/// What an instruction tells: a commit hands over the delta that is stored.
-#[derive(Drop)]
-pub(crate) enum Told {
-    Quiet,
-    Out(Line),
-    Commit(Delta),
-    Ended(End),
 }

@@ -7,9 +7,14 @@
 //! stored, passed, returned, printed, gone over by a loop of statements, or made a delta.
 #![tactic(auto)]
 
+mod counts;
 mod events;
+mod joins;
+mod loads;
 mod machine;
-mod running;
+mod many;
+mod pairs;
 
-pub use events::{End, Event, Status};
+pub use events::{Event, Status};
+pub use hera_steps::End;
 pub use machine::Machine;

@@ -10,17 +10,20 @@ ghost use Rattle.hera_code.specs.Machine.{code_step};
 ghost use Rattle.hera_code.specs.Reached.{start_of};
 ghost use Rattle.hera_machine.specs.Counted.{AreCountsOver, AreCountsBehind};
 ghost use Rattle.hera_machine.specs.Over.{state_over};
-ghost use Rattle.hera_machine.specs.Sparing.{is_sparing};
-ghost use Rattle.hera_machine.specs.Descends.{left};
+ghost use Rattle.hera_steps.specs.Sparing.{is_sparing};
+ghost use Rattle.hera_steps.specs.Descends.{left};
 ghost use Rattle.hera_machine.specs.Standing.{machine_over, event_over, status_by, status_after, WaitsBy, IsNearer, GoesQuietly, Tells, IsLess};
 
-use crate::events::{End, Event, Status, Told};
-use crate::running::Running;
+use crate::counts::{count, foresee};
+use crate::events::{Event, Status};
+use crate::joins::join;
+use crate::many::run_quick;
 use delta_atoms::Delta;
 use hera_code::Code;
-use hera_frames::Counts;
 use hera_host::HostTable;
 use hera_meaning::RelDecl;
+use hera_reads::Counts;
+use hera_steps::{End, Running, Told};
 use rel_pages::Base;
 use std::alloc::{AllocError, Global};
 use std::marker::Model;
@@ -38,7 +41,7 @@ pub struct Machine<'c> {
 impl<'c> Model for Machine<'c> {
     ghost use Rattle.std.specs.Prelude.{[], ◌≡◌, true, IfSome};
     ghost use Rattle.hera_meaning.specs.Fits.{is_delta_of};
-    ghost use Rattle.hera_machine.specs.Working.{machine_at};
+    ghost use Rattle.hera_steps.specs.Working.{machine_at};
     ghost use Rattle.hera_machine.specs.Standing.{Standing};
 
     ghost Value = { Standing };
@@ -92,7 +95,7 @@ impl<'c> Machine<'c> {
     /// Executes one instruction, over the base's state after the commits.
     ///
     /// Each commit is a delta of the base's catalogue, so that no row has to be looked at to know its kinds. After
-    /// an end it answers the same again, and after want of memory want of memory. Each delta of
+    /// an end it answers the same again, and after want of memory want of memory; no commit waits then. Each delta of
     /// a commit has to be taken before the next step. It takes no memory where it leaves a layer, counts
     /// the tuples of a relation, or asks whether it has any or one; nor where it names a relation and
     /// there is the place for one more operand.
@@ -111,6 +114,7 @@ impl<'c> Machine<'c> {
         ensures gave_up { self.old.status ≡ Status.GaveUp → IsErr result }
         ensures status { self.new.status ≡ status_after result }
         ensures waits { IfOk result (WaitsBy self.new.waits) }
+        ensures none_waits { OnErr result (self.new.waits ≡ None) }
         ensures code { self.new.code ≡ self.old.code }
         ensures relations { self.new.relations ≡ self.old.relations }
     {
@@ -140,7 +144,7 @@ impl<'c> Machine<'c> {
 
     /// Executes the instructions at hand that have the quick way, 12,288 at most, and a smash or a merge that is stored. It
     /// stops in front of a quick one for which memory is refused, and gives up where a smash or a merge lacks it.
-    fn hurry(&mut self, stored: &Stored<'_>) -> Result<(), AllocError>
+    fn run_quick(&mut self, stored: &Stored<'_>) -> Result<(), AllocError>
         ensures quietly { self.old.status ≡ Status.Working → (hosts : Hosts) → let s = stored.now.state in OnOk result (GoesQuietly self.old.code self.old.relations hosts s (machine_over s self.old) (machine_over s self.new)) }
         ensures less { Forward self.old.code → OnOk result (left (length self.old.code.instrs) self.new.state ≤ left (length self.old.code.instrs) self.old.state) }
         ensures layers { self.new.work.layers ≡ self.old.work.layers }
@@ -153,8 +157,8 @@ impl<'c> Machine<'c> {
             Status::Working => {}
             _ => return Ok(()),
         }
-        self.work.hurry(self.code, stored);
-        match self.work.join(self.code, stored) {
+        run_quick(&mut self.work, self.code, stored);
+        match join(&mut self.work, self.code, stored) {
             Ok(()) => Ok(()),
             Err(e) => {
                 self.status = Status::GaveUp;
@@ -175,7 +179,7 @@ impl<'c> Machine<'c> {
         ensures relations { self.new.relations ≡ self.old.relations }
     {
         if let Status::Working = self.status {
-            self.work.count(self.code, stored, counts);
+            count(&mut self.work, self.code, stored, counts);
         }
     }
 
@@ -200,11 +204,12 @@ impl<'c> Machine<'c> {
         ensures less { Forward self.old.code → IfOk result (IsLess (length self.old.code.instrs) self.old.state self.new.state) }
         ensures status { IfOk result (λ e. self.new.status ≡ status_by e) }
         ensures waits { IfOk result (WaitsBy self.new.waits) }
+        ensures none_waits { OnErr result (self.new.waits ≡ None) }
         ensures code { self.new.code ≡ self.old.code }
         ensures relations { self.new.relations ≡ self.old.relations }
     {
         let stored = Stored::new(base, commits);
-        self.hurry(&stored)?;
+        self.run_quick(&stored)?;
         self.count(&stored, counts);
         self.reserve(1)?;
         self.foresee(&stored, counts);
@@ -216,7 +221,7 @@ impl<'c> Machine<'c> {
         requires { AreCountsOver stored.now.state self.now counts.old }
         ensures { (hosts : Hosts) → let s = stored.now.state in AreCountsBehind s counts.new (code_step self.now.code self.now.relations hosts s (machine_over s self.now)) }
     {
-        self.work.foresee(self.code, stored, counts);
+        foresee(&self.work, self.code, stored, counts);
     }
 
     /// The delta of the commit that waits, which is taken. It takes no memory.

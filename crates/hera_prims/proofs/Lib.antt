@@ -1,12 +1,8 @@
-pub mod Stacks
-pub mod Operands
-pub mod Tested
-pub mod Meetings
 pub mod Ranges
 pub mod Equals
-pub mod PlaceTests
 pub mod Fitted
 pub mod Tuples
 pub mod Computed
 pub mod Sparing
 pub mod Named
+pub mod Traps

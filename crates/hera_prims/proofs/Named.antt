@@ -10,10 +10,10 @@ use Rattle.hera_meaning.specs.declared.scalars.Kind.TheVariants.{Int as int_kind
 use Rattle.hera_meaning.specs.declared.schemas.Attr.{Attr}
 use Rattle.hera_meaning.specs.Scalars.{is_kind}
 use Rattle.hera_meaning.specs.Values.{Value, scalar, tuple, table, delta, int_value, scalar_in, rows_in, operand}
-use Rattle.hera_meaning.specs.Fits.{Want, a_scalar, a_tuple, a_tuple_of, a_table, a_table_of, a_delta, meets, all_meet, wants, like, in_kind_order, is_good_op, fits_of}
+use Rattle.hera_meaning.specs.Fits.{Want, a_scalar, a_tuple, a_tuple_of, a_table, a_table_of, a_delta, meets, all_meet, wants, in_kind_order, is_good_op, fits_of}
 use Rattle.hera_meaning.proofs.Bools.{and_false}
 use Rattle.hera_meaning.specs.Primitives.{gives, given, prim_of}
-use Rattle.hera_prims.specs.Tables.{asks_relations, is_relational, takes_relations, tables}
+use Rattle.hera_fits.specs.Tables.{asks_relations, is_relational, takes_relations, tables}
 
 -- the want is one of relations
 abbrev wants_rows : Want → Bool
@@ -70,48 +70,6 @@ asks_relational ops.Ne a = refl
 asks_relational op a = a
 
 -- ---- a relation among the operands
-
-abbrev is_table : Value → Bool
-is_table (table xs) = true
-is_table _ = false
-
-not_table : (v : Value) (xs : List Row) → is_table v ≡ false → v ≡ table xs → ⊥
-not_table v xs n e = cc (n, ap is_table e)
-
-no_table : (v x : Value) (i : ℕ) (xs : List Row) → is_table v ≡ false → is_table x ≡ false → operand (v ∷ x ∷ []) i ≡ table xs → ⊥
-no_table v x zero xs m n e = not_table v xs m e
-no_table v x (suc zero) xs m n e = not_table x xs n e
-no_table v x (suc (suc i)) xs m n e = cc
-
-alike : (v x : Value) → is_table v ≡ false → meets (like v) x ≡ true → is_table x ≡ false
-alike (table ys) x n h = cc
-alike v (scalar t) n h = refl
-alike v (tuple r) n h = refl
-alike v (delta d) n h = refl
-alike (scalar s) (table xs) n h = cc
-alike (tuple r) (table xs) n h = cc
-alike (delta d) (table xs) n h = cc
-
-apart : (v : Value) (vs : List Value) (i : ℕ) (xs : List Row) → is_table v ≡ false → all_meet (like v ∷ like v ∷ []) (v ∷ vs) ≡ true → operand (v ∷ vs) i ≡ table xs → ⊥
-apart v [] i xs n h e = cc (sym (and_false (meets (like v) v)) ∙ h)
-apart v (x ∷ []) i xs n h e =
-    no_table v x i xs n (alike v x n (and_parts (meets (like v) x) true (and_parts (meets (like v) v) _ h).1).0) e
-apart v (x ∷ y ∷ vs) i xs n h e = cc (sym (and_false (meets (like v) x)) ∙ (and_parts (meets (like v) v) _ h).1)
-
-same_tables : (vs : List Value) (i : ℕ) (xs : List Row) → all_meet (like (operand vs 0) ∷ like (operand vs 0) ∷ []) vs ≡ true → operand vs i ≡ table xs →
-    vs ≡ table (rows_in (operand vs 0)) ∷ table (rows_in (operand vs 1)) ∷ []
-same_tables [] i xs h e = cc
-same_tables (table ys ∷ vs) i xs h e = two_tables a_table a_table (table ys ∷ vs) refl refl h
-same_tables (scalar s ∷ vs) i xs h e = absurd (apart (scalar s) vs i xs refl h e)
-same_tables (tuple r ∷ vs) i xs h e = absurd (apart (tuple r) vs i xs refl h e)
-same_tables (delta d ∷ vs) i xs h e = absurd (apart (delta d) vs i xs refl h e)
-
--- where the operation fits and one operand is a relation, its operands are the relations that it takes
-pub both_relations : (op : Op) (vs : List Value) (i : ℕ) (xs : List Row) → is_relational op ≡ true → fits_of op vs ≡ true → operand vs i ≡ table xs →
-    vs ≡ tables op (rows_in (operand vs 0)) (rows_in (operand vs 1))
-both_relations ops.Eq vs i xs r h e = same_tables vs i xs h e
-both_relations ops.Ne vs i xs r h e = same_tables vs i xs h e
-both_relations op vs i xs r h e = held_tables op vs r h
 
 table_unmet : (w : Want) (xs : List Row) → not (wants_rows w) ≡ true → meets w (table xs) ≡ false
 table_unmet a_table xs r = cc

@@ -5,7 +5,7 @@ use Rattle.delta_atoms.specs.declared.value.Value.{Value}
 use Rattle.hera_prims.specs.declared.end.PrimEnd.{PrimEnd}
 use Rattle.hera_prims.specs.declared.end.PrimEnd.TheVariants.{Trap, Memory}
 use Rattle.hera_prims.specs.Answered.{IsSparing}
-use Rattle.hera_prims.specs.Tables.{takes_memory}
+use Rattle.hera_fits.specs.Tables.{takes_memory}
 
 -- one that takes memory may
 pub may_want : (op : Op) (end : Result Value PrimEnd) → takes_memory op ≡ true → IsSparing op end

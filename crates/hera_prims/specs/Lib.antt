@@ -1,5 +1,1 @@
-pub mod Newest
-pub mod Wanted
-pub mod Tables
 pub mod Answered
-pub mod Joins

@@ -10,9 +10,9 @@ ghost use Rattle.hera_meaning.specs.declared.trees.TrapName.TheVariants.{Overflo
 ghost use Rattle.hera_prims.specs.Answered.{IsAnswer};
 
 use crate::PrimEnd;
-use crate::values::int;
 use delta_atoms::Value;
 use hera_aggregate::AggEnd;
+use hera_fits::int;
 use hera_meaning::{Aggs, Places, Schema, TrapName};
 use hera_rows::Sorted;
 use std::alloc::Global;

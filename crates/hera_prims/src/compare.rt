@@ -7,9 +7,9 @@ ghost use Rattle.hera_row.specs.Fields.{told};
 ghost use Rattle.delta_atoms.specs.Plain.{value_of};
 ghost use Rattle.hera_prims.specs.Answered.{IsAnswer, IsSparing};
 
-use crate::values::{has_row_at, row_at, scalar_at, truth, truth_at};
-use crate::{Args, PrimEnd};
+use crate::PrimEnd;
 use delta_atoms::{Delta, Value};
+use hera_fits::{Args, has_row_at, row_at, scalar_at, truth, truth_at};
 use hera_meaning::{Op, Scalar, ScalarRef};
 use hera_rows::RowSet;
 use hera_sets::{is_below, is_same};
@@ -80,7 +80,7 @@ fn is_zero(v: &Value) -> bool
 }
 
 /// Whether both operands are the same.
-#[tactic(auto, using(crate::proofs::Operands::equals))]
+#[tactic(auto, using(hera_fits::proofs::Operands::equals))]
 fn are_same(args: &Args) -> bool
     ensures { result ≡ same_value (operand args.now 0) (operand args.now 1) }
 {

@@ -6,9 +6,9 @@ ghost use Rattle.hera_meaning.specs.Primitives.{given};
 ghost use Rattle.delta_atoms.specs.Plain.{value_of};
 ghost use Rattle.hera_prims.specs.Answered.{IsAnswer};
 
-use crate::values::{is_fail_at, row_at, truth};
-use crate::{Args, PrimEnd};
+use crate::PrimEnd;
 use delta_atoms::{Delta, Value};
+use hera_fits::{Args, is_fail_at, row_at, truth};
 use hera_meaning::{Op, RelId, Sign};
 use smash_merge::{merge_into, smash_into, smash_under};
 use std::alloc::{AllocError, Global};
@@ -41,7 +41,7 @@ fn into_delta(alloc: Global, v: Value) -> Delta
 }
 
 /// Takes the first operand off as a delta, `fail` where it is none or is not there.
-#[tactic(auto, using(crate::proofs::Operands::fronts))]
+#[tactic(auto, using(hera_fits::proofs::Operands::fronts))]
 fn take_delta(alloc: Global, args: &mut Args) -> Delta
     ensures first { result ≡ delta_in (operand args.old 0) }
     ensures next { operand args.new 0 ≡ operand args.old 1 }

@@ -3,12 +3,13 @@ ghost use Rattle.std.specs.Prelude.{◌≡◌, true, false};
 ghost use Rattle.hera_meaning.specs.Fits.{fits_of};
 ghost use Rattle.hera_meaning.specs.Primitives.{given, prim_of};
 ghost use Rattle.hera_prims.specs.Answered.{IsAnswer, IsSparing};
-ghost use Rattle.hera_prims.specs.Tables.{asks_relations, uses_up};
+ghost use Rattle.hera_fits.specs.Tables.{asks_relations, uses_up};
 
 use crate::related::prim_rel;
 use crate::sets::rows_at;
-use crate::{Args, PrimEnd, compare, deltas, ints, rows, sets};
+use crate::{PrimEnd, compare, deltas, ints, rows, sets};
 use delta_atoms::Value;
+use hera_fits::Args;
 use hera_meaning::Op;
 use hera_rows::RowSet;
 use std::alloc::Global;

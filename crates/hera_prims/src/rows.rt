@@ -10,9 +10,9 @@ ghost use Rattle.hera_row.specs.Fields.{told, have_kinds};
 ghost use Rattle.delta_atoms.specs.Plain.{value_of};
 ghost use Rattle.hera_prims.specs.Answered.{IsAnswer, IsSparing};
 
-use crate::values::{int, row_at, rows_len_at, truth};
-use crate::{Args, PrimEnd};
+use crate::PrimEnd;
 use delta_atoms::Value;
+use hera_fits::{Args, int, row_at, rows_len_at, truth};
 use hera_meaning::{Op, Scalar, ScalarRef, Schema, Text, TextFault, TrapName};
 use hera_row::{encode, field};
 use std::alloc::{AllocError, Global};

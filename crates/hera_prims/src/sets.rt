@@ -8,9 +8,9 @@ ghost use Rattle.delta_atoms.specs.Atoms.{signed};
 ghost use Rattle.delta_atoms.specs.Plain.{value_of};
 ghost use Rattle.hera_prims.specs.Answered.{IsAnswer};
 
-use crate::values::row_at;
-use crate::{Args, PrimEnd};
+use crate::PrimEnd;
 use delta_atoms::{Delta, Value};
+use hera_fits::{Args, row_at};
 use hera_meaning::{Op, Places, RelId, Schema, Sign, TrapName};
 use hera_rows::{RowSet, Sorted};
 use std::alloc::Global;
@@ -29,7 +29,7 @@ fn rows_in<'a>(v: &'a Value, none: &'a RowSet) -> &'a RowSet
 }
 
 /// The rows of an operand.
-#[tactic(auto, using(crate::proofs::Operands::operands))]
+#[tactic(auto, using(hera_fits::proofs::Operands::operands))]
 pub(crate) fn rows_at<'a>(args: &'a Args, i: usize, none: &'a RowSet) -> &'a RowSet
     requires { none.now ≡ [] }
     ensures { result.now ≡ rows_in (operand args.entry.now i) }
@@ -131,7 +131,7 @@ fn part_of(v: &Value, rel: RelId, sign: Sign) -> Result<Value, PrimEnd>
 }
 
 /// The rows that a delta puts into a relation.
-#[tactic(auto, using(crate::proofs::Operands::operands))]
+#[tactic(auto, using(hera_fits::proofs::Operands::operands))]
 pub(crate) fn ins(rel: RelId, args: &Args) -> Result<Value, PrimEnd>
     ensures { IsAnswer result (given (Op.Ins rel) args.now) }
 {
@@ -142,7 +142,7 @@ pub(crate) fn ins(rel: RelId, args: &Args) -> Result<Value, PrimEnd>
 }
 
 /// The rows that a delta takes out of a relation.
-#[tactic(auto, using(crate::proofs::Operands::operands))]
+#[tactic(auto, using(hera_fits::proofs::Operands::operands))]
 pub(crate) fn del(rel: RelId, args: &Args) -> Result<Value, PrimEnd>
     ensures { IsAnswer result (given (Op.Del rel) args.now) }
 {

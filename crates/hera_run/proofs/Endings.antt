@@ -3,8 +3,8 @@ use Rattle.std.proofs.Common.{◌≡◌, ℕ, zero, suc, List, [], ◌++◌, tak
 use Rattle.std.specs.Io.KnownBytes.{Appends}
 use Rattle.hera_meaning.specs.declared.trees.TrapName.{TrapName}
 use Rattle.hera_meaning.specs.Printed.{trap_name, trap_line, end_text, spent_line}
-use Rattle.hera_machine.specs.declared.events.End.{End}
-use Rattle.hera_machine.specs.declared.events.End.TheVariants.{Trap, Spent}
+use Rattle.hera_steps.specs.declared.events.End.{End}
+use Rattle.hera_steps.specs.declared.events.End.TheVariants.{Trap, Spent}
 use Rattle.hera_run.specs.Running.{last_text}
 
 pub trap_text : (end : End) (name : TrapName) (at : ℕ) (bytes : List ℕ) → end ≡ Trap name at → bytes ≡ end_text (codes "trap " ++ trap_name name) at → bytes ≡ last_text end

@@ -6,8 +6,8 @@ use Rattle.hera_meaning.specs.Deltas.{Delta, State, apply_of}
 use Rattle.hera_meaning.specs.Worlds.{out, store}
 use Rattle.hera_meaning.specs.Printed.{trap_line, spent_line}
 use Rattle.hera_machine.specs.Over.{state_over}
-use Rattle.hera_machine.specs.declared.events.End.{End}
-use Rattle.hera_machine.specs.declared.events.End.TheVariants.{Done, Trap, Spent, Stuck}
+use Rattle.hera_steps.specs.declared.events.End.{End}
+use Rattle.hera_steps.specs.declared.events.End.TheVariants.{Done, Trap, Spent, Stuck}
 use Rattle.hera_volume.specs.Disk.{Disk, IsImage, IsSettled}
 use Rattle.hera_volume.specs.Time.{Image, IsImageAmid}
 use Rattle.hera_volume.proofs.Images.{image-settled}

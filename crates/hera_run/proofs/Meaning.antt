@@ -16,9 +16,9 @@ use Rattle.hera_code.specs.Machine.{Stop, ended, stuck}
 use Rattle.hera_code.specs.Reached.{code_at, over}
 use Rattle.hera_code.specs.Scheme.{code_of}
 use Rattle.hera_codegen.specs.Correct.{events_in, IsPrefix, AreStoresOf}
-use Rattle.hera_machine.specs.declared.events.End.{End}
-use Rattle.hera_machine.specs.declared.events.End.TheVariants.{Stuck}
-use Rattle.hera_machine.specs.Standing.{stop_of}
+use Rattle.hera_steps.specs.declared.events.End.{End}
+use Rattle.hera_steps.specs.declared.events.End.TheVariants.{Stuck}
+use Rattle.hera_steps.specs.Telling.{stop_of}
 use Rattle.hera_machine.proofs.Along.{printed-append}
 use Rattle.hera_volume.specs.Time.{Image}
 use Rattle.hera_store.specs.Databases.{Database, Holds}

@@ -15,9 +15,10 @@ use Rattle.hera_code.specs.Reached.{still, after_step, stores, with_line, exec_c
 use Rattle.hera_guard.specs.Guarded.{guarded, passes}
 use Rattle.hera_code.specs.Forward.{Forward}
 use Rattle.hera_codegen.specs.Correct.{events_in, AreStoresOf}
-use Rattle.hera_machine.specs.Standing.{Standing, machine_over, commit_over, stop_of, status_by, GoesQuietly, Tells, IsLess}
-use Rattle.hera_machine.specs.declared.events.End.{End}
-use Rattle.hera_machine.specs.declared.events.End.TheVariants.{Done, Trap, Spent, Stuck}
+use Rattle.hera_machine.specs.Standing.{Standing, machine_over, commit_over, status_by, GoesQuietly, Tells, IsLess}
+use Rattle.hera_steps.specs.Telling.{stop_of}
+use Rattle.hera_steps.specs.declared.events.End.{End}
+use Rattle.hera_steps.specs.declared.events.End.TheVariants.{Done, Trap, Spent, Stuck}
 use Rattle.hera_machine.specs.declared.events.Event as machine_event
 use Rattle.hera_machine.specs.declared.events.Event.TheVariants.{Quiet, Out, Commit, Ended}
 use Rattle.hera_machine.specs.declared.events.Status.TheVariants.{Working}

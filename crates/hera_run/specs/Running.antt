@@ -10,9 +10,10 @@ use Rattle.hera_code.specs.declared.instrs.Code.{Code}
 use Rattle.hera_code.specs.Reached.{Reached, over, code_at, start_of, with_line}
 use Rattle.hera_codegen.specs.Correct.{events_in}
 use Rattle.hera_guard.specs.Guarded.{guarded, passes}
-use Rattle.hera_machine.specs.declared.events.End.{End}
+use Rattle.hera_steps.specs.declared.events.End.{End}
 use Rattle.hera_machine.specs.declared.events.Status.TheVariants.{Working}
-use Rattle.hera_machine.specs.Standing.{Standing, machine_over, stop_of}
+use Rattle.hera_machine.specs.Standing.{Standing, machine_over}
+use Rattle.hera_steps.specs.Telling.{stop_of}
 use Rattle.hera_volume.specs.Time.{Image}
 use Rattle.hera_volume.specs.declared.file_id.FileId.{FileId}
 use Rattle.hera_store.specs.Databases.{Database}

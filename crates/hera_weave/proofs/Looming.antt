@@ -14,8 +14,8 @@ use Rattle.hera_meaning.specs.Hosts.{Hosts}
 use Rattle.hera_code.specs.Reached.{code_at, start_of}
 use Rattle.hera_code.specs.Scheme.{code_of}
 use Rattle.hera_code.specs.declared.instrs.Code.{Code}
-use Rattle.hera_machine.specs.declared.events.End.{End}
-use Rattle.hera_machine.specs.Descends.{left}
+use Rattle.hera_steps.specs.declared.events.End.{End}
+use Rattle.hera_steps.specs.Descends.{left}
 use Rattle.hera_machine.specs.Over.{state_over}
 use Rattle.hera_machine.specs.Standing.{machine_over}
 use Rattle.hera_machine.specs.declared.events.Status.TheVariants.{Working}

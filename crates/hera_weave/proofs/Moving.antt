@@ -11,8 +11,8 @@ use Rattle.hera_meaning.specs.Hosts.{Hosts}
 use Rattle.hera_code.specs.Forward.{Forward}
 use Rattle.hera_code.specs.declared.instrs.Code.{Code}
 use Rattle.hera_codegen.proofs.Forwards.{code_forward}
-use Rattle.hera_machine.specs.declared.events.End.{End}
-use Rattle.hera_machine.specs.Descends.{left}
+use Rattle.hera_steps.specs.declared.events.End.{End}
+use Rattle.hera_steps.specs.Descends.{left}
 use Rattle.hera_machine.specs.Over.{state_over}
 use Rattle.hera_sessions.specs.Scanning.{scanned}
 use Rattle.hera_sessions.specs.Sessions.{Task}

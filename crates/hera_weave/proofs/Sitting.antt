@@ -15,12 +15,13 @@ use Rattle.hera_code.specs.declared.instrs.Code.{Code}
 use Rattle.hera_code.specs.Machine.{Machine, Step, quiet, says, commits, ends, Stop, ended, stuck, code_step}
 use Rattle.hera_code.specs.Reached.{with_line, stores, after_step, exec_code, code_at, start_of}
 use Rattle.hera_code.specs.Scheme.{code_of}
-use Rattle.hera_machine.specs.declared.events.End.{End}
+use Rattle.hera_steps.specs.declared.events.End.{End}
 use Rattle.hera_machine.specs.declared.events.Event as told_event
 use Rattle.hera_machine.specs.declared.events.Event.TheVariants.{Quiet, Out, Commit, Ended}
 use Rattle.hera_machine.specs.declared.events.Status.TheVariants.{Working}
 use Rattle.hera_machine.specs.Over.{state_over}
-use Rattle.hera_machine.specs.Standing.{Standing, machine_over, stop_of, event_over, commit_over, status_after, WaitsBy, IsNearer, IsLess}
+use Rattle.hera_machine.specs.Standing.{Standing, machine_over, event_over, commit_over, status_after, WaitsBy, IsNearer, IsLess}
+use Rattle.hera_steps.specs.Telling.{stop_of}
 use Rattle.hera_sessions.specs.Agreeing.{deltas_of}
 use Rattle.hera_sessions.specs.Sessions.{Task}
 use Rattle.hera_weave.specs.Seats.{Sitting}

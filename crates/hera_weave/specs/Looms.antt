@@ -3,7 +3,7 @@ use Rattle.std.specs.Prelude.{◌≡◌, ◌≤◌, ℕ, suc, ◌+◌, Bool, tru
 use Rattle.hera_meaning.specs.declared.schemas.RelDecl.{RelDecl}
 use Rattle.hera_meaning.specs.Deltas.{Delta, State}
 use Rattle.hera_meaning.specs.Hosts.{Hosts}
-use Rattle.hera_machine.specs.Descends.{left}
+use Rattle.hera_steps.specs.Descends.{left}
 use Rattle.hera_machine.specs.Over.{state_over}
 use Rattle.hera_sessions.specs.Sessions.{Task}
 use Rattle.hera_sessions.specs.Weaving.{Stage, waiting, running, closed, woven, AreTasks}

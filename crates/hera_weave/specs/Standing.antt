@@ -11,10 +11,11 @@ use Rattle.hera_code.specs.Reached.{over, exec_code, code_at, with_line}
 use Rattle.hera_code.specs.Machine.{code_step}
 use Rattle.hera_machine.specs.declared.events.Event.{Event}
 use Rattle.hera_code.specs.Scheme.{code_of}
-use Rattle.hera_machine.specs.declared.events.End.{End}
+use Rattle.hera_steps.specs.declared.events.End.{End}
 use Rattle.hera_machine.specs.declared.events.Status.TheVariants.{Working}
 use Rattle.hera_machine.specs.Over.{state_over}
-use Rattle.hera_machine.specs.Standing.{machine_over, stop_of, event_over, status_by, WaitsBy}
+use Rattle.hera_machine.specs.Standing.{machine_over, event_over, status_by, WaitsBy}
+use Rattle.hera_steps.specs.Telling.{stop_of}
 use Rattle.hera_sessions.specs.Agreeing.{deltas_of}
 use Rattle.hera_sessions.specs.Sessions.{Task}
 use Rattle.hera_sessions.specs.Weaving.{Outcome, committed, read, conflicted, conflict_text}

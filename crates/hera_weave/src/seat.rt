@@ -9,7 +9,7 @@ ghost use Rattle.hera_meaning.specs.Fits.{is_delta_of};
 ghost use Rattle.hera_host.specs.Tables.{specs_of};
 ghost use Rattle.hera_code.specs.Forward.{Forward};
 ghost use Rattle.hera_code.specs.Reached.{start_of};
-ghost use Rattle.hera_machine.specs.Descends.{left};
+ghost use Rattle.hera_steps.specs.Descends.{left};
 ghost use Rattle.hera_machine.specs.Over.{state_over};
 ghost use Rattle.hera_machine.specs.Standing.{machine_over, IsLess, WaitsBy};
 ghost use Rattle.hera_sessions.specs.Sessions.{Task};

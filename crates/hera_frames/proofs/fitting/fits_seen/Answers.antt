@@ -1,5 +1,5 @@
 use Rattle.std.proofs.Common.{◌∙◌, subst}
-use Rattle.hera_frames.specs.Seeing.{rows_seen}
+use Rattle.hera_reads.specs.Seeing.{rows_seen}
 use Rattle.hera_frames.specs.Kinds.{PassAlike}
 use Rattle.hera_frames.proofs.Alike.{fit_alike}
 use Rattle.hera_frames.proofs.fitting.fits_seen.Goals as goal

@@ -1,9 +1,10 @@
 use Rattle.std.proofs.Common.{◌+◌, ◌≡◌, ◌∙◌, Option, ap, sym, subst, arith}
 use Rattle.std.specs.Prelude.{MatchOption}
 use Rattle.std.specs.Vec.{vec_len, vec_capacity}
-use Rattle.hera_frames.specs.declared.values.Datum.{Datum}
+use Rattle.hera_values.specs.declared.values.Datum.{Datum}
 use Rattle.hera_frames.specs.declared.operands.Operand.{Operand}
-use Rattle.hera_frames.specs.Items.{item_of, held, plain_of, collected, IsHeld}
+use Rattle.hera_frames.specs.Items.{item_of, held, collected, IsHeld}
+use Rattle.hera_values.specs.Little.{plain_of}
 use Rattle.hera_frames.proofs.Settled.{IsCollecting, collecting_put, collecting_skip, collecting_end}
 use Rattle.hera_frames.proofs.operands.collect_all.Goals.{in-Some, in_default}
 use Rattle.hera_frames.proofs.operands.collect_all.Goals as goal

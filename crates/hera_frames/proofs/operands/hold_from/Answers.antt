@@ -1,9 +1,10 @@
 use Rattle.std.proofs.Common.{◌+◌, ◌-◌, ◌≡◌, ◌∙◌, Option, ap, sym, subst, arith}
 use Rattle.std.specs.Prelude.{MatchOption}
 use Rattle.std.specs.Vec.{vec_len, vec_capacity}
-use Rattle.hera_frames.specs.declared.values.Datum.{Datum}
+use Rattle.hera_values.specs.declared.values.Datum.{Datum}
 use Rattle.hera_frames.specs.declared.operands.Operand.{Operand}
-use Rattle.hera_frames.specs.Items.{item_of, held, plain_of, collected, reach_of, IsHeld}
+use Rattle.hera_frames.specs.Items.{item_of, held, collected, reach_of, IsHeld}
+use Rattle.hera_values.specs.Little.{plain_of}
 use Rattle.hera_frames.proofs.Holding.{IsHolding, holding_put, holding_skip, holding_end, has_value, same_collected}
 use Rattle.hera_frames.proofs.operands.hold_from.Goals.{in-Some, in_default}
 use Rattle.hera_frames.proofs.operands.hold_from.Goals as goal

@@ -3,8 +3,8 @@ use Rattle.std.specs.Prelude.{IfOk}
 use Rattle.hera_sets.proofs.Lists.{filter_past_none}
 use Rattle.hera_meaning.specs.Deltas.{rows_at}
 use Rattle.hera_meaning.specs.Values.{Value, table}
-use Rattle.hera_frames.specs.Branched.{seen_at}
-use Rattle.hera_frames.specs.Items.{plain_of}
+use Rattle.hera_reads.specs.Branched.{seen_at}
+use Rattle.hera_values.specs.Little.{plain_of}
 use Rattle.hera_frames.proofs.operands.named_rows.Goals as goal
 
 pub returns : goal.returns

@@ -1,5 +1,5 @@
 use Rattle.std.proofs.Common.{◌∙◌, sym, subst, arith}
-use Rattle.hera_frames.specs.Walking.{AreGiven}
+use Rattle.hera_reads.specs.Walking.{AreGiven}
 use Rattle.hera_frames.proofs.Settled.{given_more, given_end, unnamed}
 use Rattle.hera_frames.proofs.settling.any_named.Goals as goal
 

@@ -1,6 +1,6 @@
 use Rattle.std.proofs.Common.{take}
-use Rattle.hera_prims.specs.Newest.{newest}
-use Rattle.hera_frames.specs.Walking.{AreGiven}
+use Rattle.hera_fits.specs.Newest.{newest}
+use Rattle.hera_reads.specs.Walking.{AreGiven}
 use Rattle.hera_frames.proofs.settling.any_named.Given as goal
 
 abbrev pub invariant-loop-walk : goal.invariant-loop-walk

@@ -1,5 +1,5 @@
 use Rattle.std.proofs.Common.{◌∙◌, min, sym, ap, arith}
-use Rattle.hera_frames.specs.Walking.{walks_reach}
+use Rattle.hera_reads.specs.Walking.{walks_reach}
 use Rattle.hera_frames.proofs.Settled.{paces_more, paces_end}
 use Rattle.hera_frames.proofs.settling.reach_of.Goals as goal
 

@@ -1,5 +1,5 @@
 use Rattle.std.proofs.Common.{◌≡◌, length, map}
-use Rattle.hera_frames.specs.Walking.{settled}
+use Rattle.hera_reads.specs.Walking.{settled}
 use Rattle.hera_frames.specs.Waiting.{poured}
 use Rattle.hera_frames.proofs.settling.settle_into.Given as goal
 

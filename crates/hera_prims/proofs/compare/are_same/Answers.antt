@@ -1,7 +1,7 @@
 use Rattle.std.proofs.Common.{sym, ap, ◌∙◌}
 use Rattle.hera_meaning.specs.Values.{operand, same_value}
 use Rattle.delta_atoms.specs.Plain.{value_of}
-use Rattle.hera_prims.proofs.Operands.{operand_some}
+use Rattle.hera_fits.proofs.Operands.{operand_some}
 use Rattle.hera_prims.proofs.compare.are_same.Goals as goal
 
 pub returns-in-Some-get : goal.returns-in-Some-get

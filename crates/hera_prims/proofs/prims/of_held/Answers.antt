@@ -4,7 +4,7 @@ use Rattle.hera_meaning.specs.Values.{Value, rows_in, operand}
 use Rattle.hera_meaning.specs.Fits.{fits_of}
 use Rattle.hera_meaning.specs.Primitives.{prim_of}
 use Rattle.hera_prims.specs.Answered.{IsAnswer}
-use Rattle.hera_prims.specs.Tables.{tables}
+use Rattle.hera_fits.specs.Tables.{tables}
 use Rattle.hera_prims.proofs.Named.{held_tables, asks_relational, fitting_given}
 use Rattle.hera_prims.proofs.prims.of_held.Goals as goal
 

@@ -4,7 +4,7 @@ use Rattle.hera_meaning.specs.Values.{Value, delta_in}
 use Rattle.hera_meaning.specs.Primitives.{read_delta}
 use Rattle.delta_atoms.specs.Plain.{value_of}
 use Rattle.hera_prims.specs.Answered.{IsAnswer}
-use Rattle.hera_prims.proofs.Operands.{operand_some}
+use Rattle.hera_fits.proofs.Operands.{operand_some}
 use Rattle.hera_prims.proofs.sets.ins.Goals as goal
 
 pub returns-in-Some : goal.returns-in-Some

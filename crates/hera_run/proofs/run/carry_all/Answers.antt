@@ -13,7 +13,7 @@ use Rattle.hera_machine.specs.declared.events.Event.TheVariants as events
 use Rattle.hera_machine.specs.Over.{state_over}
 use Rattle.hera_machine.proofs.Counted.{counted_same, counted_quiet, counted_out, counted_commit}
 use Rattle.hera_machine.specs.Standing.{Standing, machine_over, commit_over, WaitsBy}
-use Rattle.hera_machine.specs.Descends.{left}
+use Rattle.hera_steps.specs.Descends.{left}
 use Rattle.rel_pages.specs.Stored.{Stored}
 use Rattle.hera_volume.specs.Time.{LeavesOnly}
 use Rattle.hera_volume.proofs.Moments.{leaves-none, leaves-on}

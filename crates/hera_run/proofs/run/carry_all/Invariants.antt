@@ -5,7 +5,7 @@ use Rattle.hera_meaning.specs.Worlds.{Event}
 use Rattle.hera_meaning.specs.Run.{printed}
 use Rattle.hera_code.specs.Reached.{stores}
 use Rattle.hera_host.specs.Tables.{specs_of}
-use Rattle.hera_machine.specs.Descends.{left}
+use Rattle.hera_steps.specs.Descends.{left}
 use Rattle.hera_machine.specs.Counted.{AreCountsOver}
 use Rattle.hera_volume.specs.Time.{LeavesOnly}
 use Rattle.hera_volume.specs.declared.file_id.FileId.{FileId}

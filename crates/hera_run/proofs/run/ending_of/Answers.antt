@@ -1,6 +1,6 @@
 use Rattle.std.proofs.Common.{◌≡◌, ap, sym, ◌∙◌}
-use Rattle.hera_machine.specs.declared.events.End.{End}
-use Rattle.hera_machine.specs.Standing.{stop_of}
+use Rattle.hera_steps.specs.declared.events.End.{End}
+use Rattle.hera_steps.specs.Telling.{stop_of}
 use Rattle.hera_run.specs.declared.run.Close.TheVariants.{Ends}
 use Rattle.hera_run.proofs.run.ending_of.Goals as goal
 

@@ -1,8 +1,8 @@
 use Rattle.std.proofs.Common.{[], ◌∙◌, Some, ap, sym, arith}
 use Rattle.hera_code.specs.Machine.{as_table}
-use Rattle.hera_frames.specs.Branched.{pending_of, under, seen_at}
+use Rattle.hera_reads.specs.Branched.{pending_of, under, seen_at}
 use Rattle.hera_frames.specs.Items.{item_of, value_at}
-use Rattle.hera_frames.proofs.Naming.{rows_got, rows_none, read-length}
+use Rattle.hera_reads.proofs.Naming.{rows_got, rows_none, read-length}
 use Rattle.hera_frames.proofs.operands.Operand.seen.Goals as goal
 
 pub returns-then-from-len : goal.returns-then-from-len

@@ -1,5 +1,5 @@
 use Rattle.std.proofs.Common.{take}
-use Rattle.hera_prims.specs.Newest.{newest}
+use Rattle.hera_fits.specs.Newest.{newest}
 use Rattle.hera_frames.specs.Items.{item_of, AreHeld}
 use Rattle.hera_frames.proofs.operands.Operands.has_names.Given as goal
 

@@ -1,6 +1,6 @@
 use Rattle.std.proofs.Common.{◌≡◌, ◌-◌, ap, take, length, subst, arith}
-use Rattle.hera_prims.specs.Newest.{newest}
-use Rattle.hera_prims.proofs.Stacks.{newest_length}
+use Rattle.hera_fits.specs.Newest.{newest}
+use Rattle.hera_fits.proofs.Stacks.{newest_length}
 use Rattle.std.specs.Prelude.{OnOk}
 use Rattle.std.specs.Vec.{vec_len}
 use Rattle.hera_frames.specs.Items.{Shelf, item_of, AreHeld}

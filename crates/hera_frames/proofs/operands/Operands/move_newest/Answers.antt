@@ -1,5 +1,6 @@
 use Rattle.std.proofs.Common.{◌≡◌, ◌∙◌, ◌∷◌, drop, map, sym, ap, arith}
-use Rattle.hera_frames.specs.Items.{plain_of, held}
+use Rattle.hera_values.specs.Little.{plain_of}
+use Rattle.hera_frames.specs.Items.{held}
 use Rattle.hera_frames.proofs.Moved.{next_held, moved_more, moved_rest}
 use Rattle.hera_frames.proofs.operands.Operands.move_newest.Goals as goal
 

@@ -1,6 +1,7 @@
 use Rattle.std.proofs.Common.{◌≡◌, ◌+◌, ◌++◌, map, take, drop}
 use Rattle.std.specs.Vec.{vec_len, vec_capacity}
-use Rattle.hera_frames.specs.Items.{plain_of, held_in}
+use Rattle.hera_values.specs.Little.{plain_of}
+use Rattle.hera_frames.specs.Items.{held_in}
 use Rattle.hera_frames.proofs.operands.Operands.move_newest.Given as goal
 
 abbrev pub invariant-loop : goal.invariant-loop

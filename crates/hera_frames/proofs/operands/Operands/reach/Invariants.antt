@@ -1,5 +1,5 @@
 use Rattle.std.proofs.Common.{◌≡◌, take, min}
-use Rattle.hera_prims.specs.Newest.{newest}
+use Rattle.hera_fits.specs.Newest.{newest}
 use Rattle.hera_frames.specs.Items.{item_of, reach}
 use Rattle.hera_frames.proofs.operands.Operands.reach.Given as goal
 

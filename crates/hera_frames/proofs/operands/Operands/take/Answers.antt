@@ -1,8 +1,9 @@
 use Rattle.std.proofs.Common.{◌≡◌, ◌∷◌, [], ◌∙◌, ◌-◌, ◌+◌, Option, sym, ap, subst, arith}
 use Rattle.std.specs.Prelude.{MatchOption}
 use Rattle.hera_code.specs.Machine.{taken}
-use Rattle.hera_frames.specs.declared.values.Datum.{Datum}
-use Rattle.hera_frames.specs.Items.{plain_of, operands_at}
+use Rattle.hera_values.specs.declared.values.Datum.{Datum}
+use Rattle.hera_values.specs.Little.{plain_of}
+use Rattle.hera_frames.specs.Items.{operands_at}
 use Rattle.hera_frames.proofs.Taking.{taken_next}
 use Rattle.hera_frames.proofs.operands.Operands.take.Goals as goal
 

@@ -2,11 +2,11 @@ use Rattle.std.proofs.Common.{◌≤◌, [], List, length, ap, sym, subst}
 use Rattle.when_overlay.specs.declared.layers.Layer.{Layer}
 use Rattle.hera_meaning.specs.Deltas.{apply_of}
 use Rattle.hera_code.specs.Forward.{Forward}
-use Rattle.hera_frames.specs.Branched.{pending_of}
-use Rattle.hera_frames.specs.Counted.{AreCounts}
-use Rattle.hera_machine.specs.Descends.{left}
+use Rattle.hera_reads.specs.Branched.{pending_of}
+use Rattle.hera_reads.specs.Counted.{AreCounts}
+use Rattle.hera_steps.specs.Descends.{left}
 use Rattle.hera_machine.specs.Standing.{Standing}
-use Rattle.hera_machine.specs.Working.{machine_at}
+use Rattle.hera_steps.specs.Working.{machine_at}
 use Rattle.hera_machine.proofs.Quietly.{quietly_of}
 use Rattle.hera_machine.proofs.machine.Machine.count.Goals as goal
 
@@ -21,7 +21,7 @@ returns-in-Working-clause-quietly c = λ works hosts.
 pub returns-in-Working-clause-less : goal.returns-in-Working-clause-less
 returns-in-Working-clause-less c = λ forward.
     let less = c.count.ensures.less (subst (λ (x : Standing). Forward x.code) (sym c.self.view_is) forward) in
-    subst (λ (x : Standing). left (length x.code.instrs) (machine_at [] c.count.new.self) ≤ left (length x.code.instrs) x.state) c.self.view_is less
+    subst (λ (x : Standing). left (length x.code.instrs) (machine_at [] c.count.new.work) ≤ left (length x.code.instrs) x.state) c.self.view_is less
 
 pub returns-in-Working-clause-counted : goal.returns-in-Working-clause-counted
 returns-in-Working-clause-counted c =

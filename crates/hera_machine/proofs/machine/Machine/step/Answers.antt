@@ -1,7 +1,7 @@
 use Rattle.hera_host.specs.Tables.{specs_of}
 use Rattle.hera_machine.specs.Over.{state_over}
-use Rattle.hera_machine.specs.Telling.{step_at}
-use Rattle.hera_machine.specs.declared.events.Told.TheVariants as tells
+use Rattle.hera_steps.specs.Telling.{step_at}
+use Rattle.hera_steps.specs.declared.events.Told.TheVariants as tells
 use Rattle.hera_machine.proofs.Advancing.{stepped}
 use Rattle.hera_machine.proofs.machine.Machine.step.Goals as goal
 

@@ -5,7 +5,7 @@ use Rattle.hera_meaning.specs.Fits.{is_delta_of}
 use Rattle.hera_host.specs.Tables.{specs_of}
 use Rattle.hera_machine.specs.Over.{state_over}
 use Rattle.hera_code.specs.Machine.{Machine}
-use Rattle.hera_machine.specs.Descends.{left}
+use Rattle.hera_steps.specs.Descends.{left}
 use Rattle.hera_machine.specs.Standing.{Standing, IsLess, WaitsBy}
 use Rattle.hera_machine.specs.declared.events.Event.TheVariants.{Out}
 use Rattle.hera_weave.specs.Standing.{Commits, Executed, given_of}

@@ -1,0 +1,5 @@
+pub mod Stacks
+pub mod Operands
+pub mod Tested
+pub mod Meetings
+pub mod PlaceTests

@@ -1,0 +1,4 @@
+pub mod Newest
+pub mod Wanted
+pub mod Tables
+pub mod Joins

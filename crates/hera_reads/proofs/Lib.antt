@@ -1,0 +1,9 @@
+pub mod Drops
+pub mod Naming
+pub mod Branching
+pub mod Known
+pub mod Tops
+pub mod Gathering
+pub mod Goings
+pub mod Collecting
+pub mod Counting

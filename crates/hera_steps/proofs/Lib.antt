@@ -1,0 +1,12 @@
+pub mod Lowered
+pub mod Nearing
+pub mod Changing
+pub mod Instructing
+pub mod Relating
+pub mod Answering
+pub mod Walked
+pub mod Calling
+pub mod Smashed
+pub mod Storing
+pub mod Sights
+pub mod Parting
