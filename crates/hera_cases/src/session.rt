@@ -1,6 +1,6 @@
 ghost use Rattle.std.specs.Prelude.{◌≡◌, IfOk, length};
 
-use crate::case::Case;
+use crate::case::{Case, Shown};
 use crate::trials::{Trials, write_file};
 use hera_causes::MemSource;
 use hera_meaning::Scalar;
@@ -15,6 +15,8 @@ use std::io::{self, ErrorKind};
 pub(crate) struct Session {
     folder: String,
     outside: MemOutside,
+    /// How many bytes were emitted before the last call.
+    before: usize,
 }
 
 impl Session {
@@ -23,6 +25,7 @@ impl Session {
         Ok(Session {
             folder: String::from_str(alloc, folder)?,
             outside: MemOutside::new(alloc, Vec::new(alloc), None, Vec::new(alloc)),
+            before: 0,
         })
     }
 
@@ -41,7 +44,13 @@ impl Session {
         words: &Vec<String>,
         case: &Case,
     ) -> Result<Vec<u8>, AllocError> {
-        report_of(alloc, words, &case.before, &case.script, &mut self.outside)
+        self.before = self.outside.bytes().len();
+        report_of(alloc, words, case, &mut self.outside)
+    }
+
+    /// What the last call emitted.
+    pub(crate) fn emitted(&self) -> &[u8] {
+        self.outside.bytes().get(self.before..).unwrap_or(b"")
     }
 
     /// Gives a file the bytes of a line `FILE HEX`, or cuts it by one `cut FILE LENGTH`.
@@ -82,8 +91,9 @@ impl Session {
     ) -> io::Result<Vec<u8>> {
         let dump = words_in(alloc, &["dump", self.folder.as_str()])?;
         let mut outside = trials.copy_of(alloc, &self.outside, number)?;
-        let mut report = report_of(alloc, words, &case.before, &case.script, &mut outside)?;
-        let found = report_of(alloc, &dump, &[], b"", &mut outside.crash(trials.fill))?;
+        let mut report = report_of(alloc, words, case, &mut outside)?;
+        let blank = Case::new(alloc, "")?;
+        let found = report_of(alloc, &dump, &blank, &mut outside.crash(trials.fill))?;
         report.extend_from_slice(&found)?;
         Ok(report)
     }
@@ -122,7 +132,7 @@ fn words_in(alloc: Global, line: &[&str]) -> Result<Vec<String>, AllocError> {
 }
 
 /// The bytes of hexadecimal digits, with blanks between the bytes.
-fn bytes_of(alloc: Global, digits: &str) -> io::Result<Vec<u8>> {
+pub(crate) fn bytes_of(alloc: Global, digits: &str) -> io::Result<Vec<u8>> {
     let mut bytes = Vec::new(alloc);
     for part in digits.split(' ') {
         match hex::decode(alloc, part) {
@@ -162,16 +172,15 @@ fn sources_of(
     Ok(sources)
 }
 
-/// Calls with these words, and gives what was emitted and a line with the status.
+/// Calls with these words, and gives what was emitted, as the case wants it, and a line with the status.
 fn report_of(
     alloc: Global,
     words: &Vec<String>,
-    before: &[Vec<u8>],
-    script: &[u8],
+    case: &Case,
     outside: &mut MemOutside,
 ) -> Result<Vec<u8>, AllocError> {
     let (first, last) = files_of(words);
-    let mut sources = sources_of(alloc, before, script, last - first)?;
+    let mut sources = sources_of(alloc, &case.before, &case.script, last - first)?;
     let hosts = program_hosts(
         alloc,
         Box::new(alloc, |arg: &Scalar| band(arg))?,
@@ -181,8 +190,21 @@ fn report_of(
     )?;
     let before = outside.bytes().len();
     let status = hera(alloc, words, &mut sources, outside, &hosts);
-    let mut report = outside.bytes().get(before..).unwrap_or(b"").to_vec(alloc)?;
+    let emitted = outside.bytes().get(before..).unwrap_or(b"");
+    let mut report = printed(alloc, emitted, case.shown)?;
     let line = format!(in alloc; "-- {status}\n")?;
     report.extend_from_slice(line.as_bytes())?;
     Ok(report)
+}
+
+/// What is printed of bytes: as they are, in hexadecimal digits on a line, or nothing.
+fn printed(alloc: Global, bytes: &[u8], shown: Shown) -> Result<Vec<u8>, AllocError> {
+    match shown {
+        Shown::AsItIs => bytes.to_vec(alloc),
+        Shown::InHex => {
+            let digits = hex::encode(alloc, bytes)?;
+            Ok(format!(in alloc; "{digits}\n")?.into_bytes())
+        }
+        Shown::NotAtAll => Ok(Vec::new(alloc)),
+    }
 }

@@ -92,7 +92,7 @@ delta_of_schemas : (rels : List RelDecl) (d : Delta) → IsDeltaIn rels d → Is
 delta_of_schemas rels fail h = tt
 delta_of_schemas rels (atoms xs) h = All-from_recursion (IsAtomOf rels) xs (atoms_of_schemas rels xs h.atoms_are)
 
-stores_of_schemas : (rels : List RelDecl) (es : List Event) → AreFine rels es → AreStoresOf rels es
+pub stores_of_schemas : (rels : List RelDecl) (es : List Event) → AreFine rels es → AreStoresOf rels es
 stores_of_schemas rels [] h = tt
 stores_of_schemas rels (out bytes ∷ es) h = stores_of_schemas rels es h
 stores_of_schemas rels (store s d ∷ es) h = ((state_of_schemas rels s h.0.0, delta_ordered rels d h.0.1, delta_of_schemas rels d h.0.1, h.0.2), stores_of_schemas rels es h.1)

@@ -3,8 +3,6 @@ pub mod Stacking
 pub mod Plainly
 pub mod Moving
 pub mod Walking
-pub mod Tested
-pub mod PlaceTests
 pub mod Operating
 pub mod Effecting
 pub mod Cutting

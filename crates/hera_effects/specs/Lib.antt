@@ -2,5 +2,4 @@ pub mod Flat
 pub mod Stacked
 pub mod Ways
 pub mod Plain
-pub mod Joins
 pub mod Operations

@@ -5,7 +5,6 @@ mod cuts;
 mod effects;
 mod forms;
 mod moves;
-mod places;
 mod placing;
 mod plain;
 mod prims;

@@ -2,7 +2,6 @@
 ghost use Rattle.std.specs.Prelude.{◌≡◌, ◌&&◌, ◌∷◌, [], IfOk, List, map, nat_le, nat_lt, length};
 ghost use Rattle.hera_meaning.specs.Schemas.{names_of};
 ghost use Rattle.hera_meaning.specs.Forms.{of_scalar, of_tuple, of_table, kinds_of, project_kinds, group_kinds, join_kinds};
-ghost use Rattle.hera_meaning.specs.Fits.{arity};
 ghost use Rattle.hera_typed.specs.Points.{with, when};
 ghost use Rattle.hera_typed.specs.Effects.{is_width, is_apart};
 ghost use Rattle.hera_effects.specs.Flat.{flat_form};
@@ -13,32 +12,6 @@ use crate::forms::{FlatForm, FlatSeen, group_kinds, join_kinds, kind_at, kinds_o
 use crate::moves::{agrees, is_table};
 use hera_meaning::{Agg, Kind, Op, RelDecl, RelId, Schema};
 use std::alloc::{AllocError, Global};
-
-/// How many operands the operation takes.
-pub(crate) fn arity(op: &Op) -> usize
-    ensures { result ≡ arity op.now }
-{
-    match op {
-        Op::Neg => 1,
-        Op::Not => 1,
-        Op::Field(_, _) => 1,
-        Op::MakeRow(schema) => schema.len(),
-        Op::MakeRel(n) => *n as usize,
-        Op::Project(_, _) => 1,
-        Op::Group(_, _, _) => 1,
-        Op::Count => 1,
-        Op::Empty => 1,
-        Op::Sum(_, _) => 1,
-        Op::Min(_, _) => 1,
-        Op::Max(_, _) => 1,
-        Op::Atom(_, _) => 1,
-        Op::Bulk(_, _) => 1,
-        Op::Ins(_) => 1,
-        Op::Del(_) => 1,
-        Op::IsFail => 1,
-        _ => 2,
-    }
-}
 
 /// One operand of a form.
 fn takes_one(args: &[FlatSeen], form: FlatForm, given: FlatForm) -> Option<FlatSeen>
@@ -132,6 +105,7 @@ fn found(a: FlatSeen, b: FlatSeen) -> Option<FlatSeen>
     }
 }
 
+/// Whether a relation of its kinds has the tuple: a bool.
 fn finds(args: &[FlatSeen]) -> Option<FlatSeen>
     ensures { result ≡ with (two_of args.now) (λ p. flat_found p.0 p.1) }
 {
@@ -160,6 +134,7 @@ fn combined(a: FlatSeen, b: FlatSeen) -> Option<FlatSeen>
     }
 }
 
+/// A relation made of two of the same kinds.
 fn combines(args: &[FlatSeen]) -> Option<FlatSeen>
     ensures { result ≡ with (two_of args.now) (λ p. flat_combined p.0 p.1) }
 {
@@ -180,6 +155,7 @@ fn counted(seen: FlatSeen, given: FlatForm) -> Option<FlatSeen>
     }
 }
 
+/// What is told of a relation, whichever.
 fn counts(args: &[FlatSeen], given: FlatForm) -> Option<FlatSeen>
     ensures { result ≡ with (one_of args.now) (flat_counted given) }
 {
@@ -257,6 +233,7 @@ fn is_width(count: usize) -> bool
     1 <= count && count <= 16
 }
 
+/// The fields at these places of each tuple of a relation of the schema.
 fn projects(
     args: &[FlatSeen],
     schema: &Schema,
@@ -274,6 +251,7 @@ fn projects(
     )
 }
 
+/// The fields of each key and its aggregates, over a relation of the schema.
 fn groups(
     args: &[FlatSeen],
     schema: &Schema,
@@ -292,6 +270,7 @@ fn groups(
     )
 }
 
+/// A relation of each schema, and their join. No two attributes of the right one may have one name.
 fn joins(args: &[FlatSeen], left: &Schema, right: &Schema) -> Result<Option<FlatSeen>, AllocError>
     ensures { IfOk result (λ r. r ≡ when (is_apart (names_of right.now)) (flat_two (flat_form (of_table (kinds_of left.now))) (flat_form (of_table (kinds_of right.now))) (flat_form (of_table (join_kinds left.now right.now))) args.now)) }
 {

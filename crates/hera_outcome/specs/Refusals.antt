@@ -5,7 +5,7 @@ use Rattle.hera_script.specs.Labels as script
 use Rattle.hera_volume.specs.declared.file_id.FileId.{FileId}
 use Rattle.hera_volume.specs.declared.file_id.FileId.TheVariants.{Select, Left, Right}
 use Rattle.hera_outcome.specs.declared.refusal.Refusal.{Refusal}
-use Rattle.hera_outcome.specs.declared.refusal.Refusal.TheVariants.{Usage, Unread, Script, Exists, NoDatabase, Damaged, Differing, Narrows, NoRelation, Record}
+use Rattle.hera_outcome.specs.declared.refusal.Refusal.TheVariants.{Usage, Unread, Script, Exists, NoDatabase, Damaged, Differing, Narrows, NoRelation, Record, BadCode, Rejected}
 
 -- how the line of damage in a file begins
 abbrev pub label_of : FileId → List ℕ
@@ -24,6 +24,8 @@ line_of (Differing name) = codes "differs " ++ name ++ codes "\n"
 line_of (Narrows name) = codes "narrows " ++ name ++ codes "\n"
 line_of NoRelation = codes "no relation\n"
 line_of (Record number) = end_text (codes "refused Record") number
+line_of (BadCode at) = end_text (codes "refused BadCode") at
+line_of (Rejected at) = end_text (codes "refused Rejected") at
 
 abbrev pub status_of_refusal : Refusal → ℕ
 status_of_refusal Usage = 2
@@ -36,3 +38,5 @@ status_of_refusal (Differing name) = 5
 status_of_refusal (Narrows name) = 5
 status_of_refusal NoRelation = 5
 status_of_refusal (Record number) = 3
+status_of_refusal (BadCode at) = 3
+status_of_refusal (Rejected at) = 3

@@ -31,6 +31,10 @@ pub enum Refusal {
     NoRelation,
     /// The record of this number, from 1, is not good for the relation; or 1 where there is no record.
     Record { number: u64 },
+    /// The first field of a code file that breaks its rule begins at this byte; or the first byte behind its last instruction.
+    BadCode { at: u64 },
+    /// The least address of a code file up to which its code is not typed.
+    Rejected { at: u32 },
 }
 
 impl Refusal {
@@ -40,7 +44,10 @@ impl Refusal {
     {
         match self {
             Refusal::Usage => 2,
-            Refusal::Script { .. } | Refusal::Record { .. } => 3,
+            Refusal::Script { .. }
+            | Refusal::Record { .. }
+            | Refusal::BadCode { .. }
+            | Refusal::Rejected { .. } => 3,
             Refusal::Exists
             | Refusal::NoDatabase
             | Refusal::Damaged { .. }
@@ -66,6 +73,8 @@ impl Refusal {
             Refusal::Narrows { relation } => named_line(alloc, b"narrows ", relation),
             Refusal::NoRelation => plain(alloc, b"no relation\n"),
             Refusal::Record { number } => end_line(alloc, "refused Record", *number),
+            Refusal::BadCode { at } => end_line(alloc, "refused BadCode", *at),
+            Refusal::Rejected { at } => end_line(alloc, "refused Rejected", u64::from(*at)),
         }
     }
 }

@@ -10,4 +10,4 @@ mod program;
 pub use accepted::{a_script_has_one_program, accepted_programs_are_sound};
 pub use cause::Cause;
 pub use laws::a_script_has_one_answer;
-pub use program::{ScriptFault, read_program};
+pub use program::{ScriptFault, read_program, read_script};

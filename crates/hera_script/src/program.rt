@@ -1,4 +1,4 @@
-ghost use Rattle.std.specs.Prelude.{◌≡◌, ◌≤◌, ℕ, length, Err, Some, None, IfOk, slice_get};
+ghost use Rattle.std.specs.Prelude.{◌≡◌, ◌≤◌, ℕ, List, length, Err, Some, None, IfOk, slice_get};
 ghost use Rattle.hera_meaning.specs.Plain.{program_of};
 ghost use Rattle.hera_meaning.specs.Sound.{Sound};
 ghost use Rattle.hera_host.specs.Tables.{specs_of};
@@ -6,8 +6,11 @@ ghost use Rattle.hera_syntax.specs.Trees.{IsTextOf};
 ghost use Rattle.hera_script.specs.Faults.{IsUnreadable};
 ghost use Rattle.hera_script.specs.declared.cause.Cause.{Cause};
 ghost use Rattle.hera_rules.specs.Accepted.{Accepted};
+ghost use Rattle.hera_rules.specs.Programs.{ElabScript};
+ghost use Rattle.hera_rules.specs.ReadActs.{script_of};
 ghost use Rattle.hera_script.specs.Refusing.{IsRefused, offset_or};
-ghost use Rattle.hera_syntax.specs.Tokens.{script_limit};
+ghost use Rattle.hera_syntax.specs.declared.token.Token.{Token};
+ghost use Rattle.hera_syntax.specs.Tokens.{HaveValues, script_limit};
 
 use crate::cause::Cause;
 use hera_host::HostTable;
@@ -100,15 +103,38 @@ fn tree_of(alloc: Global, tokens: &Tokens) -> Result<Tree, ScriptFault>
     }
 }
 
-/// The program of a script that may call these hosts, which is sound, or why it is refused: BadUtf8, BadToken,
-/// TooDeep and Syntax are looked for in this order, and then the first fault of types in the order of checking.
+/// The tree of a script that may call these hosts, and its program, which is sound, or why it is refused: BadUtf8,
+/// BadToken, TooDeep and Syntax are looked for in this order, and then the first fault of types in the order of checking.
+pub fn read_script(
+    alloc: Global,
+    script: &[u8],
+    hosts: &HostTable,
+) -> Result<(Tree, Program), ScriptFault>
+    requires { length script.now ≤ script_limit }
+    ensures accepted { IfOk result (λ read. Accepted script.now hosts.now.names (program_of read.1)) }
+    ensures sound { IfOk result (λ read. Sound (program_of read.1) (specs_of hosts.now.names)) }
+    ensures text { IfOk result (λ read. (tokens : List Token) × IsTextOf read.0 tokens × (length tokens ≤ script_limit) × HaveValues tokens) }
+    ensures typed { IfOk result (λ read. ElabScript hosts.now.names (script_of read.0) (program_of read.1)) }
+    ensures refused { (cause : Cause) (at : ℕ) → result ≡ Err (ScriptFault.Refused cause at) → IsRefused hosts.now.names script.now cause at }
+{
+    let tokens = lex(alloc, script)?;
+    let tree = tree_of(alloc, &tokens)?;
+    let program = elaborate(alloc, &tree, hosts)?;
+    Ok((tree, program))
+}
+
+/// The program of a script that may call these hosts, which is sound, or why it is refused, as `read_script` says.
 pub fn read_program(alloc: Global, script: &[u8], hosts: &HostTable) -> Result<Program, ScriptFault>
     requires { length script.now ≤ script_limit }
     ensures accepted { IfOk result (λ program. Accepted script.now hosts.now.names (program_of program)) }
     ensures sound { IfOk result (λ program. Sound (program_of program) (specs_of hosts.now.names)) }
     ensures refused { (cause : Cause) (at : ℕ) → result ≡ Err (ScriptFault.Refused cause at) → IsRefused hosts.now.names script.now cause at }
 {
-    let tokens = lex(alloc, script)?;
-    let tree = tree_of(alloc, &tokens)?;
-    Ok(elaborate(alloc, &tree, hosts)?)
+    match read_script(alloc, script, hosts) {
+        Ok((tree, program)) => {
+            drop(tree);
+            Ok(program)
+        }
+        Err(fault) => Err(fault),
+    }
 }

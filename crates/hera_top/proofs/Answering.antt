@@ -19,7 +19,7 @@ use Rattle.hera_outcome.specs.Told.{IsTold, Tells, Answered}
 use Rattle.hera_outcome.proofs.Passing.{answered_weaker, told_on}
 use Rattle.hera_run.specs.Folder.{RunsTo}
 use Rattle.hera_words.specs.declared.command.Command.{Command}
-use Rattle.hera_words.specs.declared.command.Command.TheVariants.{Check, List as list_command, Eval, Drill, Init, Run, Dump, Checkpoint, Widen, Import, Export, Guard, Weave}
+use Rattle.hera_words.specs.declared.command.Command.TheVariants.{Check, List as list_command, Eval, Pack, Exec, Drill, Init, Run, Dump, Checkpoint, Widen, Import, Export, Guard, Weave}
 use Rattle.hera_words.specs.Words.{form_of, files_in, folder_in}
 use Rattle.hera_top.specs.Commands.{Performs, makes, widens, runs, IsMade, IsWidened, ReadsScript, OfScript, ComesTo, Answers, tells, fails, IsAnswered}
 use Rattle.hera_top.specs.Sources.{Seen, seen, seen_of, AreStill, AreLater, OneFailed}
@@ -49,6 +49,8 @@ pub one_source : (command : Command) (n : ℕ) → ReadsScript command → n + (
 one_source Check n given is = omega (arith, is)
 one_source list_command n given is = omega (arith, is)
 one_source (Eval turns) n given is = omega (arith, is)
+one_source Pack n given is = absurd given
+one_source (Exec turns) n given is = absurd given
 one_source (Drill rows) n given is = absurd given
 one_source Init n given is = omega (arith, is)
 one_source (Run turns) n given is = omega (arith, is)
@@ -64,6 +66,8 @@ pub reads_files : (command : Command) → ReadsScript command → (form_of comma
 reads_files Check given none = cc (none)
 reads_files list_command given none = cc (none)
 reads_files (Eval turns) given none = cc (none)
+reads_files Pack given none = given
+reads_files (Exec turns) given none = given
 reads_files (Drill rows) given none = given
 reads_files Init given none = cc (none)
 reads_files (Run turns) given none = cc (none)
@@ -79,6 +83,8 @@ pub from_script : (hosts : List Host) (name : List ℕ) (before now : List Seen)
 from_script hosts name before now s Check o given came = came
 from_script hosts name before now s list_command o given came = came
 from_script hosts name before now s (Eval turns) o given came = came
+from_script hosts name before now s Pack o given came = absurd given
+from_script hosts name before now s (Exec turns) o given came = absurd given
 from_script hosts name before now s (Drill rows) o given came = absurd given
 from_script hosts name before now s Init o given came = came
 from_script hosts name before now s (Run turns) o given came = came
@@ -105,6 +111,19 @@ one_file command n is given =
 
 pub import_reads_files : (command : Command) → Import ≡ command → (form_of command).files ≡ 0 → ⊥
 import_reads_files command is none = (let bad : 1 ≡ 0 = ap (λ (x : Command). (form_of x).files) is ∙ none in cc (bad))
+
+pub one_pack : (command : Command) (n : ℕ) → Pack ≡ command → n + (files_in (Some command)).0 ≡ (files_in (Some command)).1 → n ≡ 1
+one_pack command n is given =
+    let here : n + (files_in (Some Pack)).0 ≡ (files_in (Some Pack)).1 = subst (λ (x : Command). n + (files_in (Some x)).0 ≡ (files_in (Some x)).1) (sym is) given in
+    omega (arith, here)
+
+pub one_exec : (turns : ℕ) (command : Command) (n : ℕ) → Exec turns ≡ command → n + (files_in (Some command)).0 ≡ (files_in (Some command)).1 → n ≡ 1
+one_exec turns command n is given =
+    let here : n + (files_in (Some (Exec turns))).0 ≡ (files_in (Some (Exec turns))).1 = subst (λ (x : Command). n + (files_in (Some x)).0 ≡ (files_in (Some x)).1) (sym is) given in
+    omega (arith, here)
+
+pub reads_some : (done command : Command) → done ≡ command → (form_of done).files ≡ 1 → (form_of command).files ≡ 0 → ⊥
+reads_some done command is some none = (let bad : 1 ≡ 0 = sym some ∙ ap (λ (x : Command). (form_of x).files) is ∙ none in cc (bad))
 
 -- no source was read
 pub unread_answered : (hosts : List Host) (name : List ℕ) (done command : Command) (sources : List Seen) (r : Result Ending Stop) (v : Passage) → done ≡ command → Answered (ComesTo hosts name sources sources (start_of v) done) r v
@@ -142,6 +161,8 @@ pub no_folder_word : (command : Command) → folder_in (Some command) ≡ None �
 no_folder_word Check is = refl
 no_folder_word list_command is = refl
 no_folder_word (Eval turns) is = refl
+no_folder_word Pack is = refl
+no_folder_word (Exec turns) is = refl
 no_folder_word (Drill rows) is = refl
 no_folder_word Init is = absurd (cc (is))
 no_folder_word Widen is = absurd (cc (is))
@@ -166,6 +187,8 @@ pub no_file_word : (command : Command) → files_in (Some command) ≡ (0, 0) �
 no_file_word Check is = absurd (some_file 0 2 is)
 no_file_word list_command is = absurd (some_file 0 2 is)
 no_file_word (Eval turns) is = absurd (some_file 1 3 is)
+no_file_word Pack is = absurd (some_file 0 2 is)
+no_file_word (Exec turns) is = absurd (some_file 1 3 is)
 no_file_word (Drill rows) is = refl
 no_file_word Init is = absurd (some_file 1 3 is)
 no_file_word Widen is = absurd (some_file 1 3 is)

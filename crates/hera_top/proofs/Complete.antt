@@ -19,19 +19,20 @@ use Rattle.hera_run.specs.Fitting.{all_fit}
 use Rattle.hera_run.specs.Folder.{outcome_from, StartsAt, runs as comes_to_run}
 use Rattle.hera_run.proofs.Fittings.{fitting-all}
 use Rattle.hera_words.specs.declared.command.Command.{Command}
-use Rattle.hera_words.specs.declared.command.Command.TheVariants.{Run}
+use Rattle.hera_words.specs.declared.command.Command.TheVariants.{Pack, Run}
 use Rattle.hera_top.specs.Commands.{ComesTo, reads, performs, runs, Answers, tells, fails}
 use Rattle.hera_top.specs.Sources.{Seen, OneFailed}
 use Rattle.hera_top.specs.Told.{HaveLeft, BeginsWith, full_sources}
 use Rattle.hera_top.proofs.OneComes.{one_comes}
 use Rattle.hera_top.proofs.OneGuarded.{OneRules, OneLines, NeverRules}
 use Rattle.hera_top.proofs.OneWoven.{OneSchedule}
+use Rattle.hera_top.proofs.OneCoded.{OneExecuted}
 use Rattle.hera_top.proofs.OneOutcome.{OneRefusal, NeverBoth, OneProgram, OneFound, OneEnd, OneVersion}
 use Rattle.hera_top.proofs.Statuses.{comes_odd}
 
 -- ---- nothing failed
 
-told_done : (outcome : Outcome) (status : ℕ) (v : Passage) → ¬ Rose v.device_before v.device_now → ¬ Rose v.output_before v.output_now → IsTold outcome status v → (status ≡ 9) ⊎ IsDone outcome status v
+pub told_done : (outcome : Outcome) (status : ℕ) (v : Passage) → ¬ Rose v.device_before v.device_now → ¬ Rose v.output_before v.output_now → IsTold outcome status v → (status ≡ 9) ⊎ IsDone outcome status v
 told_done outcome status v device output told =
     ⊎_elim (λ done. inr done)
     (λ cut. ⊎_elim (λ six. absurd (device six.1.rose)) (λ later. ⊎_elim (λ eight. absurd (output eight.1.rose)) (λ nine. inl nine.0) later) cut.cause) told.ending
@@ -48,13 +49,13 @@ full_have : (texts : List (List ℕ)) → HaveLeft texts (full_sources texts)
 full_have [] = tt
 full_have (text ∷ texts) = (refl, full_have texts)
 
-module _ (one : OneRefusal) (never : NeverBoth) (program : OneProgram) (found : OneFound) (end : OneEnd) (version : OneVersion) (rules : OneRules) (line_lists : OneLines) (both : NeverRules) (schedules : OneSchedule) (hosts : List Host) (name : List ℕ) (command : Command) (texts : List (List ℕ)) (files : FileId → List ℕ) where
+module _ (one : OneRefusal) (never : NeverBoth) (program : OneProgram) (found : OneFound) (end : OneEnd) (version : OneVersion) (rules : OneRules) (line_lists : OneLines) (both : NeverRules) (schedules : OneSchedule) (executed : OneExecuted) (hosts : List Host) (name : List ℕ) (command : Command) (texts : List (List ℕ)) (files : FileId → List ℕ) (packs_none : command ≢ Pack) where
   -- what came is what was to come
   same_outcome : (before now after : List Seen) (s : Start) (came outcome : Outcome) → BeginsWith texts files before s → ¬ OneFailed before now → ComesTo hosts name before now s command came
       → ComesTo hosts name (full_sources texts) after s command outcome → outcome ≢ refused Unread → came ≡ outcome
   same_outcome before now after s came outcome begins fine did wanted other =
-      one_comes one never program found end version rules line_lists both schedules hosts name texts files before now (full_sources texts) after s s begins
-      (record { texts_told = full_have texts; files_told = begins.files_told; reads = begins.reads }) came outcome (not_unread hosts name before now s command came fine did) other command did wanted
+      one_comes one never program found end version rules line_lists both schedules executed hosts name texts files before now (full_sources texts) after s s begins
+      (record { texts_told = full_have texts; files_told = begins.files_told; reads = begins.reads }) came outcome (not_unread hosts name before now s command came fine did) other command packs_none did wanted
 
   pub a_call_is_complete : (before now after : List Seen) (v : Passage) (status : ℕ) (outcome : Outcome) → BeginsWith texts files before (start_of v) → ¬ OneFailed before now
       → ¬ Rose v.device_before v.device_now → ¬ Rose v.output_before v.output_now → ComesTo hosts name (full_sources texts) after (start_of v) command outcome → outcome ≢ refused Unread
@@ -98,19 +99,19 @@ module _ (hosts : List Host) (name : List ℕ) (turns : ℕ) (script : List ℕ)
       (runs
       (comes_to_run (λ told. subst (λ (g : FileId → List ℕ). IsFound g (held db)) same_files holds) (λ told. subst (λ (g : FileId → List ℕ). StartsAt g db gate) same_files ends_so) has)))
 
-pub a_run_is_complete : OneRefusal → NeverBoth → OneProgram → OneFound → OneEnd → OneVersion → OneRules → OneLines → NeverRules → OneSchedule
+pub a_run_is_complete : OneRefusal → NeverBoth → OneProgram → OneFound → OneEnd → OneVersion → OneRules → OneLines → NeverRules → OneSchedule → OneExecuted
     → (hosts : List Host) (name : List ℕ) (turns : ℕ) (script : List ℕ) (files : FileId → List ℕ) (p : Program_tree) (db : Database) (gate : ℕ) (before now : List Seen) (v : Passage) (status : ℕ)
     → BeginsWith (script ∷ []) files before (start_of v) → ¬ OneFailed before now → length script ≤ script_limit → Accepted script hosts p
     → Holds files db → StartsAt files db gate → AllHas db.catalogue p.relations → all_fit (Some gate) (run_of (bound p db.catalogue) db.state (specs_of hosts) turns).events ≡ true
     → Answers hosts name (Run turns) before now status v
     → (status ≡ 6) ⊎ (status ≡ 8) ⊎ (status ≡ 9)
     ⊎ IsDone (carried db (run_of (bound p db.catalogue) db.state (specs_of hosts) turns).events (ends (run_of (bound p db.catalogue) db.state (specs_of hosts) turns).finish)) status v
-a_run_is_complete one never program found end version rules line_lists both schedules hosts name turns script files p db gate before now v status begins fine short accepted holds ends_so has fit (tells {outcome} did told) =
+a_run_is_complete one never program found end version rules line_lists both schedules executed hosts name turns script files p db gate before now v status begins fine short accepted holds ends_so has fit (tells {outcome} did told) =
     let report = run_of (bound p db.catalogue) db.state (specs_of hosts) turns in
     let same : outcome ≡ outcome_from db gate report =
-    same_outcome one never program found end version rules line_lists both schedules hosts name (Run turns) (script ∷ []) files before now drained (start_of v) outcome (outcome_from db gate report) begins fine did
+    same_outcome one never program found end version rules line_lists both schedules executed hosts name (Run turns) (script ∷ []) files (λ is. cc (is)) before now drained (start_of v) outcome (outcome_from db gate report) begins fine did
     (comes hosts name turns script files p db gate (start_of v) begins.reads short accepted holds ends_so has) (λ is. cc (is)) in
     let whole = same ∙ fit_whole db gate report fit in
     cut_or_done (carried db report.events (ends report.finish)) status v (subst (λ (o : Outcome). IsTold o status v) whole told)
-a_run_is_complete one never program found end version rules line_lists both schedules hosts name turns script files p db gate before now v status begins fine short accepted holds ends_so has fit (fails still up) =
+a_run_is_complete one never program found end version rules line_lists both schedules executed hosts name turns script files p db gate before now v status begins fine short accepted holds ends_so has fit (fails still up) =
     up_or_done (carried db (run_of (bound p db.catalogue) db.state (specs_of hosts) turns).events (ends (run_of (bound p db.catalogue) db.state (specs_of hosts) turns).finish)) status v up

@@ -20,7 +20,7 @@ use Rattle.hera_script.specs.Refusing.{HasTokens, IsRefused, too_long, bad_utf8,
 use Rattle.hera_outcome.specs.Outcomes.{Outcome}
 use Rattle.hera_outcome.specs.Passages.{Start}
 use Rattle.hera_words.specs.declared.command.Command.{Command}
-use Rattle.hera_words.specs.declared.command.Command.TheVariants.{Check, List as list_command, Eval, Drill, Init, Run, Dump, Checkpoint, Widen, Import, Export, Guard, Weave}
+use Rattle.hera_words.specs.declared.command.Command.TheVariants.{Check, List as list_command, Eval, Pack, Exec, Drill, Init, Run, Dump, Checkpoint, Widen, Import, Export, Guard, Weave}
 use Rattle.hera_words.specs.Words.{form_of}
 use Rattle.hera_top.specs.Commands.{Performs, checks, lists, evaluates, ReadsScript, ComesToFor, refuses, performs}
 
@@ -89,6 +89,8 @@ some_done : (hosts : List Host) (s : Start) (command : Command) → ReadsScript 
 some_done hosts s Check reads none p = (_, checks)
 some_done hosts s list_command reads none p = (_, lists)
 some_done hosts s (Eval turns) reads none p = (_, evaluates)
+some_done hosts s Pack reads none p = absurd reads
+some_done hosts s (Exec turns) reads none p = absurd reads
 some_done hosts s (Drill rows) reads none p = absurd reads
 some_done hosts s Init reads none p = absurd (no_folder true refl none)
 some_done hosts s Widen reads none p = absurd (no_folder true refl none)

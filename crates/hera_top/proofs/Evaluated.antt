@@ -19,7 +19,7 @@ use Rattle.hera_outcome.specs.declared.refusal.Refusal.TheVariants.{Script}
 use Rattle.hera_words.specs.declared.command.Command.TheVariants.{Eval}
 use Rattle.hera_top.specs.Commands.{ComesToFor, refuses, performs, evaluates}
 
-abbrev AreSound : Type 0
+abbrev pub AreSound : Type 0
 AreSound = (bytes : List ℕ) → (hosts : List Host) → (p : Program_tree) → length bytes ≤ script_limit → AreHosts hosts → Accepted bytes hosts p → Sound p (specs_of hosts)
 
 abbrev HaveTheirOwn : Type 0

@@ -15,6 +15,8 @@ mod Evaluated
 mod OneOutcome
 mod OneGuarded
 mod OneWoven
+mod OneCoded
+mod Packed
 mod OneComes
 mod Weaving
 mod Wholes

@@ -152,7 +152,7 @@ abbrev pub first_text : List (List ℕ) → List ℕ
 first_text [] = []
 first_text (text ∷ texts) = text
 
-told_text : (b : Seen) (texts : List (List ℕ)) → HaveLeft texts (b ∷ []) → b.left ≡ Some (first_text texts)
+pub told_text : (b : Seen) (texts : List (List ℕ)) → HaveLeft texts (b ∷ []) → b.left ≡ Some (first_text texts)
 told_text b [] told = absurd told
 told_text b (text ∷ texts) told = told.0
 

@@ -3,7 +3,7 @@ use Rattle.std.proofs.Common.{◌≡◌, ◌≤◌, ℕ, Bool, true, false, cond
 use Rattle.hera_causes.specs.Causes.{Rose}
 use Rattle.hera_meaning.specs.Run.{Finish, finished, stopped, out_of_turns}
 use Rattle.hera_meaning.specs.Trees.{Program_tree}
-use Rattle.hera_host.specs.Tables.{Host}
+use Rattle.hera_host.specs.Tables.{Host, specs_of}
 use Rattle.hera_outcome.specs.Outcomes.{Outcome, refused, Ended, ends, full, broken, status_of_finish, status_of_ended, status_of_outcome}
 use Rattle.hera_outcome.specs.Passages.{Passage, Start, start_of}
 use Rattle.hera_outcome.specs.Told.{IsTold}
@@ -15,8 +15,11 @@ use Rattle.hera_guarded.specs.Guarding.{GuardsTo, barred, closed as guarded_clos
 use Rattle.hera_outcome.specs.declared.refusal.Refusal.{Refusal}
 use Rattle.hera_woven.specs.Weaving.{WeavesTo, closed as woven_closed, differs as woven_differs, overflows as woven_overflows, weaves}
 use Rattle.hera_words.specs.declared.command.Command.{Command}
-use Rattle.hera_words.specs.declared.command.Command.TheVariants.{Check, List as list_command, Eval, Drill, Init, Run, Dump, Checkpoint, Widen, Import, Export, Guard, Weave}
+use Rattle.hera_words.specs.declared.command.Command.TheVariants.{Check, List as list_command, Eval, Pack, Exec, Drill, Init, Run, Dump, Checkpoint, Widen, Import, Export, Guard, Weave}
 use Rattle.hera_top.specs.Commands.{Performs, checks, lists, evaluates, makes, widens, runs, is_made, is_taken, is_shut, is_narrowed, is_wide, is_too_wide, ComesToFor, refuses, performs, Finds, closed, dumps, renews, overflows, OfScript, unread, reads, OfFile, misses, is_too_much, takes, ComesTo, Answers, tells, fails, OfScripts, are_refused, are_woven}
+use Rattle.hera_packed.specs.Executed.{ExecutesTo, is_bad, is_rejected, is_run}
+use Rattle.hera_meaning.specs.Hosts.{Hosts}
+use Rattle.hera_top.specs.Coding.{prints_pack, PacksTo, refuses_pack, packs, OfPack, no_script, has_script, OfCode, no_code, too_much_code, has_code}
 use Rattle.hera_top.specs.Drill.{drill_text, drill_turns}
 use Rattle.hera_top.specs.Scripts.{AreRefused, fails_first, refuses_first, refuses_later}
 use Rattle.hera_top.specs.Guarding.{misses_rules, refuses_rules, GuardsFor, refuses as guards_refuse, performs as guards_perform, misses_script, reads_script, OfRules, no_lines, has_lines}
@@ -122,6 +125,15 @@ woven_plain hosts turns order ps s _ (woven_differs there first_one) odd = plain
 woven_plain hosts turns order ps s _ (woven_overflows there over has) odd = plain_10 odd
 woven_plain hosts turns order ps s _ (weaves there starts has whole) odd = ended_plain _ odd
 
+packed_plain : (hosts : List Host) (script : List ℕ) (o : Outcome) → PacksTo hosts script o → IsOdd (status_of_outcome o) → ⊥
+packed_plain hosts script _ (refuses_pack refusal) odd = plain_3 odd
+packed_plain hosts script _ (packs short accepted (prints_pack is)) odd = plain_0 odd
+
+executed_plain : (hosts : Hosts) (turns : ℕ) (file : List ℕ) (o : Outcome) → ExecutesTo hosts turns file o → IsOdd (status_of_outcome o) → ⊥
+executed_plain hosts turns file _ (is_bad bad) odd = plain_3 odd
+executed_plain hosts turns file _ (is_rejected is bad) odd = plain_3 odd
+executed_plain hosts turns file _ (is_run {report = report} is verified run) odd = finish_plain report.finish odd
+
 -- an outcome of such a status is that a source failed
 abbrev IsFailure : (before now : List Seen) → Outcome → Type 0
 IsFailure before now o = (status_of_outcome o ≡ 7) × OneFailed before now
@@ -134,6 +146,15 @@ file_odd : (name : List ℕ) (s : Start) (before now : List Seen) (o : Outcome) 
 file_odd name s _ _ _ (misses is) odd = (refl, this_failed is.rose)
 file_odd name s _ _ _ (is_too_much file read long) odd = absurd (plain 3 (λ h. cc (h)) (λ h. cc (h)) (λ h. cc (h)) (λ h. cc (h)) odd)
 file_odd name s _ _ o (takes file read short came) odd = absurd (import_plain name file s o came odd)
+
+pack_odd : (hosts : List Host) (before now : List Seen) (o : Outcome) → OfPack hosts before now o → IsOdd (status_of_outcome o) → IsFailure before now o
+pack_odd hosts _ _ _ (no_script is) odd = (refl, this_failed is.rose)
+pack_odd hosts _ _ o (has_script script read came) odd = absurd (packed_plain hosts script o came odd)
+
+code_odd : (hosts : List Host) (turns : ℕ) (before now : List Seen) (o : Outcome) → OfCode hosts turns before now o → IsOdd (status_of_outcome o) → IsFailure before now o
+code_odd hosts turns _ _ _ (no_code is) odd = (refl, this_failed is.rose)
+code_odd hosts turns _ _ _ (too_much_code file read long) odd = absurd (plain_3 odd)
+code_odd hosts turns _ _ o (has_code file read short came) odd = absurd (executed_plain (specs_of hosts) turns file o came odd)
 
 rules_odd : (hosts : List Host) (turns : ℕ) (s : Start) (before now : List Seen) (o : Outcome) → OfRules hosts turns s before now o → IsOdd (status_of_outcome o) → IsFailure before now o
 rules_odd hosts turns s _ _ _ (no_lines (misses_rules is)) odd = (refl, this_failed is.rose)
@@ -154,6 +175,8 @@ pub comes_odd : (hosts : List Host) (name : List ℕ) (before now : List Seen) (
 comes_odd hosts name before now s Check o came odd = script_odd hosts Check s before now o came odd
 comes_odd hosts name before now s list_command o came odd = script_odd hosts list_command s before now o came odd
 comes_odd hosts name before now s (Eval turns) o came odd = script_odd hosts (Eval turns) s before now o came odd
+comes_odd hosts name before now s Pack o came odd = pack_odd hosts before now o came odd
+comes_odd hosts name before now s (Exec turns) o came odd = code_odd hosts turns before now o came odd
 comes_odd hosts name before now s (Drill rows) o came odd = absurd (script_plain hosts (drill_text rows) s (Eval drill_turns) o came odd)
 comes_odd hosts name before now s Init o came odd = script_odd hosts Init s before now o came odd
 comes_odd hosts name before now s (Run turns) o came odd = script_odd hosts (Run turns) s before now o came odd

@@ -32,7 +32,8 @@ use Rattle.hera_run.specs.Folder.{IsThere, IsClosed, RunsTo}
 use Rattle.hera_transfer.specs.Transfers.{data_limit, ExportsTo, ImportsTo}
 use Rattle.hera_woven.specs.Weaving.{WeavesTo}
 use Rattle.hera_words.specs.declared.command.Command.{Command}
-use Rattle.hera_words.specs.declared.command.Command.TheVariants.{Check, List as list_command, Eval, Drill, Init, Run, Dump, Checkpoint, Widen, Import, Export, Guard, Weave}
+use Rattle.hera_words.specs.declared.command.Command.TheVariants.{Check, List as list_command, Eval, Pack, Exec, Drill, Init, Run, Dump, Checkpoint, Widen, Import, Export, Guard, Weave}
+use Rattle.hera_top.specs.Coding.{OfPack, OfCode}
 use Rattle.hera_top.specs.Drill.{drill_text, drill_turns}
 use Rattle.hera_top.specs.Guarding.{OfRules}
 use Rattle.hera_top.specs.Scripts.{AreAccepting, AreRefused}
@@ -92,11 +93,13 @@ pub data Finds (v : Start) : Command → Outcome → Type 0 where
 
 -- ---- with sources
 
--- a command that reads one script
+-- a command that does something with the program of one script
 abbrev pub ReadsScript : Command → Type 0
 ReadsScript Check = Unit {0}
 ReadsScript list_command = Unit {0}
 ReadsScript (Eval turns) = Unit {0}
+ReadsScript Pack = ⊥
+ReadsScript (Exec turns) = ⊥
 ReadsScript (Drill rows) = ⊥
 ReadsScript Init = Unit {0}
 ReadsScript (Run turns) = Unit {0}
@@ -131,6 +134,8 @@ abbrev pub ComesTo : (hosts : List Host) (name : List ℕ) (before now : List Se
 ComesTo hosts name before now v Check = OfScript hosts Check v before now
 ComesTo hosts name before now v list_command = OfScript hosts list_command v before now
 ComesTo hosts name before now v (Eval turns) = OfScript hosts (Eval turns) v before now
+ComesTo hosts name before now v Pack = OfPack hosts before now
+ComesTo hosts name before now v (Exec turns) = OfCode hosts turns before now
 ComesTo hosts name before now v (Drill rows) = ComesToFor hosts (drill_text rows) v (Eval drill_turns)
 ComesTo hosts name before now v Init = OfScript hosts Init v before now
 ComesTo hosts name before now v (Run turns) = OfScript hosts (Run turns) v before now

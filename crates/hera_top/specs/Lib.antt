@@ -4,5 +4,6 @@ pub mod Stopping
 pub mod Dumping
 pub mod Drill
 pub mod Guarding
+pub mod Coding
 pub mod Commands
 pub mod Told

@@ -8,7 +8,7 @@ use Rattle.hera_outcome.specs.declared.answer.Stop.{Stop}
 use Rattle.hera_outcome.specs.declared.answer.Stop.TheVariants.{Refused, Device, Output, Memory, Full}
 use Rattle.hera_outcome.specs.declared.refusal.Refusal.TheVariants.{Unread, Script}
 use Rattle.hera_top.specs.Scripts.{AreRefused}
-use Rattle.hera_top.specs.Sources.{Seen, IsRead, IsUnread, AreStill, AreLater}
+use Rattle.hera_top.specs.Sources.{Seen, IsRead, IsUnread, AreStill}
 
 pub data IsStopped (hosts : List Host) (before now : Seen) : Stop → Type 0 where
   fails : IsUnread script_limit before now → IsStopped hosts before now (Refused Unread)

@@ -14,7 +14,7 @@ use crate::catalogue::catalogue_of;
 use crate::folders::widen_to;
 use crate::run::run;
 use hera_code::listing;
-use hera_codegen::generate;
+use hera_codegen::{code_does_what_the_program_means, generate};
 use hera_host::HostTable;
 use hera_meaning::{Program, RelDecl};
 use hera_outcome::{Ending, Refusal, Stop, tell};
@@ -59,10 +59,11 @@ fn eval<W: Outside>(
     ensures answered { Answered (Performs hosts.now.names (program_of program.now) (start W.Outside.own outside.old) (Command.Eval turns)) result (passage W.Output W.Outside.own outside.old outside.new) }
     ensures apart { IsApart result (passage W.Output W.Outside.own outside.old outside.new) }
 {
+    code_does_what_the_program_means();
     let Ok(code) = generate(alloc, program) else {
         return Err(Stop::Memory);
     };
-    let answer = run(alloc, program, &code, turns, outside, hosts);
+    let answer = run(alloc, &code, &program.relations, turns, outside, hosts);
     drop(code);
     answer
 }
@@ -153,6 +154,8 @@ fn perform_on<W: Outside>(
         Command::Init => init(alloc, &program.relations, outside),
         Command::Widen => widen(alloc, &program.relations, outside),
         Command::Run(_)
+        | Command::Pack
+        | Command::Exec(_)
         | Command::Drill(_)
         | Command::Dump
         | Command::Checkpoint

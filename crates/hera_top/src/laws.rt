@@ -23,6 +23,8 @@ ghost use Rattle.hera_run.specs.Fitting.{all_fit};
 ghost use Rattle.hera_run.specs.Folder.{StartsAt};
 ghost use Rattle.hera_words.specs.declared.command.Command.{Command};
 ghost use Rattle.hera_words.specs.Words.{form_of};
+ghost use Rattle.hera_packed.specs.Executed.{ExecutesTo};
+ghost use Rattle.hera_top.specs.Coding.{PrintsPack, PacksTo};
 ghost use Rattle.hera_top.specs.Commands.{ComesToFor, ComesTo, ReadsScript, Answers};
 ghost use Rattle.hera_top.specs.Sources.{Seen, IsRead, OneFailed};
 ghost use Rattle.hera_top.specs.Told.{BeginsWith, full_sources};
@@ -30,6 +32,7 @@ ghost use Rattle.hera_top.specs.Told.{BeginsWith, full_sources};
 use half_laws::laws::{a_half_has_one_catalogue_and_state, a_half_has_one_version};
 use hera_bind::laws::a_program_is_bound_to_its_own_relations;
 use hera_guarded::rules_have_one_answer;
+use hera_packed::{a_file_comes_to_one_outcome, a_packed_program_does_what_it_means};
 use hera_readings::{faults_have_places, some_tokens, some_tree};
 use hera_rules::typing_is_exact;
 use hera_script::{a_script_has_one_answer, accepted_programs_are_sound};
@@ -61,9 +64,11 @@ pub fn some_outcome<W: Outside>()
 }
 
 /// A command comes to one outcome for the texts of its sources, what the files hold, the table of hosts and the turns: two
-/// calls that begin with the same of these come to the same, but where a source failed before its text was read.
+/// calls that begin with the same of these come to the same, but where a source failed before its text was read. What `pack`
+/// prints is one up to its notes, as `packs_differ_in_notes_alone` says.
 pub fn one_outcome_in_a_folder<W: Outside>()
     ensures { (hosts : List Host) (name : List ℕ) (command : Command) (texts : List (List ℕ)) (files : FileId → List ℕ) (before now later after : List Seen) (first second : W) (a b : Outcome)
+        → command ≢ Command.Pack
         → BeginsWith texts files before (start W.Outside.own first)
         → BeginsWith texts files later (start W.Outside.own second)
         → ComesTo hosts name before now (start W.Outside.own first) command a
@@ -76,12 +81,14 @@ pub fn one_outcome_in_a_folder<W: Outside>()
     a_half_has_one_catalogue_and_state();
     rules_have_one_answer();
     a_number_tells_one_schedule();
+    a_file_comes_to_one_outcome();
 }
 
 /// Completeness. Let no call on a source, a file or the output fail. Then a command does the whole of what it comes to for
 /// the texts of its sources and what the files hold, or there was no memory (9).
 pub fn a_call_is_complete<W: Outside>()
     ensures { (hosts : List Host) (name : List ℕ) (command : Command) (texts : List (List ℕ)) (files : FileId → List ℕ) (before now after : List Seen) (first last : W) (status : ℕ) (outcome : Outcome)
+        → command ≢ Command.Pack
         → BeginsWith texts files before (start W.Outside.own first)
         → ¬ OneFailed before now → ¬ Rose (W.device_faults first) (W.device_faults last) → ¬ Rose (W.output_faults first) (W.output_faults last)
         → ComesTo hosts name (full_sources texts) after (start W.Outside.own first) command outcome → outcome ≢ refused Refusal.Unread
@@ -94,6 +101,38 @@ pub fn a_call_is_complete<W: Outside>()
     a_half_has_one_catalogue_and_state();
     rules_have_one_answer();
     a_number_tells_one_schedule();
+    a_file_comes_to_one_outcome();
+}
+
+/// What `pack` prints of one script is one up to the notes: both texts are code files of the one program.
+pub fn packs_differ_in_notes_alone()
+    ensures { (hosts : List Host) (script : List ℕ) (a b : Outcome) → PacksTo hosts script a → PacksTo hosts script b
+        → (a ≡ b) ⊎ ((p : Program_tree) × PrintsPack (specs_of hosts) p a × PrintsPack (specs_of hosts) p b) }
+{
+    a_script_has_one_answer();
+}
+
+/// Completeness of `pack`. Let no call on a source, a file or the output fail, and a script be accepted. Then `pack` prints the
+/// whole of a code file of its program, or there was no memory (9).
+pub fn a_pack_is_complete<W: Outside>()
+    ensures { (hosts : List Host) (name script : List ℕ) (files : FileId → List ℕ) (p : Program_tree) (before now : List Seen) (first last : W) (status : ℕ)
+        → BeginsWith (script ∷ []) files before (start W.Outside.own first)
+        → ¬ OneFailed before now → ¬ Rose (W.device_faults first) (W.device_faults last) → ¬ Rose (W.output_faults first) (W.output_faults last)
+        → length script ≤ script_limit → Accepted script hosts p
+        → Answers hosts name Command.Pack before now status (passage W.Output W.Outside.own first last)
+        → (status ≡ 9) ⊎ ((outcome : Outcome) × PrintsPack (specs_of hosts) p outcome × IsDone outcome status (passage W.Output W.Outside.own first last)) }
+{
+    a_script_has_one_answer();
+}
+
+/// Where `pack` prints a text for a script, a run of that text comes to what `eval` of the script comes to.
+pub fn a_packed_script_runs_as_it_evaluates<W: Outside>()
+    ensures { (hosts : List Host) (turns : ℕ) (script text : List ℕ) (first : W) (outcome evaluated : Outcome) → AreHosts hosts
+        → PacksTo hosts script (prints text) → ExecutesTo (specs_of hosts) turns text outcome → ComesToFor hosts script (start W.Outside.own first) (Command.Eval turns) evaluated → outcome ≡ evaluated }
+{
+    a_script_has_one_answer();
+    accepted_programs_are_sound();
+    a_packed_program_does_what_it_means();
 }
 
 /// Completeness of `run`. Let a script be accepted, the files hold a database with all relations that it declares, whose
@@ -115,6 +154,7 @@ pub fn a_run_is_complete<W: Outside>()
     a_half_has_one_catalogue_and_state();
     rules_have_one_answer();
     a_number_tells_one_schedule();
+    a_file_comes_to_one_outcome();
 }
 
 /// Where a source tells what it has left, the outcome of what came from it is the outcome of all of that.

@@ -2,6 +2,7 @@
 #![tactic(auto)]
 
 mod catalogue;
+mod coding;
 mod commands;
 mod drill;
 mod dumping;

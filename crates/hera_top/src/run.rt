@@ -1,22 +1,21 @@
-ghost use Rattle.std.specs.Prelude.{◌≡◌, IfOk, IfErr};
+ghost use Rattle.std.specs.Prelude.{◌≡◌, ℕ, IfOk, IfErr};
 ghost use Rattle.hera_meaning.specs.Catalogues.{IsCatalogue};
-ghost use Rattle.hera_meaning.specs.Plain.{program_of};
-ghost use Rattle.hera_meaning.specs.Run.{run_of};
-ghost use Rattle.hera_meaning.specs.Sound.{Sound};
+ghost use Rattle.hera_meaning.specs.Run.{Report};
 ghost use Rattle.hera_code.specs.Forward.{Forward};
-ghost use Rattle.hera_code.specs.Scheme.{code_of};
+ghost use Rattle.hera_code.specs.Reached.{code_at};
+ghost use Rattle.hera_codegen.specs.Correct.{AreStoresOf, events_in};
 ghost use Rattle.hera_host.specs.Tables.{specs_of};
 ghost use Rattle.rel_pages.specs.Stored.{empty_state};
 ghost use Rattle.hera_outcome.specs.Answers.{number_of, IsSpoken};
 ghost use Rattle.hera_outcome.specs.Outcomes.{ran};
 ghost use Rattle.hera_outcome.specs.Passages.{passage, KeepsFiles};
 ghost use Rattle.hera_outcome.specs.Told.{IsTold};
+ghost use Rattle.hera_packed.specs.Executed.{RunsAs};
 
 use crate::catalogue::catalogue_of;
 use hera_code::Code;
-use hera_codegen::code_does_what_the_program_means;
 use hera_host::HostTable;
-use hera_meaning::{Program, RelDecl};
+use hera_meaning::RelDecl;
 use hera_outcome::{Ending, Stop};
 use hera_run::{InMemory, ending_of, run_code};
 use hera_volume::Outside;
@@ -33,37 +32,29 @@ fn base_of(alloc: Global, relations: &[RelDecl]) -> Result<Base, AllocError>
     Ok(Base::empty(alloc, catalogue)?)
 }
 
-/// Runs a program's code on empty relations with at most so many turns, emits what it prints, and gives the status of its
-/// end.
+/// Runs code that is over in time on these relations without rows, with at most so many turns, emits what it prints, and
+/// gives the status of its end.
 pub(crate) fn run<W: Outside>(
     alloc: Global,
-    program: &Program,
     code: &Code,
+    relations: &[RelDecl],
     turns: u64,
     outside: &mut W,
     hosts: &HostTable,
 ) -> Result<Ending, Stop>
-    requires sound { Sound (program_of program.now) (specs_of hosts.now.names) }
-    requires code { code.now ≡ code_of (program_of program.now) }
+    requires catalogue { IsCatalogue relations.now }
     requires forward { Forward code.now }
-    ensures told { IsTold (ran (run_of (program_of program.now) (empty_state (program_of program.now).relations) (specs_of hosts.now.names) turns)) (number_of result) (passage W.Output W.Outside.own outside.old outside.new) }
+    requires stores { (k : ℕ) → AreStoresOf relations.now (events_in (code_at code.now relations.now (empty_state relations.now) (specs_of hosts.now.names) turns k)) }
+    requires over { (report : Report) × RunsAs code.now relations.now (specs_of hosts.now.names) turns report }
+    ensures told { (report : Report) → RunsAs code.now relations.now (specs_of hosts.now.names) turns report → IsTold (ran report) (number_of result) (passage W.Output W.Outside.own outside.old outside.new) }
     ensures spoken { IfErr result IsSpoken }
     ensures keeps { KeepsFiles (passage W.Output W.Outside.own outside.old outside.new) }
 {
-    code_does_what_the_program_means();
-    let Ok(base) = base_of(alloc, &program.relations) else {
+    let Ok(base) = base_of(alloc, relations) else {
         return Err(Stop::Memory);
     };
     let mut keeper = InMemory::over(alloc, base);
-    let outcome = run_code(
-        alloc,
-        code,
-        &program.relations,
-        &mut keeper,
-        turns,
-        outside,
-        hosts,
-    );
+    let outcome = run_code(alloc, code, relations, &mut keeper, turns, outside, hosts);
     drop(keeper);
     match outcome {
         Ok(close) => Ok(ending_of(close)),

@@ -10,6 +10,7 @@ ghost use Rattle.hera_top.specs.Commands.{Answers, IsAnswered, IsApart, ComesToF
 ghost use Rattle.hera_top.specs.Drill.{drill_text, drill_turns};
 ghost use Rattle.hera_top.specs.Sources.{seen_of, AreLater, OneFailed};
 
+use crate::coding::{exec_source, pack_source};
 use crate::drill::{DRILL_TURNS, drill_text};
 use crate::folders::{checkpoint, dump};
 use crate::guard::guard_sources;
@@ -55,6 +56,8 @@ fn answer<S: Source, W: Outside>(
     ensures apart { (form_of command).folder ≡ false → IsApart result (passage W.Output W.Outside.own outside.old outside.new) }
 {
     match command {
+        Command::Pack => pack_source(alloc, &mut sources[0], outside, hosts),
+        Command::Exec(turns) => exec_source(alloc, turns, &mut sources[0], outside, hosts),
         Command::Drill(rows) => drill(alloc, rows, outside, hosts),
         Command::Dump => dump(alloc, outside),
         Command::Checkpoint => checkpoint(alloc, outside),
@@ -78,6 +81,9 @@ fn answer<S: Source, W: Outside>(
 /// - `check FILE` prints `accepted` where the script of the first source is accepted.
 /// - `list FILE` prints the listing of its code.
 /// - `eval TURNS FILE` runs it on an empty database with at most TURNS turns.
+/// - `pack FILE` prints a code file of it: its relations and its code, with notes with which that is typed code.
+/// - `exec TURNS FILE` runs the code file of FILE on its relations without rows with at most TURNS turns, where its code is
+///   verified.
 /// - `drill N` runs with at most 1,000,000 turns the script `drill_text` of N, from 1 to 1000, and reads none.
 /// - `init DIR FILE` makes the database of its relations, without rows, in the folder, and prints `created`.
 /// - `run DIR TURNS FILE` runs it on the database in the folder with at most TURNS turns, and stores what it commits.

@@ -5,7 +5,7 @@ use std::alloc::Global;
 use std::test::Fail;
 
 /// The file of `main { print 2 + 3 * 4; }`.
-const FILE: [u8; 77] = [
+pub(crate) const FILE: [u8; 77] = [
     0x48, 0x45, 0x52, 0x41, 0x43, 0x4f, 0x44, 0x45, 0, 0, 0, 0, 0, 1, 0, 0, 0, 0, 0, 0, 0, 0, 0, 0,
     0, 0, 0, 0, 0, 0, 0, 7, 0, 0, 0x80, 0, 0, 0, 0, 0, 0, 2, 0, 0, 0x80, 0, 0, 0, 0, 0, 0, 3, 0, 0,
     0x80, 0, 0, 0, 0, 0, 0, 4, 4, 4, 0, 0, 0, 0x13, 4, 2, 0, 0, 0, 0x0f, 0x14, 0, 0x19,
@@ -21,7 +21,7 @@ fn bad_at(alloc: Global, bytes: &[u8]) -> Result<Option<u64>, Fail> {
 }
 
 /// The file with another byte at a place.
-fn spoiled(alloc: Global, place: usize, value: u8) -> Result<Vec<u8>, Fail> {
+pub(crate) fn spoiled(alloc: Global, place: usize, value: u8) -> Result<Vec<u8>, Fail> {
     let mut bytes = Vec::from_slice(alloc, &FILE)?;
     if let Some(byte) = bytes.get_mut(place) {
         *byte = value;

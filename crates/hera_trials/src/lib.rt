@@ -1,6 +1,6 @@
-//! Tests that cross crates: code run by hand on the machine over a base, the notes of a script's code, a file of code,
-//! the lines of refusals, scripts of guard lines, and the top call. They stand in a crate of their own, since a crate's
-//! tests are proved together with the whole crate.
+//! Tests that cross crates: code run by hand on the machine over a base, the notes of a script's code, a file of code, a
+//! script packed and opened, the lines of refusals, scripts of guard lines, and the top call. They stand in a crate of
+//! their own, since a crate's tests are proved together with the whole crate.
 #![tactic(auto)]
 
 #[cfg(test)]
@@ -11,6 +11,8 @@ mod machine;
 mod noted;
 #[cfg(test)]
 mod outcome;
+#[cfg(test)]
+mod packed;
 #[cfg(test)]
 mod rules;
 #[cfg(test)]

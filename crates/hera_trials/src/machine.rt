@@ -6,11 +6,12 @@ ghost use Rattle.hera_machine.specs.declared.events.Status.TheVariants.{Working}
 
 use delta_atoms::Value;
 use hera_code::{Bodies, BodyInfo, Code, Instr, Instrs};
-use hera_frames::Counts;
+use hera_fits::fits_rel;
 use hera_host::HostTable;
 use hera_machine::{End, Event, Machine};
 use hera_meaning::{Attr, Const, Kind, Op, RelDecl, RelId, Scalar, Schema, Shape, Sign, Text};
-use hera_prims::{fits_rel, prim_rel};
+use hera_prims::prim_rel;
+use hera_reads::Counts;
 use hera_rows::RowSet;
 use rel_format::{PAGE_HEAD, PAGE_ONE};
 use rel_pages::{Base, PageRel, read_half};
@@ -153,7 +154,7 @@ fn code(alloc: Global) -> Result<Code, Fail> {
 #[test]
 fn values_and_events_have_few_bytes(rt: HostRuntime) -> Result<(), Fail> {
     assert_eq!(rt; size_of::<Scalar>(), 16);
-    assert_eq!(rt; size_of::<Value>(), 32);
+    assert_eq!(rt; size_of::<Value>(), 48);
     assert_eq!(rt; size_of::<Event>(), 32);
     Ok(())
 }

@@ -25,12 +25,20 @@ fn a_refusal_is_told_with_its_line_and_status(rt: HostRuntime) -> Result<(), Fai
         3
     );
     assert_eq!(rt;
+        refuse(alloc, &mut outside, &Refusal::BadCode { at: 63 }),
+        3
+    );
+    assert_eq!(rt;
+        refuse(alloc, &mut outside, &Refusal::Rejected { at: 4 }),
+        3
+    );
+    assert_eq!(rt;
         conclude(alloc, &mut outside, Err(Stop::Refused(Refusal::Unread))),
         7
     );
     assert_eq!(rt; conclude(alloc, &mut outside, Err(Stop::Full)), 10);
     let text =
-        b"usage\nrefused Syntax at 7\ndamaged left at 26\nno relation\nrefused Record at 3\nscript unread\n";
+        b"usage\nrefused Syntax at 7\ndamaged left at 26\nno relation\nrefused Record at 3\nrefused BadCode at 63\nrefused Rejected at 4\nscript unread\n";
     assert_eq!(rt; outside.bytes(), text.as_slice());
     Ok(())
 }

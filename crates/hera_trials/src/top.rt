@@ -69,23 +69,51 @@ fn bytes_are_refused_before_tokens(rt: HostRuntime) -> Result<(), Fail> {
     Ok(())
 }
 
+/// The code file of `main { print 14; print 15; }`.
+const CODE: &[u8] =
+    b"HERACODE\0\0\0\0\0\x01\0\0\0\0\0\0\0\0\0\0\0\0\0\0\0\0\0\x05\0\0\x80\0\0\0\0\0\0\x0e\x14\0\0\0\x80\0\0\0\0\0\0\x0f\x14\0\x19";
+
 #[test]
 fn faults_end_the_call(rt: HostRuntime) -> Result<(), Fail> {
     let alloc = rt.alloc();
-    let words = words_in(alloc, &["eval", "100", "f"])?;
+    let eval: &[&str] = &["eval", "100", "f"];
+    let exec: &[&str] = &["exec", "100", "f"];
+    let pack: &[&str] = &["pack", "f"];
     let script: &[u8] = b"main { print 14; print 15; }";
-    let cases: [(&[Piece], &[Piece], &[u8], u8); 3] = [
-        (&[], &[Piece::Take(1), Piece::Fail], b"1", 8),
+    let cases: [(&[&str], &[u8], &[Piece], &[Piece], &[u8], u8); 8] = [
+        (eval, script, &[], &[Piece::Take(1), Piece::Fail], b"1", 8),
         (
+            eval,
+            script,
             &[],
             &[Piece::Take(3), Piece::Take(1), Piece::Fail],
             b"14\n1",
             8,
         ),
-        (&[Piece::Fail], &[], b"script unread\n", 7),
+        (eval, script, &[Piece::Fail], &[], b"script unread\n", 7),
+        (
+            exec,
+            CODE,
+            &[],
+            &[Piece::Take(3), Piece::Take(1), Piece::Fail],
+            b"14\n1",
+            8,
+        ),
+        (exec, CODE, &[Piece::Fail], &[], b"script unread\n", 7),
+        (pack, script, &[], &[], CODE, 0),
+        (
+            pack,
+            script,
+            &[],
+            &[Piece::Take(4), Piece::Fail],
+            b"HERA",
+            8,
+        ),
+        (pack, script, &[Piece::Fail], &[], b"script unread\n", 7),
     ];
-    for (reads, emissions, output, status) in cases {
-        let mut sources = source_of(alloc, script, reads)?;
+    for (line, text, reads, emissions, output, status) in cases {
+        let words = words_in(alloc, line)?;
+        let mut sources = source_of(alloc, text, reads)?;
         check(
             &rt,
             alloc,
@@ -100,14 +128,31 @@ fn faults_end_the_call(rt: HostRuntime) -> Result<(), Fail> {
 }
 
 #[test]
-fn a_file_is_read_before_the_folder(rt: HostRuntime) -> Result<(), Fail> {
+fn a_file_is_read_before_all_else(rt: HostRuntime) -> Result<(), Fail> {
     let alloc = rt.alloc();
-    let words = words_in(alloc, &["import", "d", "R", "f"])?;
-    let cases: [(usize, &[Piece], &[u8], u8); 2] = [
-        (67_108_865, &[], b"refused TooLong at 67108864\n", 3),
-        (7, &[Piece::Take(1), Piece::Fail], b"script unread\n", 7),
+    let import: &[&str] = &["import", "d", "R", "f"];
+    let exec: &[&str] = &["exec", "1", "f"];
+    let cases: [(&[&str], usize, &[Piece], &[u8], u8); 5] = [
+        (import, 67_108_865, &[], b"refused TooLong at 67108864\n", 3),
+        (
+            import,
+            7,
+            &[Piece::Take(1), Piece::Fail],
+            b"script unread\n",
+            7,
+        ),
+        (exec, 16_777_217, &[], b"refused TooLong at 16777216\n", 3),
+        (exec, 16_777_216, &[], b"refused BadCode at 0\n", 3),
+        (
+            exec,
+            7,
+            &[Piece::Take(1), Piece::Fail],
+            b"script unread\n",
+            7,
+        ),
     ];
-    for (count, reads, output, status) in cases {
+    for (line, count, reads, output, status) in cases {
+        let words = words_in(alloc, line)?;
         let file = vec![in alloc; b'1'; count]?;
         let mut sources = source_of(alloc, &file, reads)?;
         check(
@@ -126,12 +171,14 @@ fn a_file_is_read_before_the_folder(rt: HostRuntime) -> Result<(), Fail> {
 #[test]
 fn the_words_of_a_folder_have_a_place(rt: HostRuntime) -> Result<(), Fail> {
     let alloc = rt.alloc();
-    let cases: [(&[&str], Option<usize>, (usize, usize)); 6] = [
+    let cases: [(&[&str], Option<usize>, (usize, usize)); 8] = [
         (&["run", "d", "1", "f"], Some(1), (3, 4)),
         (&["init", "d", "f"], Some(1), (2, 3)),
         (&["dump", "d"], Some(1), (0, 0)),
         (&["checkpoint", "d"], Some(1), (0, 0)),
         (&["eval", "1", "f"], None, (2, 3)),
+        (&["pack", "f"], None, (1, 2)),
+        (&["exec", "1", "f"], None, (2, 3)),
         (&["dump", "d", "f"], None, (0, 0)),
     ];
     for (line, folder, files) in cases {

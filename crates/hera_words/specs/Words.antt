@@ -2,7 +2,7 @@
 use Rattle.std.specs.Prelude.{ℕ, ◌+◌, ◌-◌, ◌==◌, ◌&&◌, nat_le, Bool, true, false, cond, List, [], ◌∷◌, Option, Some, None, String, string_bytes, bytes_eq, map, zero, suc, length, codes, if◌then◌else◌}
 use Rattle.std.specs.declared.alloc.Global.{Global}
 use Rattle.hera_words.specs.declared.command.Command.{Command}
-use Rattle.hera_words.specs.declared.command.Command.TheVariants.{Check, List as list_command, Eval, Drill, Init, Run, Dump, Checkpoint, Widen, Import, Export, Guard, Weave}
+use Rattle.hera_words.specs.declared.command.Command.TheVariants.{Check, List as list_command, Eval, Pack, Exec, Drill, Init, Run, Dump, Checkpoint, Widen, Import, Export, Guard, Weave}
 use Rattle.hera_words.specs.declared.form.Form.{Form}
 use Rattle.hera_words.specs.declared.form.Number.{Number}
 use Rattle.hera_words.specs.declared.form.Number.TheVariants.{Absent, Turns, Rows}
@@ -22,12 +22,13 @@ weave_of turns order files = if nat_le 1 files && nat_le files 64 then Some (Wea
 abbrev pub command_named : (name : List ℕ) (number order files : ℕ) → Option Command
 command_named name n order files =
     if bytes_eq name (codes "check") then Some Check else (if bytes_eq name (codes "list") then Some list_command else (
-    if bytes_eq name (codes "eval") then Some (Eval n) else (if bytes_eq name (codes "drill") then Some (Drill n) else (
+    if bytes_eq name (codes "eval") then Some (Eval n) else (if bytes_eq name (codes "pack") then Some Pack else (
+    if bytes_eq name (codes "exec") then Some (Exec n) else (if bytes_eq name (codes "drill") then Some (Drill n) else (
     if bytes_eq name (codes "init") then Some Init else (if bytes_eq name (codes "run") then Some (Run n) else (
     if bytes_eq name (codes "dump") then Some Dump else (if bytes_eq name (codes "checkpoint") then Some Checkpoint else (
     if bytes_eq name (codes "widen") then Some Widen else (if bytes_eq name (codes "import") then Some Import else (
     if bytes_eq name (codes "export") then Some Export else (if bytes_eq name (codes "guard") then Some (Guard n) else (
-    if bytes_eq name (codes "weave") then weave_of n order files else None))))))))))))
+    if bytes_eq name (codes "weave") then weave_of n order files else None))))))))))))))
 
 abbrev pub form : (folder : Bool) (number : Number) (files : ℕ) → Form
 form folder number files = record { folder = folder; relation = false; number = number; order = false; files = files }
@@ -45,6 +46,8 @@ abbrev pub form_of : Command → Form
 form_of Check = form false Absent 1
 form_of list_command = form false Absent 1
 form_of (Eval turns) = form false Turns 1
+form_of Pack = form false Absent 1
+form_of (Exec turns) = form false Turns 1
 form_of (Drill rows) = form false Rows 0
 form_of Init = form true Absent 1
 form_of (Run turns) = form true Turns 1

@@ -12,6 +12,10 @@ pub enum Command {
     List,
     /// Runs a script on an empty database with at most so many turns.
     Eval(u64),
+    /// Prints the code file of a script.
+    Pack,
+    /// Runs the code of a code file on an empty database with at most so many turns.
+    Exec(u64),
     /// Runs the drill over so many rows, from 1 to 1000.
     Drill(u64),
     /// Makes the database of a script's relations, without rows.
@@ -48,6 +52,8 @@ impl Command {
             "check" => Some(Command::Check),
             "list" => Some(Command::List),
             "eval" => Some(Command::Eval(number)),
+            "pack" => Some(Command::Pack),
+            "exec" => Some(Command::Exec(number)),
             "drill" => Some(Command::Drill(number)),
             "init" => Some(Command::Init),
             "run" => Some(Command::Run(number)),
@@ -67,8 +73,8 @@ impl Command {
         ensures { result ≡ form_of self }
     {
         match self {
-            Command::Check | Command::List => form(false, Number::Absent, 1),
-            Command::Eval(_) => form(false, Number::Turns, 1),
+            Command::Check | Command::List | Command::Pack => form(false, Number::Absent, 1),
+            Command::Eval(_) | Command::Exec(_) => form(false, Number::Turns, 1),
             Command::Drill(_) => form(false, Number::Rows, 0),
             Command::Init | Command::Widen => form(true, Number::Absent, 1),
             Command::Run(_) => form(true, Number::Turns, 1),

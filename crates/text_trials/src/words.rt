@@ -26,6 +26,8 @@ fn each_form_has_its_places(rt: HostRuntime) -> Result<(), Fail> {
         ("check F", Some(Command::Check), (1, 2), None),
         ("list F", Some(Command::List), (1, 2), None),
         ("eval 007 F", Some(Command::Eval(7)), (2, 3), None),
+        ("pack F", Some(Command::Pack), (1, 2), None),
+        ("exec 9 F", Some(Command::Exec(9)), (2, 3), None),
         ("drill 1000", Some(Command::Drill(1000)), (0, 0), None),
         ("init D F", Some(Command::Init), (2, 3), Some(1)),
         ("run D 1 F", Some(Command::Run(1)), (3, 4), Some(1)),

@@ -1,11 +1,21 @@
-use Rattle.std.proofs.Common.{inl, inr}
+use Rattle.std.proofs.Common.{◌≡◌, List, sym, inl, inr, subst}
+use Rattle.hera_code.specs.declared.instrs.Code.{Code}
+use Rattle.hera_code.specs.Reached.{code_at}
+use Rattle.hera_code.specs.Scheme.{code_of}
+use Rattle.hera_codegen.specs.Correct.{AreStoresOf, events_in}
 use Rattle.hera_host.specs.Tables.{specs_of}
+use Rattle.hera_meaning.specs.declared.schemas.RelDecl.{RelDecl}
+use Rattle.hera_meaning.specs.Catalogues.{IsCatalogue}
 use Rattle.hera_meaning.specs.Plain.{program_of}
 use Rattle.hera_meaning.specs.Run.{run_of}
+use Rattle.hera_meaning.specs.Worlds.{Event}
 use Rattle.rel_pages.specs.Stored.{empty_state}
+use Rattle.rel_pages.proofs.States.{empty_is_state}
 use Rattle.hera_outcome.specs.Outcomes.{ran}
 use Rattle.hera_outcome.specs.Passages.{passage}
 use Rattle.hera_outcome.proofs.Passing.{keeps_none, given_up_none, answered_by, spoken_fault, spoken_no_device}
+use Rattle.hera_packed.specs.Executed.{RunsAs}
+use Rattle.hera_run.proofs.Meaning.{own, stores_front}
 use Rattle.hera_top.specs.Commands.{evaluates}
 use Rattle.hera_top.proofs.commands.eval.Goals as goal
 
@@ -15,11 +25,42 @@ returns-in_default-clause-answered g c = inr (given_up_none g.W.Output g.W.Outsi
 pub returns-in_default-clause-apart : goal.returns-in_default-clause-apart
 returns-in_default-clause-apart g c = record { keeps = keeps_none g.W.Output g.W.Outside c.args.outside.now; no_device = λ h. cc (h) }
 
+pub run-answer-requires-clause-catalogue : goal.run-answer-requires-clause-catalogue
+run-answer-requires-clause-catalogue g c = subst IsCatalogue (sym c.deref.ensures.value) c.requires.sound.shaped.relations
+
+pub run-answer-requires-clause-stores : goal.run-answer-requires-clause-stores
+run-answer-requires-clause-stores g c =
+    let p = program_of c.args.program.now in
+    let hosts = specs_of c.args.hosts.now.names in
+    let means = c.code_does_what_the_program_means.ensures in
+    let state = empty_is_state p.relations in
+    λ k.
+    let pre = means.prefixes p hosts (empty_state p.relations) c.args.turns c.requires.sound state k in
+    let stores = means.stores p hosts (empty_state p.relations) c.args.turns c.requires.sound state in
+    let front = events_in (code_at (code_of p) p.relations (empty_state p.relations) hosts c.args.turns k) in
+    own (λ (x : Code) (rs : List RelDecl). AreStoresOf rs (events_in (code_at x rs (empty_state rs) hosts c.args.turns k))) (code_of p) c.in-Ok.code p.relations c.deref.result.now (sym c.in-Ok.ensures.code) (sym c.deref.ensures.value)
+    (stores_front p.relations front pre.rest (subst (λ (es : List Event). AreStoresOf p.relations es) (sym pre.joined) stores))
+
+pub run-answer-requires-clause-over : goal.run-answer-requires-clause-over
+run-answer-requires-clause-over g c =
+    let p = program_of c.args.program.now in
+    let hosts = specs_of c.args.hosts.now.names in
+    let report = run_of p (empty_state p.relations) hosts c.args.turns in (
+      report,
+      own (λ (x : Code) (rs : List RelDecl). RunsAs x rs hosts c.args.turns report) (code_of p) c.in-Ok.code p.relations c.deref.result.now (sym c.in-Ok.ensures.code) (sym c.deref.ensures.value)
+          (c.code_does_what_the_program_means.ensures.ends p hosts (empty_state p.relations) c.args.turns c.requires.sound (empty_is_state p.relations)),
+    )
+
 pub returns-clause-answered : goal.returns-clause-answered
 returns-clause-answered g c =
     let p = program_of c.args.program.now in
+    let hosts = specs_of c.args.hosts.now.names in
+    let report = run_of p (empty_state p.relations) hosts c.args.turns in
+    let runs : RunsAs c.in-Ok.code c.deref.result.now hosts c.args.turns report =
+    own (λ (x : Code) (rs : List RelDecl). RunsAs x rs hosts c.args.turns report) (code_of p) c.in-Ok.code p.relations c.deref.result.now (sym c.in-Ok.ensures.code) (sym c.deref.ensures.value)
+    (c.code_does_what_the_program_means.ensures.ends p hosts (empty_state p.relations) c.args.turns c.requires.sound (empty_is_state p.relations)) in
     answered_by _ c.run-answer.result (passage g.W.Output g.W.Outside c.args.outside.now c.run-answer.new.outside) (spoken_fault c.run-answer.result c.run-answer.ensures.spoken)
-    (inl (ran (run_of p (empty_state p.relations) (specs_of c.args.hosts.now.names) c.args.turns), evaluates, c.run-answer.ensures.told))
+    (inl (ran report, evaluates, c.run-answer.ensures.told report runs))
 
 pub returns-clause-apart : goal.returns-clause-apart
 returns-clause-apart g c = record { keeps = c.run-answer.ensures.keeps; no_device = spoken_no_device c.run-answer.result c.run-answer.ensures.spoken }

@@ -1,10 +1,10 @@
 use Rattle.std.proofs.Common.{sym, refl, subst, rules}
 use Rattle.hera_outcome.specs.Passages.{passage}
 use Rattle.hera_words.specs.declared.command.Command.{Command}
-use Rattle.hera_words.specs.declared.command.Command.TheVariants.{Drill, Dump, Checkpoint, Import, Export, Guard, Weave}
+use Rattle.hera_words.specs.declared.command.Command.TheVariants.{Pack, Exec, Drill, Dump, Checkpoint, Import, Export, Guard, Weave}
 use Rattle.hera_top.specs.Commands.{ReadsScript, IsAnswered}
 use Rattle.hera_top.specs.Sources.{seen_of}
-use Rattle.hera_top.proofs.Answering.{has_folder, one_source, reads_files, one_file, import_reads_files, unread_answered, read_answered}
+use Rattle.hera_top.proofs.Answering.{has_folder, one_source, reads_files, one_file, import_reads_files, one_pack, one_exec, reads_some, unread_answered, read_answered}
 use Rattle.hera_top.proofs.Weaving.{same_weave, none_to_weave}
 use Rattle.hera_top.proofs.Guarding.{two_sources, guard_reads_files}
 use Rattle.hera_top.proofs.top.answer.Goals as goal
@@ -44,10 +44,28 @@ returns-in-Export g c =
 pub returns-in-Import : goal.returns-in-Import
 returns-in-Import g c =
     record {
-      answered = read_answered g.S.Source.left g.S.Source.faults c.args.sources.now.items c.index_mut.result.now c.import_source.new.source c.args.hosts.now.names c.args.name.now Import c.args.command c.import_source.result
-          (passage g.W.Output g.W.Outside c.args.outside.now c.import_source.new.outside) (one_file c.args.command _ (sym c.in-Import.is) c.requires.sources) c.index_mut.ensures.value (sym c.in-Import.is) (c.import_source.ensures.answered c.args.hosts.now.names);
+      answered = read_answered g.S.Source.left g.S.Source.faults c.args.sources.now.items c.index_mut-in-Import.result.now c.import_source.new.source c.args.hosts.now.names c.args.name.now Import c.args.command c.import_source.result
+          (passage g.W.Output g.W.Outside c.args.outside.now c.import_source.new.outside) (one_file c.args.command _ (sym c.in-Import.is) c.requires.sources) c.index_mut-in-Import.ensures.value (sym c.in-Import.is) (c.import_source.ensures.answered c.args.hosts.now.names);
       unread = λ none. absurd (import_reads_files c.args.command (sym c.in-Import.is) none);
       apart = λ none. absurd (has_folder Import c.args.command (sym c.in-Import.is) refl none);
+    }
+
+pub returns-in-Pack : goal.returns-in-Pack
+returns-in-Pack g c =
+    record {
+      answered = read_answered g.S.Source.left g.S.Source.faults c.args.sources.now.items c.index_mut.result.now c.pack_source.new.source c.args.hosts.now.names c.args.name.now Pack c.args.command c.pack_source.result
+          (passage g.W.Output g.W.Outside c.args.outside.now c.pack_source.new.outside) (one_pack c.args.command _ (sym c.in-Pack.is) c.requires.sources) c.index_mut.ensures.value (sym c.in-Pack.is) (c.pack_source.ensures.answered c.args.name.now);
+      unread = λ none. absurd (reads_some Pack c.args.command (sym c.in-Pack.is) refl none);
+      apart = λ none. c.pack_source.ensures.apart;
+    }
+
+pub returns-in-Exec : goal.returns-in-Exec
+returns-in-Exec g c =
+    record {
+      answered = read_answered g.S.Source.left g.S.Source.faults c.args.sources.now.items c.index_mut-in-Exec.result.now c.exec_source.new.source c.args.hosts.now.names c.args.name.now (Exec c.in-Exec.turns) c.args.command c.exec_source.result
+          (passage g.W.Output g.W.Outside c.args.outside.now c.exec_source.new.outside) (one_exec c.in-Exec.turns c.args.command _ (sym c.in-Exec.is) c.requires.sources) c.index_mut-in-Exec.ensures.value (sym c.in-Exec.is) (c.exec_source.ensures.answered c.args.name.now);
+      unread = λ none. absurd (reads_some (Exec c.in-Exec.turns) c.args.command (sym c.in-Exec.is) refl none);
+      apart = λ none. c.exec_source.ensures.apart;
     }
 
 pub returns-in-Check : goal.returns-in-Check

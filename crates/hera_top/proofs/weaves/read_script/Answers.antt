@@ -1,8 +1,6 @@
 use Rattle.std.proofs.Common.{◌≡◌, ◌≤◌, ◌∙◌, ap, Err, sym, inl, inr, subst, List, ℕ, length}
 use Rattle.hera_causes.specs.declared.fails.ReadFail.{ReadFail}
 use Rattle.hera_causes.specs.Causes.{EndsBy}
-use Rattle.hera_rules.specs.Accepted.{Accepted}
-use Rattle.hera_meaning.specs.Plain.{program_of}
 use Rattle.hera_syntax.specs.Tokens.{script_limit}
 use Rattle.hera_script.specs.Refusing.{too_long}
 use Rattle.hera_outcome.specs.declared.answer.Stop.{Stop}

@@ -1,6 +1,5 @@
 use Rattle.std.proofs.Common.{arith, sym, subst}
 use Rattle.std.specs.Prelude.{slice_set}
-use Rattle.hera_outcome.specs.declared.answer.Stop.TheVariants.{Memory}
 use Rattle.hera_run.proofs.Results.{err_is}
 use Rattle.hera_top.specs.Stopping.{AreStopped}
 use Rattle.hera_top.specs.Sources.{seen_of}

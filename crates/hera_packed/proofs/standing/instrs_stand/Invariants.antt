@@ -1,0 +1,7 @@
+use Rattle.std.proofs.Common.{take}
+use Rattle.std.specs.List.{AllByRecursion}
+use Rattle.hera_code_writer.specs.Writable.{InstrStands}
+use Rattle.hera_packed.proofs.standing.instrs_stand.Given as goal
+
+abbrev pub invariant-loop-instr : goal.invariant-loop-instr
+invariant-loop-instr l = AllByRecursion InstrStands (take l.instr-index l.instrs)
