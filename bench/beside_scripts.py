@@ -1,17 +1,18 @@
 """The parts of hostile.py that try what stands beside scripts: files of comma-separated values, guards, orders, code files."""
 
-import functools
 import re
 
 import code_file
+import code_meaning
 import commands
 import meaning
 import reader
 import rules as rules_of
 import script as scripts
 import tables
-from common import TRAPS, Wrong, call, has_command, last_line
+from common import Wrong, call, has_command
 from drawers import CodeFiles, Files, Orders, Rules
+from inputs import examples
 from typed_phrases import RELATIONS, TypedPhrases
 
 MAGICS = [*reader.PAGES]
@@ -148,7 +149,7 @@ def try_folders(program, folder, draw, number, processes):
         model, story = commands.Folder(start), []
         for _ in range(draw.randrange(2, 9)):
             words, source = draw_command(draw, files, phrases)
-            if words[0] in ("import", "export") and not has_files(program):
+            if words[0] in ("import", "export") and not has_command(program, "import"):
                 continue
             folder.write("script", source)
             places = {"D": folder.database, "F": folder.script}
@@ -158,12 +159,6 @@ def try_folders(program, folder, draw, number, processes):
             if found != wanted or folder.read() != model.files:
                 raise Wrong(f"{story} from {start}: {found} {folder.read()}, wanted {wanted} {model.files}")
             yield 1
-
-
-@functools.lru_cache
-def has_files(program):
-    """Whether the program imports and exports."""
-    return has_command(program, "import")
 
 
 # ---- guards
@@ -277,52 +272,38 @@ def try_orders(program, folder, draw, number, processes):
 # ---- code files
 
 
+def wrong_in_packed(script, data, turns):
+    """What is wrong with what `pack` wrote of a script that is accepted, or None: it is code that may be run, and that does
+    what the script does."""
+    found, wanted = code_meaning.execute(data, turns), meaning.evaluate(script, turns)[:2]
+    return None if found == wanted else f"the file {data.hex()} does {found}, wanted {wanted}"
+
+
 def packed_scripts(program, folder):
-    """Packed scripts, each of which runs as the script does."""
+    """Packed scripts, each of which does what the script does."""
     packed = [code_file.EXAMPLE]
     wholes = [Rules.DECLARED + script for script in Rules.SCRIPTS] + [Orders.DECLARED + script for script in Orders.SCRIPTS]
-    for whole in wholes:
-        folder.write("script", whole.encode())
+    for whole in [whole.encode() for whole in wholes] + examples():
+        folder.write("script", whole)
         text, status = answered(program, ["pack", folder.script], f"pack of {whole!r}")
         if status == 0:
             packed.append(text)
-            if code_file.place_of(text) is not None:
-                raise Wrong(f"pack of {whole!r}: it is bad at {code_file.place_of(text)}: {text.hex()}")
-            wanted = meaning.evaluate(whole.encode(), 500)[:2]
-            folder.write("code", text)
-            found = answered(program, ["exec", "500", folder.path + "/code"], f"exec of {whole!r}")
-            if found != wanted:
-                raise Wrong(f"exec of the packed {whole!r}: {found}, wanted {wanted}")
+            wrong = wrong_in_packed(whole, text, 500)
+            if wrong:
+                raise Wrong(f"pack of {whole!r}: {wrong}")
     return packed
 
 
-def judge_exec(data, text, status):
-    """What is wrong with the answer of `exec` to this file, or None."""
-    place = code_file.place_of(data)
-    if place is not None:
-        wanted = b"refused BadCode at %d\n" % place
-        return None if (text, status) == (wanted, 3) else f"wanted {wanted!r}"
-    if status == 3:
-        found = re.fullmatch(rb"refused Rejected at (\d+)\n", text)
-        return None if found and int(found[1]) <= code_file.read(data) else "it is no bad file"
-    if status == 1:
-        found = re.fullmatch(rb"trap (\w+) at \d+", last_line(text))
-        return None if found and found[1] in TRAPS else "no trap"
-    if status == 4:
-        return None if last_line(text) == b"turns spent" else "no line of spent turns"
-    return None if status == 0 else "no status of exec"
-
-
 def try_code(program, folder, draw, number, processes):
-    """Spoiled code files: each is bad at its place, rejected, or runs to an end within its turns."""
+    """Spoiled code files: each is bad at its place, rejected at its address, or does what its instructions tell."""
     files = CodeFiles(draw, packed_scripts(program, folder))
     while True:
         data = files.one()
         folder.write("code", data)
-        text, status = answered(program, ["exec", "300", folder.path + "/code"], f"exec of {data.hex()}")
-        wrong = judge_exec(data, text, status)
-        if wrong:
-            raise Wrong(f"exec of {data.hex()}: {text!r} {status}: {wrong}")
+        found = answered(program, ["exec", "300", folder.path + "/code"], f"exec of {data.hex()}")
+        wanted = code_meaning.execute(data, 300)
+        if found != wanted:
+            raise Wrong(f"exec of {data.hex()}: {found}, wanted {wanted}")
         yield 1
 
 

@@ -4,16 +4,19 @@
     bench/cases.py [FOLDER]
 
 It goes through the cases of stdin, but for those that let calls fail, and those of `list`. Of woven scripts it is looked at
-whether those that commit print and store what they do one after another. FOLDER is another checkout.
+whether those that commit print and store what they do one after another, and of a packed script whether its code does
+what the script does. FOLDER is another checkout.
 """
 
 import os
 import sys
 
+import code_meaning
+import meaning
 import rules
 import script as scripts
 import tables
-from beside_scripts import judge_weave, wanted_guard
+from beside_scripts import judge_weave, wanted_guard, wrong_in_packed
 from commands import Answer, Folder, number_of
 from common import Wrong
 
@@ -21,8 +24,10 @@ FOLDERS = ("init", "run", "dump", "checkpoint", "widen", "import", "export", "gu
 # Where the FILE words begin, and the most of them.
 FILES = {
     "check": (1, 1), "list": (1, 1), "eval": (2, 1), "init": (2, 1), "run": (3, 1), "widen": (2, 1), "import": (3, 1),
-    "guard": (3, 2), "weave": (4, 64),
+    "guard": (3, 2), "weave": (4, 64), "pack": (1, 1), "exec": (2, 1),
 }
+# The settings that do nothing to the folder.
+OTHERS = ("rules", "before", "code", "hex", "unseen")
 PLACES = {"select": 0, "left": 1, "right": 2}
 
 
@@ -57,6 +62,8 @@ class Session:
 
     def __init__(self, data):
         self.data, self.name, self.folder = data, "", Folder()
+        # What the case before emitted, or the script that it packed where that is not shown.
+        self.emitted, self.packed = b"", None
 
     def sources(self, words, lines):
         """The texts of the FILE words: of those before the last the ones that are given come first."""
@@ -66,9 +73,12 @@ class Session:
         given += [self.read(name) for name in names[:-1] if name != "-"]
         given += [b""] * (len(names) - 1 - len(given))
         last = b"\n".join(line for line in lines if not line.startswith(b"=> "))
+        last += b"".join(bytes.fromhex(line[8:].decode()) for line in lines if line.startswith(b"=> code "))
         return given + [last + (self.read(names[-1]) if names and names[-1] != "-" else b"")]
 
     def read(self, name):
+        if name == "+":
+            return self.emitted
         path = os.path.join(self.data, name)
         if not os.path.isfile(path):
             return b""
@@ -86,14 +96,44 @@ class Session:
         self.name = name
         texts = self.sources(words, lines)
         settings = [line[3:].decode() for line in lines if line.startswith(b"=> ")]
-        if not all([set_file(self.folder, line) for line in settings if line.split()[0] not in ("rules", "before")]):
+        if not all([set_file(self.folder, line) for line in settings if line.split()[0] not in OTHERS]):
             return None
+        if words[0] in ("pack", "exec"):
+            return self.code(words, texts[-1], found)
         if not form or words[0] not in ("guard", "weave"):
             return self.folder.call(words, texts[-1])
         try:
             return self.guard(words, texts) if words[0] == "guard" else self.weave(words, texts, found)
         except Answer as answer:
             return answer.args
+
+    def code(self, words, source, found):
+        """What a code file does; or what is found, where that is a code file that does what the script does."""
+        if len(words) != sum(FILES[words[0]]):
+            return b"usage\n", 2
+        try:
+            if words[0] == "exec":
+                turns = number_of(words[1], 0, 2**64 - 1)
+                if words[2] == "+" and self.packed is not None:
+                    return meaning.evaluate(self.packed, turns)[:2]
+                return code_meaning.execute(source, turns)
+            refused_by(rules.check, source)
+        except Answer as answer:
+            return answer.args
+        if not self.emitted_of(found):
+            # What it packs is not shown, but what that does is, by the next case.
+            self.packed = source
+            return b"", 0
+        self.packed = None
+        wrong = wrong_in_packed(source, self.emitted_of(found), 1000)
+        return (wrong.encode(), 0) if wrong else (found.removesuffix(b"-- 0\n"), 0)
+
+    def emitted_of(self, found):
+        """What was emitted where this is stored, in hexadecimal digits."""
+        try:
+            return bytes.fromhex(found.rpartition(b"-- ")[0].decode())
+        except ValueError:
+            return b""
 
     def guard(self, words, texts):
         """What a guarded run prints, where its folder has a database if its scripts are accepted."""
@@ -146,6 +186,8 @@ def main():
         place = next((place for place, (it, _) in enumerate(stored) if it == heading), None)
         found = None if place is None else b"\n".join(stored.pop(place)[1] + [b""])
         answer = session.answer(words.decode().split(" ") if colon else [], lines, found or b"")
+        if words.startswith(b"pack "):
+            session.emitted = session.emitted_of(found or b"")
         if answer is None:
             continue
         compared += 1

@@ -4,31 +4,64 @@ it is bad. Nothing here is taken from the program.
 
 from reader import Damaged, Fields
 
-INT, BOOL, TEXT, TUPLE, RELATION, DELTA = range(6)
+KINDS = {1: "int", 2: "bool", 3: "text"}
+SHAPES = ["int", "bool", "text", "tuple", "rel", "delta"]
 # The parts of each instruction, in the order of their numbers.
-INSTRUCTIONS = [
-    ["constant"], ["place"], ["place"], ["relation"], ["operation", "place"], ["place"], ["place"], ["place"], ["place"],
-    ["place"], [], [], ["place", "place"], [], [], [], [], ["place"], [], [], ["shape"], ["place"], [], [], ["place"], [],
-]
+INSTRUCTIONS = {
+    "push": ["constant"], "load": ["place"], "store": ["place"], "rel": ["relation"], "prim": ["operation", "place"],
+    "host": ["place"], "jump": ["place"], "unless": ["place"], "back": ["place"], "enter": ["place"], "leave": [], "walk": [],
+    "next": ["place", "place"], "keep": [], "gather": [], "yield": [], "drop": [], "call": ["place"], "ret": [], "retval": [],
+    "print": ["shape"], "apply": ["place"], "commit": [], "rollback": [], "assert": ["place"], "halt": [],
+}
 # And those of each operation.
-OPERATIONS = [[] for _ in range(14)] + [
-    ["schema", "place"], ["schema"], ["place"], ["schema", "places"], [], [], [], ["schema", "schema"],
-    ["schema", "places", "aggregates"], [], [], ["schema", "place"], ["schema", "place"], ["schema", "place"],
-    ["sign", "relation"], ["sign", "relation"], ["relation"], ["relation"], [], [], [],
-]
+OPERATIONS = {
+    "neg": [], "not": [], "add": [], "sub": [], "mul": [], "div": [], "rem": [], "eq": [], "ne": [], "lt": [], "le": [],
+    "gt": [], "ge": [], "in": [], "field": ["schema", "place"], "makerow": ["schema"], "makerel": ["place"],
+    "project": ["schema", "places"], "union": [], "minus": [], "inter": [], "join": ["schema", "schema"],
+    "group": ["schema", "places", "aggregates"], "count": [], "empty": [], "sum": ["schema", "place"],
+    "min": ["schema", "place"], "max": ["schema", "place"], "atom": ["sign", "relation"], "bulk": ["sign", "relation"],
+    "ins": ["relation"], "del": ["relation"], "isfail": [], "smash": [], "merge": [],
+}
+AGGREGATES = ["count", "sum", "min", "max"]
+# What stands for the constants {} and fail.
+EMPTY, FAIL = ("delta",), ("fail",)
+
+
+class Slot:
+    """What a file notes of a slot: its shape, the range from which and up to before which it is set, and what the walk into it
+    gathers, or None."""
+
+    def __init__(self, shape, first, end, gathers):
+        self.shape, self.first, self.end, self.gathers = shape, first, end, gathers
+
+
+class Body:
+    def __init__(self, start, params, result, slots):
+        self.start, self.params, self.result, self.slots = start, params, result, slots
+
+
+class Code:
+    """The relations with their names and schemas, the bodies, and the instructions, each a name and its parts."""
+
+    def __init__(self, relations, bodies, instructions):
+        self.relations, self.bodies, self.instructions = relations, bodies, instructions
 
 
 class CodeFields(Fields):
     """The fields of a code file from the left. Where one is bad, Damaged tells its first byte."""
 
+    def one_of(self, things):
+        return things[self.number(1, lambda n: n < len(things))]
+
     def constant(self):
         kind = self.number(1, lambda n: n <= 4)
         if kind == 0:
-            self.take(8)
-        elif kind == 1:
-            self.number(1, lambda n: n <= 1)
-        elif kind == 2:
-            self.take(self.number(2, lambda n: n <= 1023), is_text)
+            return self.number(8) - 2**63
+        if kind == 1:
+            return self.number(1, lambda n: n <= 1) == 1
+        if kind == 2:
+            return self.take(self.number(2, lambda n: n <= 1023), is_text)
+        return EMPTY if kind == 3 else FAIL
 
     def place(self):
         return self.number(4)
@@ -37,58 +70,59 @@ class CodeFields(Fields):
         return self.number(2)
 
     def sign(self):
-        return self.number(1, lambda n: n in (1, 2))
+        return "+" if self.number(1, lambda n: n in (1, 2)) == 1 else "-"
 
     def schema(self):
-        earlier = []
+        attributes = []
         for _ in range(self.number(1, lambda n: 1 <= n <= 16)):
-            earlier.append(self.name(earlier))
-            self.number(1, lambda n: 1 <= n <= 3)
+            name = self.name([earlier for earlier, _ in attributes])
+            attributes.append((name, KINDS[self.number(1, lambda n: n in KINDS)]))
+        return attributes
 
     def shape(self):
-        if self.number(1, lambda n: n <= DELTA) in (TUPLE, RELATION):
-            self.schema()
+        kind = self.one_of(SHAPES)
+        return (kind, self.schema()) if kind in ("tuple", "rel") else kind
 
     def places(self):
-        for _ in range(self.number(4)):
-            self.place()
+        return self.many(self.place)
 
     def aggregates(self):
-        for _ in range(self.number(4)):
-            if self.number(1, lambda n: n <= 3) != 0:
-                self.place()
+        return self.many(self.aggregate)
+
+    def aggregate(self):
+        how = self.one_of(AGGREGATES)
+        return how, None if how == "count" else self.place()
+
+    def many(self, part):
+        return [part() for _ in range(self.number(4))]
 
     def operation(self):
-        for part in OPERATIONS[self.number(1, lambda n: n < len(OPERATIONS))]:
-            getattr(self, part)()
-
-    def perhaps(self, part):
-        if self.number(1, lambda n: n <= 1) == 1:
-            part()
-
-    def slot(self):
-        self.shape()
-        self.place()
-        self.place()
-        self.perhaps(self.schema)
-
-    def body(self):
-        self.place()
-        self.place()
-        self.number(1, lambda n: n <= 1)
-        self.perhaps(self.shape)
-        for _ in range(self.number(4)):
-            self.slot()
+        return self.named(OPERATIONS)
 
     def instruction(self):
-        for part in INSTRUCTIONS[self.number(1, lambda n: n < len(INSTRUCTIONS))]:
-            getattr(self, part)()
+        return self.named(INSTRUCTIONS)
+
+    def named(self, table):
+        name = self.one_of([*table])
+        return name, *[getattr(self, part)() for part in table[name]]
+
+    def perhaps(self, part):
+        return part() if self.number(1, lambda n: n <= 1) == 1 else None
+
+    def slot(self):
+        return Slot(self.shape(), self.place(), self.place(), self.perhaps(self.schema))
+
+    def body(self):
+        start, params = self.place(), self.place()
+        self.number(1, lambda n: n <= 1)
+        return Body(start, params, self.perhaps(self.shape), self.many(self.slot))
 
     def relations(self):
-        earlier = []
+        relations = []
         for _ in range(self.number(2, lambda n: n <= 256)):
-            earlier.append(self.name(earlier))
-            self.schema()
+            name = self.name([earlier for earlier, _ in relations])
+            relations.append((name, self.schema()))
+        return relations
 
 
 def is_text(data):
@@ -100,18 +134,13 @@ def is_text(data):
 
 
 def read(data):
-    """How many instructions the file has, or Damaged."""
+    """The code of the file, or Damaged."""
     fields = CodeFields(data)
     fields.take(8, lambda magic: magic == b"HERACODE")
-    fields.relations()
-    for _ in range(fields.number(4)):
-        fields.body()
-    count = fields.number(4)
-    for _ in range(count):
-        fields.instruction()
+    code = Code(fields.relations(), fields.many(fields.body), fields.many(fields.instruction))
     if fields.at < len(data):
         raise Damaged(fields.at)
-    return count
+    return code
 
 
 # The example of docs/FORMATS.md, of `main { print 2 + 3 * 4; }`.
@@ -136,7 +165,7 @@ def place_of(data):
 
 
 def check_itself():
-    assert len(EXAMPLE) == 77 and read(EXAMPLE) == 7
+    assert len(EXAMPLE) == 77 and len(read(EXAMPLE).instructions) == 7
     assert place_of(EXAMPLE[:63] + b"\x23" + EXAMPLE[64:]) == 63
     assert place_of(b"\0" + EXAMPLE[1:]) == 0
     assert place_of(EXAMPLE + b"\0") == 77

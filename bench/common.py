@@ -1,5 +1,6 @@
 """What the parts of the driver share: a call of the program, the judge of its answer, and a folder to try it on."""
 
+import functools
 import multiprocessing
 import os
 import re
@@ -14,7 +15,7 @@ REFUSALS = b"BadUtf8 BadToken TooDeep Syntax Unknown Repeated Mismatch Impure No
 TRAPS = b"DivZero Overflow EmptyMin ApplyFail WhenFail ReadFail Assert".split()
 STATUSES = {
     "check": {0, 3}, "list": {0, 3}, "eval": {0, 1, 3, 4}, "run": {0, 1, 3, 4, 5}, "init": {0, 3, 5},
-    "dump": {0, 5}, "checkpoint": {0, 5}, "widen": {0, 3, 5}, "drill": {0},
+    "dump": {0, 5}, "checkpoint": {0, 5}, "widen": {0, 3, 5}, "drill": {0}, "pack": {0, 3},
 }
 # The words of the commands that not every program has, with a folder D and a file F.
 FORMS = {
@@ -103,6 +104,7 @@ class Folder:
         return files
 
 
+@functools.lru_cache
 def has_command(program, name):
     """Whether the program knows this command."""
     with Folder() as folder:

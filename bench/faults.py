@@ -4,8 +4,8 @@
     bench/faults.py PROGRAM [--processes N] [--seed N] [--only PART] [--chains N]
 
 It stops at the first answer that is not allowed. Its parts:
-  calls    each call of `init`, a run of five commits, `checkpoint`, `widen`, `import`, `export`, a guarded run and `dump`
-           failing alone with EIO and with ENOSPC, interrupted, short, and as the program's end before and behind it; then
+  calls    each call of `init`, a run of five commits, `checkpoint`, `widen`, `import`, `export`, a guarded run, a weave of
+           four scripts and `dump` failing alone with EIO and with ENOSPC, interrupted, short, and as the program's end before and behind it; then
            losses of power, and what further commands find, where all calls go well again
   power    at each call of these commands a loss of power, with `dump` of what may be left
   streams  closed and full standard streams, and a limit on the length of files
@@ -33,16 +33,21 @@ UNREAD = b"script unread\n"
 KILLED = -signal.SIGKILL
 RELATION = b"relation R(a int, b text);\n"
 # The commands that put rows in.
-FILLING = ("run", "guard", "import")
+FILLING = ("run", "guard", "weave", "import")
 # Rows with long texts, put in by one commit, so that a half has several pages.
 MANY = frozenset(range(10000, 10060))
 
 
 class Answer:
-    """What a command prints, over a database with some state, and its status; and the states behind each of its lines."""
+    """What a command prints, over a database with some state, and its status; and the states that it stores, each before the
+    first of its so many lines is printed."""
 
-    def __init__(self, text, status, states):
-        self.text, self.status, self.states = text, status, states
+    def __init__(self, text, status, states, lines=1):
+        self.text, self.status, self.states, self.lines = text, status, states, lines
+
+    def behind(self, printed):
+        """The states that may be there where so many lines were printed."""
+        return self.states[-(-printed // self.lines) :][:2] if len(self.states) > 1 else self.states
 
     def left_by(self, text, status):
         """The states that may be left where the command answered so, or none where it may not answer so."""
@@ -51,7 +56,7 @@ class Answer:
         if status == 7 and text == UNREAD:
             return self.states[:1]
         if status in (6, 8, 9, KILLED) and self.text.startswith(text):
-            return self.states[text.count(b"\n") :][:2] if len(self.states) > 1 else self.states
+            return self.behind(text.count(b"\n"))
         return []
 
 
@@ -86,9 +91,12 @@ def wanted(command, state, rows=()):
         return Answer(b"database exists\n", 5, [state])
     if state is None:
         return Answer(b"no database\n", 5, [None])
+    states = [state.union(*rows[:count]) for count in range(len(rows) + 1)]
     if command in ("run", "guard"):
-        states = [state.union(*rows[:count]) for count in range(len(rows) + 1)]
         return Answer(b"".join(b"commit %d\n" % (n + 1) for n in range(len(rows))), 0, states)
+    if command == "weave":
+        told = b"".join(b"session %d\ncommit 1\n" % n for n in range(len(rows)))
+        return Answer(told or b"session 0\n", 0, states, 2)
     if command == "import":
         some = frozenset().union(*rows)
         return Answer(b"imported %d\n" % len(some), 0, [state, state | some])
@@ -109,6 +117,7 @@ class Box(Folder):
         self.image = os.path.join(self.path, "image")
         self.log = os.path.join(self.path, "log")
         self.file, self.rules = os.path.join(self.path, "file"), os.path.join(self.path, "rules")
+        self.woven = []
         self.made = 0
         self.has = {name: has_command(program, name) for name in FORMS}
         os.mkdir(self.image)
@@ -120,6 +129,7 @@ class Box(Folder):
         words = {name: [name, folder, self.script] for name in ("init", "widen")}
         words["run"] = ["run", folder, "100000", self.script]
         words["guard"] = ["guard", folder, "100000", self.rules, self.script]
+        words["weave"] = ["weave", folder, "100000", "0", *self.woven]
         words["import"] = ["import", folder, "R", self.file]
         words["export"] = ["export", folder, "R"]
         return words.get(command, [command, folder])
@@ -128,6 +138,12 @@ class Box(Folder):
         """Writes the script or the file from which a command takes these rows."""
         if command in ("run", "guard"):
             self.write("script", script_of(rows))
+        if command == "weave":
+            # A script for each commit, which run one after the other; without one, a script that commits nothing.
+            pieces = [[some] for some in rows] or [[]]
+            self.woven = [os.path.join(self.path, f"woven{place}") for place in range(len(pieces))]
+            for place, piece in enumerate(pieces):
+                self.write(f"woven{place}", script_of(piece))
         if command == "import":
             self.write("file", file_of(frozenset().union(*rows)))
 
@@ -254,7 +270,8 @@ def commands(box):
     found += [("init", (), state, moved), ("run", FIVE, frozenset(), empty), ("run", FIVE[1:], state, moved)]
     for rest, files in ((MANY, wide), (state, moved)):
         found += [(command, (), rest, files) for command in ("checkpoint", "widen", "dump")]
-        more = [("import", FIVE[1:], rest, files), ("export", (), rest, files), ("guard", FIVE[1:], rest, files)]
+        more = [("import", FIVE[1:], rest, files), ("export", (), rest, files)]
+        more += [(command, FIVE[1:], rest, files) for command in ("guard", "weave")]
         found += [case for case in more if box.has[case[0]]]
     return found
 
@@ -285,7 +302,7 @@ def blame(box, clean, number):
         return {status, 8}
     if descriptor == "1":
         return {8}
-    return {7} if path in (box.script, box.file, box.rules) else {6}
+    return {7} if path in (box.script, box.file, box.rules, *box.woven) else {6}
 
 
 def try_call(box, draw, case, plan, clean, number):
@@ -331,7 +348,7 @@ def try_power(box, options, number, processes):
                 printed += bytes.fromhex(payload).count(b"\n")
             if count % processes != number:
                 continue
-            states = answer.states[printed:][:2] if len(answer.states) > 1 else answer.states
+            states = answer.behind(printed)
             draw = random.Random(f"{options.seed} {place} {count}")
             for image in disk.images(draw, 40):
                 box.look(image, states, f"a loss of power behind call {count + 1} of {command}")
@@ -402,7 +419,7 @@ def try_chain(box, draw):
     """Random commands on one folder, with failures and losses of power."""
     session, row = Session(box, draw, [None]), 0
     known = ["init", "run", "run", "run", "checkpoint", "widen", "dump"]
-    known += [name for name in ("import", "import", "export", "guard") if box.has[name]]
+    known += [name for name in ("import", "import", "export", "guard", "weave") if box.has[name]]
     for _ in range(draw.randint(4, 10)):
         command = draw.choice(known)
         rows = []

@@ -20,7 +20,7 @@ Its parts:
 
 What the program says is compared with readers that are written from the documents alone: of halves bench/reader.py, of
 scripts bench/script.py, bench/rules.py and bench/meaning.py, of files and guards bench/tables.py (with Python's `csv`),
-of code bench/code_file.py, of all commands together bench/commands.py. The parts from halves on take N seconds each, or
+of code bench/code_file.py, code_rules.py and code_meaning.py, of all commands together bench/commands.py. The parts from halves on take N seconds each, or
 with --count go on until they have tried N inputs, in N processes at a time. A part whose command the program doesn't have
 is left out.
 """
@@ -34,7 +34,7 @@ import sys
 import time
 
 import beside_scripts
-import code_file
+import code_meaning
 import full
 import meaning
 import memory
@@ -128,9 +128,20 @@ def try_script(program, folder, script, turns):
     compare_script(script, turns, ran, status)
     if checked[1] == 3:
         return 2
+    if has_command(program, "pack"):
+        try_packed(program, folder, script, turns, (ran, status))
     if ask(program, script, ["list", folder.script])[1] != 0:
         raise Wrong(f"list of the script {script!r}")
     return 3
+
+
+def try_packed(program, folder, script, turns, wanted):
+    """What is packed does what the script does, by the program and by the reader of code files."""
+    packed, _ = ask(program, script, ["pack", folder.script])
+    folder.write("code", packed)
+    found = beside_scripts.answered(program, ["exec", turns, folder.path + "/code"], f"exec of the packed {script!r}")
+    if found != wanted or code_meaning.execute(packed, int(turns)) != wanted:
+        raise Wrong(f"exec {turns} of the packed {script!r}, {packed.hex()}: {found}, wanted {wanted}")
 
 
 def compare_script(script, turns, ran, status):
@@ -207,7 +218,7 @@ def main():
     options.program = os.path.abspath(options.program)
     resource.setrlimit(resource.RLIMIT_AS, (MEMORY, MEMORY))
     reader.check_itself()
-    code_file.check_itself()
+    code_meaning.check_itself()
     try:
         for part in PARTS:
             if options.only in (None, part):

@@ -194,10 +194,7 @@ class Machine:
         """What is printed, and the status."""
         status = 0
         try:
-            if self.tree.main is not None:
-                self.block(self.tree.main, {})
-        except Return:
-            pass
+            self.work()
         except Trap as trap:
             self.printed.append(b"trap %s at %d" % (trap.name.encode(), trap.at))
             status = 1
@@ -205,6 +202,14 @@ class Machine:
             self.printed.append(b"turns spent")
             status = 4
         return b"".join(line + b"\n" for line in self.printed), status
+
+    def work(self):
+        """Main, up to its end or a return."""
+        try:
+            if self.tree.main is not None:
+                self.block(self.tree.main, {})
+        except Return:
+            pass
 
     def block(self, stmts, locals_):
         for stmt in stmts:

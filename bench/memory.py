@@ -5,6 +5,7 @@ import re
 import shutil
 import subprocess
 
+import code_file
 from common import FORMS, Folder, Wrong, call, has_command
 
 BENCH = os.path.dirname(os.path.abspath(__file__))
@@ -16,6 +17,8 @@ NONE = b"no database\n"
 ADD = b"a\n3\n"
 GUARDED = TWO + b"main { apply {+R(4)}; commit; }"
 FIRST, SECOND = (TWO + b"main { apply {+R(%d)}; commit; }" % row for row in (5, 6))
+# The same of rows behind those of a run of two commits.
+THIRD, FOURTH = (TWO + b"main { apply {+R(%d)}; commit; }" % row for row in (3, 4))
 # How many lines a command prints for each commit, where that is not one.
 LINES = {"weave": 2}
 
@@ -93,7 +96,7 @@ def refuse_each(refuser, program, folder, name, words, whole, start=0, end=0):
 
 
 # The commands without a folder.
-ALONE = ("check", "list", "eval", "drill")
+ALONE = ("check", "list", "eval", "drill", "pack", "exec")
 
 
 def steps_over(folder):
@@ -123,7 +126,12 @@ def try_program(program):
         refuser = Refuser(folder)
         shutil.copy(os.path.join(EXAMPLES, "supplier.hera"), folder.script)
         folder.put(b"", b"")
-        for words in (["check", folder.script], ["list", folder.script], ["eval", "1000", folder.script], ["drill", "3"]):
+        alone = [["check", folder.script], ["list", folder.script], ["eval", "1000", folder.script], ["drill", "3"]]
+        if has_command(program, "pack"):
+            code = os.path.join(folder.path, "code")
+            folder.write("code", call(program, ["pack", folder.script])[0])
+            alone += [["pack", folder.script], ["exec", "1000", code]]
+        for words in alone:
             refuse_each(refuser, program, folder, words[0], words, call(program, words)[0])
         missing = 0
         for name, words, whole, start, end in steps_over(folder):
@@ -144,6 +152,8 @@ TRIED = re.compile(rb"== tried: [^\n]*\n=> fail 90..91 0\n-- from 90 on\n(.*?)--
 # The name, the cases before, the words, what their source has, and the rows before and behind.
 SCENARIOS = [
     ("eval", b"", b"eval 1000 supplier.hera", b"", 0, 0),
+    ("pack", b"", b"pack supplier.hera", b"", 0, 0),
+    ("exec", b"", b"exec 1000 -", b"=> code " + code_file.EXAMPLE.hex().encode(), 0, 0),
     ("init", b"", b"init d -", TWO, 0, 0),
     ("run", INIT, b"run d 100 -", COMMITS, 0, 2),
     ("dump", INIT + RUN, b"dump d", b"", 2, 2),
@@ -151,6 +161,8 @@ SCENARIOS = [
     ("widen", INIT + RUN, b"widen d -", WIDE, 2, 2),
     ("import", INIT + RUN, b"import d R -", ADD, 2, 3),
     ("export", INIT + RUN, b"export d R", b"", 2, 2),
+    ("guard", INIT + RUN, b"guard d 100 - -", b"=> rules R.a: band;\n" + THIRD, 2, 3),
+    ("weave", INIT + RUN, b"weave d 100 0 - -", b"=> before " + THIRD + b"\n" + FOURTH, 2, 4),
 ]
 
 
@@ -183,7 +195,7 @@ def refuse_in_scenario(refuser, program, name, lines, start, end):
             good = found[4] in (b"6", b"8", b"9") and wanted[3].startswith(found[3])
         else:
             good = is_cut((found[1], b"", int(found[2])), wanted[1])
-            good = good and (name == "eval" or found[3] in may_be_left(name, found[1], start, end))
+            good = good and (name in ALONE or found[3] in may_be_left(name, found[1], start, end))
         if not good:
             raise Wrong(f"{name} over files in memory with allocation {number} refused: {found[0]!r}")
     print(f"crash: {name}: {number - 1} allocations refused, of which {met} were the command's", flush=True)

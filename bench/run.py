@@ -28,7 +28,7 @@ def once(words):
     output = process.stdout.read()
     _, status, usage = os.wait4(process.pid, 0)
     process.returncode = os.waitstatus_to_exitcode(status)
-    return usage.ru_utime + usage.ru_stime, usage.ru_maxrss / 1024, process.returncode, output.decode()
+    return usage.ru_utime + usage.ru_stime, usage.ru_maxrss / 1024, process.returncode, output.decode(errors="replace")
 
 
 def best(words, times, statuses=(0,)):

@@ -6,7 +6,8 @@
 Standard output and the status are the program's own, and what it prints goes on as it comes. Where its last line is
 `refused NAME at OFFSET` or `trap NAME at OFFSET`, what follows on standard error is the place as FILE:LINE:COLUMN (columns
 count characters), that line with a caret under it, and a sentence on what the name means. Of a file of comma-separated
-values it is the line on which the record begins. Of a guarded run, and of woven scripts, a refusal may be that of any file:
+values it is the line on which the record begins; of a code file, whose script isn't there, the file and the sentence
+alone. Of a guarded run, and of woven scripts, a refusal may be that of any file:
 it is the one of the first script of which `check` says the same, and else of the guards.
 """
 
@@ -23,7 +24,9 @@ FAULT = re.compile(rb"(?:.*\n)?(?:refused|trap) (\w+) at (\d+)\n", re.DOTALL)
 TAIL = 64
 
 # How many words come before FILE in each form that ends with one.
-SCRIPT_AT = {"check": 1, "list": 1, "eval": 2, "init": 2, "widen": 2, "run": 3, "import": 3, "guard": 4}
+SCRIPT_AT = {
+    "check": 1, "list": 1, "eval": 2, "pack": 1, "exec": 2, "init": 2, "widen": 2, "run": 3, "import": 3, "guard": 4,
+}
 
 MEANINGS = {
     "TooLong": "A script has at most 1,048,576 bytes.",
@@ -48,6 +51,14 @@ MEANINGS = {
     "Assert": "The condition does not hold here.",
     "Record": "The first record has the names of the attributes in their order, and each other one a field for each: of an "
     "int an optional `-` and digits, of a bool `true` or `false`, of a text at most 1,023 bytes.",
+}
+
+# What the names mean of a code file.
+OF_CODE = {
+    "TooLong": "A code file has at most 16,777,216 bytes.",
+    "BadCode": "The field that begins at this byte breaks the format of code files, or ends behind the file; or a byte stands "
+    "behind the last instruction.",
+    "Rejected": "The instruction at this address, from 0, breaks a rule of code that may be run.",
 }
 
 WORDS = (
@@ -104,6 +115,13 @@ def explained_record(file, number):
     return f"{file}: Record\n{MEANINGS['Record']}\n"
 
 
+def explained_code(file, name, offset):
+    """The lines on a fault of a code file, or on a trap at this offset of the script of which it was packed."""
+    if name in OF_CODE:
+        return f"{file}: {name}\n{OF_CODE[name]}\n"
+    return f"{file}: {name}\n{MEANINGS.get(name, '')} Byte {offset} of the script of which it was packed is the place.\n"
+
+
 def is_refused_so(program, file, line):
     """Whether `check` refuses this file with this line."""
     return subprocess.run([program, "check", file], stdout=subprocess.PIPE, stdin=subprocess.DEVNULL).stdout == line
@@ -128,7 +146,9 @@ def explain(program, words, tail):
     name, offset = fault[1].decode(), int(fault[2])
     try:
         file = faulty_file(program, words, tail.splitlines(True)[-1])
-        if file and name == "Record":
+        if file and words[0] == "exec":
+            sys.stderr.write(explained_code(file, name, offset))
+        elif file and name == "Record":
             sys.stderr.write(explained_record(file, offset))
         elif file and not (words[0] == "import" and name == "TooLong"):
             sys.stderr.write(explained(file, name, offset))
@@ -195,7 +215,8 @@ def main():
         status, tail = run_through(command)
     else:
         os.execv(command[0], command)
-    explain(command[0], command[1:], tail)
+    if status in (1, 3):
+        explain(command[0], command[1:], tail)
     if status < 0:
         signal.signal(-status, signal.SIG_DFL)
         os.kill(os.getpid(), -status)

@@ -78,6 +78,11 @@ def wrong_in(program, folder):
         status, printed, shown = run([hera, *words], folder)
         if (status, printed) != (2, b"usage\n") or "hera import DIR R FILE" not in shown:
             yield f"forms: {words} {status} {printed} {shown}"
+        built = os.path.join(folder, "crates")
+        os.rename(built, built + ".away")
+        if run([hera, *words], folder) != (status, printed, shown):
+            yield f"forms where no program is built: {words}"
+        os.rename(built + ".away", built)
     used = os.path.join(folder, "used")
     os.mkdir(used)
     held = os.open(used, os.O_RDONLY)
@@ -96,7 +101,7 @@ def write(folder, name, text):
 
 
 def wrong_in_files(program, hera, folder):
-    """The tries of `import`, `guard` and `weave` that were not right, where the program has these."""
+    """The tries of `import`, `guard`, `weave`, `pack` and `exec` that were not right, where the program has these."""
     write(folder, "s.hera", "relation R(a int); main { print 1 / 0; }")
     run([program, "init", "d", "s.hera"], folder)
     write(folder, "rules", "R.a: bucket;\n")
@@ -104,13 +109,21 @@ def wrong_in_files(program, hera, folder):
     tries.append(("", "rules:1:6: Mismatch\nR.a: bucket;\n", ["guard", "d", "100", "rules", "s.hera"]))
     write(folder, "t.hera", "main { print m; }\n")
     tries.append(("", "t.hera:1:14: Unknown\nmain { print m; }\n", ["weave", "d", "100", "0", "s.hera", "t.hera", "s.hera"]))
+    tries.append(("", "t.hera:1:14: Unknown\nmain { print m; }\n", ["pack", "t.hera"]))
+    write(folder, "said.hera", 'main { print "trap Assert at 3"; }')
+    tries.append(("", "", ["eval", "1", "said.hera"]))
+    with open(os.path.join(folder, "code"), "wb") as file:
+        file.write(run([program, "pack", "s.hera"], folder)[1])
+    told = "code: DivZero\nSomething is divided by 0. Byte 34 of the script of which it was packed is the place.\n"
+    tries.append(("", told, ["exec", "1", "code"]))
+    tries.append(("", "s.hera: BadCode\nThe field that begins", ["exec", "1", "s.hera"]))
     for text, told, words in tries:
         write(folder, "s.csv", text)
         own = run([program, *words], folder)
         if own[0] == 2:
             continue
         status, printed, shown = on_a_terminal([hera, *words], folder, subprocess.PIPE)
-        if (status, printed) != own[:2] or told not in shown:
+        if (status, printed) != own[:2] or told not in shown or bool(told) != bool(shown):
             yield f"{words} of {text!r}: {status} {printed} {shown}"
 
 
