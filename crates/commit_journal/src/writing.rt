@@ -6,7 +6,7 @@ ghost use Rattle.delta_atoms.specs.Atoms.{atoms_in};
 ghost use Rattle.delta_atoms.specs.Refs.{atom_in};
 ghost use Rattle.rel_format.specs.Journal.{sign_byte, atom_bytes, record_of};
 
-use delta_atoms::{AtomRef, Delta};
+use delta_atoms::{AtomMark, AtomRef, Delta};
 use hera_meaning::Sign;
 use std::alloc::{AllocError, Global};
 
@@ -16,7 +16,8 @@ pub(crate) fn record_len(delta: &Delta) -> Option<u128>
 {
     let mut len: u128 = 4;
     let mut last: Option<AtomRef<'_>> = None;
-    while let Some(atom) = delta.above(last) {
+    let mut mark = AtomMark::start();
+    while let Some(atom) = delta.above_from(last, &mut mark) {
         len = len.checked_add(3 + atom.row.len() as u128)?;
         last = Some(atom);
     }
@@ -41,7 +42,8 @@ fn put_atoms(out: &mut Vec<u8>, delta: &Delta) -> Result<(), AllocError>
     ensures { OnOk result (out.new.items ≡ out.old.items ++ flat_map atom_bytes (atoms_in delta.now)) }
 {
     let mut last: Option<AtomRef<'_>> = None;
-    while let Some(atom) = delta.above(last) {
+    let mut mark = AtomMark::start();
+    while let Some(atom) = delta.above_from(last, &mut mark) {
         put_atom(out, atom)?;
         last = Some(atom);
     }

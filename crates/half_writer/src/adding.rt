@@ -8,7 +8,7 @@ ghost use Rattle.half_writer.specs.Paging.{Task, IsPaging, IsPut};
 
 use crate::open_page::OpenPage;
 use crate::pages::{HalfFault, close_page};
-use hera_rows::Sorted;
+use hera_rows::{RowMark, Sorted};
 use rel_format::{PAGE_HEAD, PAGE_TWO};
 
 /// Closes the open page, where there is room for it beside `head` bytes, and opens the next.
@@ -124,7 +124,8 @@ pub(crate) fn add_pages<S: Sorted>(
     }
     let mut page = OpenPage::new(*bytes.allocator(), before);
     let mut last: Option<&[u8]> = None;
-    while let Some(row) = rows.above(last) {
+    let mut mark = RowMark::start();
+    while let Some(row) = rows.above_from(last, &mut mark) {
         page = put_row(head, bytes, page, rel, row, limit)?;
         last = Some(row);
     }

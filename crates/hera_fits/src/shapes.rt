@@ -7,10 +7,10 @@ ghost use Rattle.hera_meaning.specs.Fits.{is_atom_of, is_delta_of, has_shape};
 ghost use Rattle.delta_atoms.specs.Plain.{value_of};
 ghost use Rattle.delta_atoms.specs.Refs.{atom_in};
 
-use delta_atoms::{AtomRef, Delta, Value};
+use delta_atoms::{AtomMark, AtomRef, Delta, Value};
 use hera_meaning::{RelDecl, RelId, Scalar, Schema, Shape};
 use hera_row::check_row;
-use hera_rows::{RowSet, Sorted};
+use hera_rows::{RowMark, RowSet, Sorted};
 
 /// Whether the bytes are a row of the schema.
 pub(crate) fn is_row(schema: &Schema, bytes: &[u8]) -> bool
@@ -36,7 +36,8 @@ pub(crate) fn has_kinds<A: Sorted>(schema: &Schema, a: &A) -> bool
     ensures { result ≡ list_all (is_row schema.now) (A.rows a.now) }
 {
     let mut last: Option<&[u8]> = None;
-    while let Some(row) = a.above(last) {
+    let mut mark = RowMark::start();
+    while let Some(row) = a.above_from(last, &mut mark) {
         if !is_row(schema, row) {
             return false;
         }
@@ -69,7 +70,8 @@ pub fn is_delta_of(catalogue: &[RelDecl], delta: &Delta) -> bool
     ensures { result ≡ is_delta_of catalogue.now delta.now }
 {
     let mut last: Option<AtomRef<'_>> = None;
-    while let Some(atom) = delta.above(last) {
+    let mut mark = AtomMark::start();
+    while let Some(atom) = delta.above_from(last, &mut mark) {
         if !is_atom_of(catalogue, atom) {
             return false;
         }

@@ -7,7 +7,7 @@ ghost use Rattle.delta_atoms.specs.Atoms.{atoms_in};
 ghost use Rattle.delta_atoms.specs.Refs.{atom_in};
 
 use super::tuples::put_row;
-use delta_atoms::{AtomRef, Delta};
+use delta_atoms::{AtomMark, AtomRef, Delta};
 use hera_meaning::writing::{put, put_number};
 use hera_meaning::{RelDecl, RelId, Sign};
 use std::alloc::AllocError;
@@ -49,7 +49,8 @@ fn put_atoms(out: &mut Vec<u8>, catalogue: &[RelDecl], delta: &Delta) -> Result<
     ensures { OnOk result (out.new.items ≡ out.old.items ++ atoms_text catalogue.now (atoms_in delta.now)) }
 {
     let mut last: Option<AtomRef<'_>> = None;
-    while let Some(atom) = delta.above(last) {
+    let mut mark = AtomMark::start();
+    while let Some(atom) = delta.above_from(last, &mut mark) {
         put_atom(out, catalogue, atom)?;
         last = Some(atom);
     }
