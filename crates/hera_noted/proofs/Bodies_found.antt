@@ -1,5 +1,5 @@
 -- Where the bodies of a program stand in its code, and in which of them an address lies.
-use Rattle.std.proofs.Common.{◌≡◌, ℕ, zero, suc, ◌+◌, ◌<◌, ◌≤◌, Bool, true, false, cond, List, [], ◌∷◌, ◌++◌, length, drop, Option, Some, None, refl, sym, ap, ◌∙◌, subst, arith, length-append}
+use Rattle.std.proofs.Common.{◌≡◌, ℕ, zero, suc, ◌+◌, ◌<◌, ◌≤◌, Bool, true, false, cond, List, [], ◌∷◌, length, drop, Option, Some, None, refl, sym, ap, ◌∙◌, subst, arith, length-append}
 use Rattle.std.specs.Prelude.{slice_get, nat_le}
 use Rattle.std.proofs.lemmas.Bool.{leb-true, leb-false, le-leb, lt-leb}
 use Rattle.hera_meaning.specs.Trees.{Body_tree}
@@ -9,7 +9,7 @@ use Rattle.hera_code.specs.declared.instrs.Code.{Code}
 use Rattle.hera_code.specs.declared.instrs.Instr.{Instr}
 use Rattle.hera_code.specs.Scheme.{in_main, role_of, body_code, bodies_code, info_of, infos_of, code_from}
 use Rattle.hera_code.specs.Listing.{next_start, StartsFrom}
-use Rattle.hera_code.proofs.Starts.{next_start_at, next_start_past, next_start_in_code}
+use Rattle.hera_code.proofs.Starts.{next_start_at, next_start_past}
 use Rattle.hera_codegen.specs.Roles.{body_role}
 use Rattle.hera_codegen.proofs.Places.{HasAt, has_front, all_behind}
 use Rattle.hera_codegen.proofs.Bodies.{behind, body_length, ends_behind}

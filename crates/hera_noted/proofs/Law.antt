@@ -1,45 +1,43 @@
 -- The law of notes: the code of a sound program, with its notes, is typed code.
 use Rattle.std.proofs.Common.{◌≡◌, ℕ, zero, suc, ◌+◌, ◌<◌, ◌≤◌, ◌⊎◌, ◌&&◌, ◌||◌, Bool, true, false, cond, List, [], ◌∷◌, ◌++◌, map, length, take, drop, Option, Some, None, refl, sym, ap, ◌∙◌, subst, arith, inl, inr, length-append}
-use Rattle.std.specs.Prelude.{slice_get, nat_eq, nat_lt, nat_le, not, is_some, All}
+use Rattle.std.specs.Prelude.{slice_get, nat_eq, nat_lt, nat_le, not, is_some}
 use Rattle.std.specs.List.{AllByRecursion}
 use Rattle.std.proofs.lemmas.List.{length-take-le}
 use Rattle.std.proofs.lemmas.List.Elements.{recursion_from_All}
-use Rattle.std.proofs.lemmas.Option.{slice_get-map, slice_get_within}
-use Rattle.std.proofs.lemmas.Bool.{false≢true, and_parts, and_from, and_left, and_right, or_from, or_left, lt-ltb, eq-eqb, ne_eqb, eqb-true, cases_lt, cases_order}
+use Rattle.std.proofs.lemmas.Option.{slice_get_within}
+use Rattle.std.proofs.lemmas.Bool.{false≢true, and_parts, and_from, and_left, and_right, or_from, or_left, lt-ltb, eq-eqb, eqb-true, cases_lt, cases_order}
 use Rattle.hera_meaning.specs.declared.scalars.Kind.{Kind}
-use Rattle.hera_meaning.specs.declared.schemas.RelDecl.{RelDecl}
 use Rattle.hera_meaning.specs.Hosts.{Hosts}
-use Rattle.hera_meaning.specs.Trees.{Expr, Command, set_slot, if_arms, while, foreach, print, apply, commit, rollback, assert, return, return_value, call_proc, Block, no_stmt, then_stmt, Arms, no_arm, arm, Body_tree, Program_tree}
+use Rattle.hera_meaning.specs.Trees.{Command, set_slot, if_arms, while, foreach, print, apply, commit, rollback, assert, return, return_value, call_proc, Block, no_stmt, then_stmt, Arms, no_arm, arm, Body_tree, Program_tree}
 use Rattle.hera_meaning.specs.Addresses.{block_end}
 use Rattle.hera_meaning.specs.Forms.{Form}
-use Rattle.hera_meaning.specs.Sound.{has_slot, first_slots, walks_of_block, Body_forms, Scope, IsCallee, BlockIsSound, returns, command_returns, arms_return, IsBody, IsMain, scope_of, Shaped, Sound}
+use Rattle.hera_meaning.specs.Sound.{has_slot, first_slots, walks_of_block, Body_forms, Scope, IsCallee, returns, command_returns, arms_return, IsBody, scope_of}
 use Rattle.hera_code.specs.declared.instrs.BodyInfo.{BodyInfo}
 use Rattle.hera_code.specs.declared.instrs.Code.{Code}
 use Rattle.hera_code.specs.declared.instrs.Instr.{Instr}
-use Rattle.hera_code.specs.declared.instrs.Instr.TheVariants.{Store, Jump, Unless, Back, Walk, Next, Ret, Halt}
+use Rattle.hera_code.specs.declared.instrs.Instr.TheVariants.{Store, Walk, Next, Ret, Halt}
 use Rattle.hera_code.specs.Listing.{next_start, StartsFrom, IsListable}
-use Rattle.hera_code.specs.Scheme.{Role, in_main, in_func, in_proc, role_of, block_code, last_code, body_code, info_of, code_from, code_of}
+use Rattle.hera_code.specs.Scheme.{Role, in_main, in_func, in_proc, block_code, last_code, body_code, info_of, code_of}
 use Rattle.hera_code.proofs.Starts.{next_start_in_code}
 use Rattle.hera_codegen.specs.Roles.{body_role}
 use Rattle.hera_codegen.proofs.Places.{HasAt, has_front, all_behind, block_length}
 use Rattle.hera_codegen.proofs.Bodies.{behind, body_length}
 use Rattle.hera_codegen.proofs.Listable.{code_listable}
-use Rattle.hera_codegen.proofs.Slots.{Fresh, within_there}
+use Rattle.hera_codegen.proofs.Slots.{within_there}
 use Rattle.hera_typed.specs.Points.{Point, nothing, with, when}
-use Rattle.hera_typed.specs.Effects.{Slot_note, Body_note, Goal, ends_here, begun, home, slot, result, params, params_in, is_set_at, slot_forms, gathered_by, effect, is_placed}
-use Rattle.hera_typed.specs.Typed.{Points, Names, Writes, GoesTo, Does, BodyIsFine, SlotIsFine, Leads, AllLead, IsReached, IsFlowTo, IsTypedTo, IsTyped}
-use Rattle.hera_meaning.specs.Shapes.{Body_shapes, forms_of, BlockGathers, IsShaped}
+use Rattle.hera_typed.specs.Effects.{Slot_note, Body_note, Goal, ends_here, home, slot, result, params, params_in, slot_forms, effect}
+use Rattle.hera_typed.specs.Typed.{Points, Names, Writes, Does, BodyIsFine, SlotIsFine, AllLead, IsReached, IsFlowTo, IsTyped}
+use Rattle.hera_meaning.specs.Shapes.{Body_shapes, forms_of, IsShaped}
 use Rattle.hera_typed.proofs.Asking.{some_is, none_is, with_there}
-use Rattle.hera_noted.specs.Spans.{target_of, is_writer, end_of, IsClosed, IsFirstWrite, IsFarthest, IsRange}
+use Rattle.hera_noted.specs.Spans.{is_writer, end_of, IsClosed, IsRange}
 use Rattle.hera_noted.proofs.Expr_points.{if_so, Laid, laid_front, laid_behind}
-use Rattle.hera_noted.proofs.Expr_flows.{IsCalled, Fits, Covered, Followed, IsFine, Flows, Comes, AllGo, flows_more}
+use Rattle.hera_noted.proofs.Expr_flows.{IsCalled, Fits, Covered, IsFine, Flows, Comes, AllGo, flows_more}
 use Rattle.hera_noted.proofs.Block_flows.{command_falls, block_falls, arms_fall, block_points, block_many, RoleFits, NotedBlock, block_at, block_flows}
-use Rattle.hera_noted.proofs.Ranges.{Mark, AllMarks, SafeAt, NamesIn, To, Tame, marks_map, no_label, seq, still, tame_none}
+use Rattle.hera_noted.proofs.Ranges.{AllMarks, SafeAt, NamesIn, To, Tame, marks_map, no_label, seq, still, tame_none}
 use Rattle.hera_noted.proofs.Block_ranges.{block_marks, block_tame}
-use Rattle.hera_noted.proofs.Written.{has_more}
-use Rattle.hera_noted.proofs.Noting.{marks_front, names_target, target_named, safe_here, Tells, Ready, block_noted}
+use Rattle.hera_noted.proofs.Noting.{marks_front, target_named, safe_here, Tells, block_noted}
 use Rattle.hera_noted.proofs.Placed.{laid_at, laid_itself, none_past, PlacedAt, PlacedIn, placed_more, block_placed}
-use Rattle.hera_noted.proofs.Bodies_found.{Stretch, stretch, bodies_many, starts_low, start_in, starts_rise, ends_before, home_in, home_of, end_is_next}
+use Rattle.hera_noted.proofs.Bodies_found.{Stretch, stretch, bodies_many, start_in, starts_rise, ends_before, home_in, home_of, end_is_next}
 
 -- ---- small steps
 

@@ -5,7 +5,7 @@ pub mod Expr_flows
 pub mod Block_flows
 pub mod Ranges
 pub mod Block_ranges
-pub mod Cuts
+pub mod First_ranges
 pub mod Written
 pub mod Noting
 pub mod Placed
@@ -13,3 +13,7 @@ pub mod Bodies_found
 pub mod Law
 pub mod Told
 pub mod Pushed
+pub mod Listed
+pub mod Ending
+pub mod Sourced
+pub mod Writing

@@ -1,24 +1,24 @@
 -- The notes say of each walk, and of each slot that is set, what the law of expressions and statements asks.
-use Rattle.std.proofs.Common.{◌≡◌, ℕ, zero, suc, ◌+◌, ◌<◌, ◌≤◌, ◌⊎◌, ◌&&◌, ◌||◌, Bool, true, false, List, [], ◌∷◌, ◌++◌, length, Option, Some, None, refl, sym, ap, ◌∙◌, subst, arith, inl, inr}
+use Rattle.std.proofs.Common.{◌≡◌, ℕ, ◌+◌, ◌<◌, ◌≤◌, ◌⊎◌, ◌&&◌, Bool, true, false, List, [], ◌∷◌, ◌++◌, length, Option, Some, None, refl, sym, ap, ◌∙◌, subst, arith, inl, inr}
 use Rattle.std.specs.Prelude.{slice_get, nat_eq, nat_lt, nat_le, not}
 use Rattle.std.proofs.lemmas.Bool.{false≢true, both_ways, or_left, or_right, or_cases, and_from, lt-ltb, le-leb, eqb-true, eq-eqb, cases_lt, cases_Bool}
 use Rattle.hera_meaning.specs.declared.scalars.Kind.{Kind}
 use Rattle.hera_meaning.specs.Trees.{Expr, constant, local, relation, prim, chain, and_all, or_any, when as when_expr, select, map_each, call, host, Exprs, no_more, then_expr, Links, no_link, link, Hypos, no_hypo, hypo, Command, set_slot, if_arms, while, foreach, print, apply, commit, rollback, assert, return, return_value, call_proc, Block, no_stmt, then_stmt, Arms, no_arm, arm}
 use Rattle.hera_meaning.specs.Addresses.{expr_end, exprs_end, every_last, some_end, links_end, hypos_end, hypos_count, command_end, block_end, arms_end}
-use Rattle.hera_meaning.specs.Forms.{Form, of_tuple}
-use Rattle.hera_meaning.specs.Sound.{has_slot, walks_in, walks_in_all, walks_in_links, walks_in_hypos, walks_of, walks_of_block, walks_of_arms, sets_of, sets_of_block, sets_of_arms, readable_after, Scope, IsSlot, IsOf, MaySet, IsSound, BlockIsSound, ArmsAreSound}
+use Rattle.hera_meaning.specs.Forms.{of_tuple}
+use Rattle.hera_meaning.specs.Sound.{has_slot, walks_in, walks_in_all, walks_in_links, walks_in_hypos, walks_of, walks_of_block, walks_of_arms, sets_of, sets_of_block, sets_of_arms, readable_after, Scope, IsOf, MaySet, IsSound, BlockIsSound, ArmsAreSound}
 use Rattle.hera_code.specs.declared.instrs.Instr.{Instr}
-use Rattle.hera_code.specs.declared.instrs.Instr.TheVariants.{Push, Prim, Store, Jump, Unless, Back, Enter, Walk, Next, Keep, Gather, Yield, Drop, Call, Print, Apply, Assert}
+use Rattle.hera_code.specs.declared.instrs.Instr.TheVariants.{Prim, Store, Jump, Unless, Back, Enter, Walk, Next, Keep, Gather, Yield, Drop, Call, Print, Apply, Assert}
 use Rattle.hera_code.specs.declared.instrs.Code.{Code}
 use Rattle.hera_code.specs.Scheme.{push_bool, leaves, expr_code, exprs_code, every_code, some_code, links_code, hypos_code, Role, return_code, command_code, block_code, arms_code}
-use Rattle.hera_codegen.proofs.Places.{HasAt, has_front, all_behind, here_behind, expr_length, exprs_length, some_length, links_length, hypos_length, command_length, block_length, arms_length}
-use Rattle.hera_codegen.proofs.Slots.{Fresh, fresh_front, fresh_back, fresh_tail, fresh_head, fresh_walk}
+use Rattle.hera_codegen.proofs.Places.{HasAt, has_front, all_behind, here_behind, expr_length, some_length, links_length, hypos_length, command_length, block_length, arms_length}
+use Rattle.hera_codegen.proofs.Slots.{Fresh, fresh_front, fresh_back, fresh_tail, fresh_walk}
 use Rattle.hera_typed.specs.Points.{Seen, known}
 use Rattle.hera_typed.specs.Effects.{Slot_note, Body_note, slot, params, is_set_at}
 use Rattle.hera_typed.specs.Typed.{Names}
-use Rattle.hera_meaning.specs.Shapes.{GathersWalked, GathersMade, Gathers, GathersAll, GathersLinks, GathersHypos, CommandGathers, BlockGathers, ArmsGather}
+use Rattle.hera_meaning.specs.Shapes.{GathersWalked, Gathers, GathersAll, GathersLinks, GathersHypos, CommandGathers, BlockGathers, ArmsGather}
 use Rattle.hera_typed.proofs.Asking.{some_is}
-use Rattle.hera_noted.specs.Spans.{target_of, is_writer, IsClosed, IsUnwritten, IsFirstWrite, IsFarthest, IsRange}
+use Rattle.hera_noted.specs.Spans.{target_of, is_writer, IsClosed, IsUnwritten, IsFirstWrite, IsRange}
 use Rattle.hera_noted.proofs.Seen_ops.{Below, is_known}
 use Rattle.hera_noted.proofs.Expr_points.{expr_seen}
 use Rattle.hera_noted.proofs.Expr_ends.{expr_up, exprs_up}
@@ -26,7 +26,7 @@ use Rattle.hera_noted.proofs.Expr_flows.{IsWalkNote, Noted, NotedAll, NotedEvery
 use Rattle.hera_noted.proofs.Block_flows.{IsSetFrom, SetNoted, NotedCommand, NotedBlock, NotedArms}
 use Rattle.hera_noted.proofs.Ranges.{Mark, mark, AllMarks, SafeAt, expr_marks, exprs_marks, every_marks, some_marks, links_marks, hypos_marks}
 use Rattle.hera_noted.proofs.Block_ranges.{set_mark, command_marks, block_marks, arms_marks}
-use Rattle.hera_noted.proofs.Written.{has_left, has_right, has_either, has_neither, has_own, has_more, apart_both, WritesIn, writes_more, writes_here, expr_writes, exprs_write, hypos_write, command_writes, block_writes, arms_write, May, may_in, command_may, block_may, arms_may}
+use Rattle.hera_noted.proofs.Written.{has_left, has_right, has_neither, has_own, has_more, apart_both, WritesIn, writes_here, expr_writes, hypos_write, command_writes, block_writes, arms_write, May, may_in, command_may, block_may, arms_may}
 
 -- ---- ranges
 

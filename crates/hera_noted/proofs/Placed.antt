@@ -1,5 +1,5 @@
 -- What the rules ask of places alone holds of all code of sound statements, reached or not.
-use Rattle.std.proofs.Common.{◌≡◌, ℕ, zero, suc, ◌+◌, ◌<◌, ◌≤◌, ◌&&◌, Bool, true, false, cond, List, [], ◌∷◌, ◌++◌, length, Option, Some, None, refl, sym, ap, ◌∙◌, subst, arith}
+use Rattle.std.proofs.Common.{◌≡◌, ℕ, ◌+◌, ◌<◌, ◌≤◌, true, false, cond, List, [], ◌∷◌, ◌++◌, length, Option, Some, None, refl, sym, ap, ◌∙◌, subst, arith}
 use Rattle.std.specs.Prelude.{slice_get, nat_eq, nat_lt, not, is_some}
 use Rattle.std.proofs.lemmas.Bool.{false≢true, and_from, lt-ltb, eq-eqb, ne_eqb}
 use Rattle.hera_meaning.specs.Trees.{Expr, Exprs, no_more, then_expr, Command, set_slot, if_arms, while, foreach, print, apply, commit, rollback, assert, return, return_value, call_proc, Block, no_stmt, then_stmt, Arms, no_arm, arm}
@@ -8,17 +8,17 @@ use Rattle.hera_meaning.specs.Forms.{Form, of_tuple, of_table, of_delta, bool_fo
 use Rattle.hera_meaning.specs.Sound.{Scope, IsOf, AreOf, IsSound, BlockIsSound, ArmsAreSound, sets_of, sets_of_block, sets_of_arms, readable_after}
 use Rattle.hera_code.specs.declared.instrs.Code.{Code}
 use Rattle.hera_code.specs.declared.instrs.Instr.{Instr}
-use Rattle.hera_code.specs.declared.instrs.Instr.TheVariants.{Store, Jump, Unless, Back, Walk, Next, Drop, Call, Ret, RetVal, Print, Apply, Commit, Rollback, Assert, Halt}
+use Rattle.hera_code.specs.declared.instrs.Instr.TheVariants.{Store, Jump, Unless, Back, Walk, Next, Drop, Call, Print, Apply, Assert}
 use Rattle.hera_code.specs.Scheme.{expr_code, exprs_code, Role, in_main, in_func, in_proc, return_code, command_code, block_code, arms_code}
 use Rattle.hera_codegen.proofs.Places.{HasAt, has_front, all_behind, expr_length, exprs_length, command_length, block_length, arms_length}
 use Rattle.hera_typed.specs.Points.{Point, nothing, with}
-use Rattle.hera_typed.specs.Effects.{Slot_note, Body_note, slot, result, gathered_by, is_placed}
+use Rattle.hera_typed.specs.Effects.{Slot_note, Body_note, result, gathered_by, is_placed}
 use Rattle.hera_typed.specs.Typed.{Points}
 use Rattle.hera_typed.proofs.Asking.{some_is}
 use Rattle.hera_noted.proofs.Expr_points.{after, expr_points, expr_many, Laid, laid_front, laid_behind}
 use Rattle.hera_noted.proofs.Expr_ends.{expr_up, exprs_up}
-use Rattle.hera_noted.proofs.Expr_flows.{IsWalkNote, Noted, NotedAll, Fits, Covered, Followed, Flows, seen_below, expr_flows, covered}
-use Rattle.hera_noted.proofs.Block_flows.{RoleFits, SetNoted, NotedCommand, NotedBlock, NotedArms, cover_after}
+use Rattle.hera_noted.proofs.Expr_flows.{Noted, NotedAll, Fits, Covered, Followed, Flows, seen_below, expr_flows, covered}
+use Rattle.hera_noted.proofs.Block_flows.{RoleFits, NotedCommand, NotedBlock, NotedArms, cover_after}
 
 -- ---- points laid out, and none elsewhere
 

@@ -1,9 +1,8 @@
 -- What the notes of code tell, attribute names left out; and the law.
-use Rattle.std.proofs.Common.{◌≡◌, ℕ, zero, suc, ◌<◌, List, [], ◌∷◌, ◌++◌, map, length, Option, Some, refl, sym, ap, ◌∙◌, subst, arith}
+use Rattle.std.proofs.Common.{◌≡◌, ℕ, zero, suc, List, [], ◌∷◌, ◌++◌, map, length, Some, refl, sym, ap, ◌∙◌, subst, arith}
 use Rattle.std.specs.Prelude.{slice_get}
 use Rattle.std.proofs.lemmas.Option.{slice_get_within}
 use Rattle.hera_meaning.specs.declared.scalars.Kind.{Kind}
-use Rattle.hera_meaning.specs.declared.schemas.Attr.{Attr}
 use Rattle.hera_meaning.specs.declared.trees.Shape.{Shape}
 use Rattle.hera_meaning.specs.Forms.{Form, form_of}
 use Rattle.hera_meaning.specs.Hosts.{Hosts}
@@ -22,7 +21,7 @@ use Rattle.hera_meaning.specs.Shapes.{Body_shapes, form_if, kinds_if, body_shape
 use Rattle.hera_typed.specs.Typed.{Points, IsTyped}
 use Rattle.hera_typed.proofs.Asking.{some_is, none_is}
 use Rattle.hera_noted.specs.Spans.{end_of, IsRange}
-use Rattle.hera_noted.specs.Given.{HasSlots, HasBodies, IsSlotOf, IsBodyOf, AreGiven}
+use Rattle.hera_noted.specs.Given.{HasBodies, AreGiven}
 use Rattle.hera_noted.specs.Ranged.{IsBodyNoted, AreNoted}
 use Rattle.hera_noted.proofs.Bodies_found.{bodies_many}
 use Rattle.hera_noted.proofs.Law.{get_mapped, mapped_from, BodyTold, AreTold, all_points, typed}

@@ -1,12 +1,12 @@
 -- Which slots the code of a phrase writes: those of its walks, and those that it sets.
-use Rattle.std.proofs.Common.{◌≡◌, ℕ, zero, suc, ◌+◌, ◌<◌, ◌≤◌, ◌⊎◌, ◌||◌, Bool, true, false, List, [], ◌∷◌, ◌++◌, length, Some, None, refl, sym, ap, ◌∙◌, subst, arith, inl, inr}
+use Rattle.std.proofs.Common.{◌≡◌, ℕ, zero, suc, ◌+◌, ◌<◌, ◌≤◌, ◌⊎◌, ◌||◌, true, false, List, [], ◌∷◌, ◌++◌, length, Some, None, refl, sym, ap, ◌∙◌, subst, arith, inl, inr}
 use Rattle.std.specs.Prelude.{slice_get, nat_eq, not}
-use Rattle.std.proofs.lemmas.Bool.{false≢true, or_left, or_right, or_parts, or_from, or_cases, eqb-true, eq-eqb, cases_eq, cases_lt}
+use Rattle.std.proofs.lemmas.Bool.{false≢true, or_left, or_right, or_parts, or_cases, eqb-true, eq-eqb, cases_lt}
 use Rattle.hera_meaning.specs.Trees.{Expr, constant, local, relation, prim, chain, and_all, or_any, when as when_expr, select, map_each, call, host, Exprs, no_more, then_expr, Links, no_link, link, Hypos, no_hypo, hypo, Command, set_slot, if_arms, while, foreach, print, apply, commit, rollback, assert, return, return_value, call_proc, Block, no_stmt, then_stmt, Arms, no_arm, arm}
 use Rattle.hera_meaning.specs.Addresses.{expr_end, every_last, some_end, hypos_end, hypos_count, command_end, block_end, arms_end}
 use Rattle.hera_meaning.specs.Sound.{has_slot, AreApart, walks_in, walks_in_all, walks_in_links, walks_in_hypos, walks_of, walks_of_block, walks_of_arms, sets_of, sets_of_block, sets_of_arms, Scope, IsSound, BlockIsSound, ArmsAreSound}
 use Rattle.hera_code.specs.declared.instrs.Instr.{Instr}
-use Rattle.hera_code.specs.declared.instrs.Instr.TheVariants.{Push, Load, Store, Rel, Prim, Host, Jump, Unless, Back, Enter, Leave, Walk, Next, Keep, Gather, Yield, Drop, Call, Ret, RetVal, Print, Apply, Commit, Rollback, Assert, Halt}
+use Rattle.hera_code.specs.declared.instrs.Instr.TheVariants.{Store, Prim, Host, Jump, Unless, Back, Enter, Keep, Gather, Yield, Drop, Call, Print, Apply, Assert}
 use Rattle.hera_code.specs.Scheme.{push_bool, leaves, expr_code, exprs_code, every_code, some_code, links_code, hypos_code, Role, in_main, in_func, in_proc, return_code, command_code, block_code, arms_code}
 use Rattle.hera_codegen.proofs.Places.{HasAt}
 use Rattle.hera_codegen.proofs.Slots.{slot-append}

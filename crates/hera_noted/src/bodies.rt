@@ -7,10 +7,10 @@ ghost use Rattle.hera_code.specs.Scheme.{code_of};
 ghost use Rattle.hera_typed.specs.Notes.{notes_of};
 ghost use Rattle.hera_meaning.specs.Shapes.{body_shapes, IsShaped};
 ghost use Rattle.hera_typed.specs.Typed.{Points, IsTyped};
-ghost use Rattle.hera_noted.specs.Given.{HasBodies, AreGiven};
-ghost use Rattle.hera_noted.specs.Ranged.{IsSlotNoted, IsBodyNoted, AreNoted};
+ghost use Rattle.hera_noted.specs.Given.{HasBodies, IsSlotOf, AreGiven};
+ghost use Rattle.hera_noted.specs.Ranged.{IsBodyNoted, AreNoted};
 
-use crate::extents::range_in_body;
+use crate::extents::{Span, ranges_in_body};
 use hera_code::Code;
 use hera_meaning::{BodyShapes, Program, Schema, Shape};
 use hera_typed::{BodyNote, Notes, SlotNote};
@@ -62,9 +62,10 @@ fn body_note(
     requires slots { length shapes.now.slots.items ≡ length shapes.now.gathers.items }
     ensures { IfOk result (IsBodyNoted code.now k shapes.now) }
 {
+    let ranges = ranges_in_body(alloc, code, k, shapes.slots.len())?;
     let mut slots = Vec::new(alloc);
     for i in 0..shapes.slots.len() {
-        slots.push(slot_note(code, k, i, shapes)?)?;
+        slots.push(slot_note(shapes, i, ranges[i])?)?;
     }
     Ok(BodyNote {
         result: copied_shape(&shapes.result)?,
@@ -72,15 +73,15 @@ fn body_note(
     })
 }
 
-/// The note of slot i of body k. A parameter is set in the whole body.
-fn slot_note(code: &Code, k: usize, i: usize, shapes: &BodyShapes) -> Result<SlotNote, AllocError>
-    requires size { length code.now.instrs < 2 ^ 32 }
-    requires body { k < length code.now.bodies }
+/// The note of slot i, with its range.
+fn slot_note(shapes: &BodyShapes, i: usize, range: Span) -> Result<SlotNote, AllocError>
     requires slot { i < length shapes.now.slots.items }
     requires gathers { i < length shapes.now.gathers.items }
-    ensures { IfOk result (IsSlotNoted code.now k shapes.now i) }
+    requires start { range.start < 2 ^ 32 }
+    requires end { range.end < 2 ^ 32 }
+    ensures given { IfOk result (IsSlotOf shapes.now i) }
+    ensures range { IfOk result (λ note. (note.from ≡ range.start) × (note.to ≡ range.end)) }
 {
-    let range = range_in_body(code, k, i);
     Ok(SlotNote {
         shape: shapes.slots[i].copy()?,
         from: range.start as u32,

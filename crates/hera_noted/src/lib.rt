@@ -3,7 +3,9 @@
 #![tactic(auto)]
 
 mod bodies;
+mod ends;
 mod extents;
+mod ways;
 
 pub use bodies::notes;
 

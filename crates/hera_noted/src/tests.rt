@@ -1,19 +1,21 @@
 //! Ranges in small bodies.
-use crate::extents::{Span, slot_range};
+use crate::extents::{Span, slot_ranges};
 use hera_code::Instr;
+use std::alloc::Global;
 use std::test::Fail;
 
 /// The range of slot 0.
-fn range_in(instrs: &[Instr]) -> Span {
+fn range_in(alloc: Global, instrs: &[Instr]) -> Result<Span, Fail> {
     let body = Span {
         start: 0,
         end: instrs.len(),
     };
-    slot_range(instrs, body, 0)
+    Ok(slot_ranges(alloc, instrs, body, 1)?[0])
 }
 
 #[test]
 fn ranges_end_where_ways_lead_in(rt: HostRuntime) -> Result<(), Fail> {
+    let alloc = rt.alloc();
     let loop_inside = [
         Instr::Rollback,
         Instr::Store(0),
@@ -21,7 +23,7 @@ fn ranges_end_where_ways_lead_in(rt: HostRuntime) -> Result<(), Fail> {
         Instr::Back(2),
         Instr::Halt,
     ];
-    assert_eq!(rt; range_in(&loop_inside), Span { start: 2, end: 5 });
+    assert_eq!(rt; range_in(alloc, &loop_inside)?, Span { start: 2, end: 5 });
     let skipped = [
         Instr::Unless(4),
         Instr::Store(0),
@@ -29,7 +31,7 @@ fn ranges_end_where_ways_lead_in(rt: HostRuntime) -> Result<(), Fail> {
         Instr::Commit,
         Instr::Halt,
     ];
-    assert_eq!(rt; range_in(&skipped), Span { start: 2, end: 4 });
+    assert_eq!(rt; range_in(alloc, &skipped)?, Span { start: 2, end: 4 });
     let entered_from_behind = [
         Instr::Unless(4),
         Instr::Store(0),
@@ -37,7 +39,10 @@ fn ranges_end_where_ways_lead_in(rt: HostRuntime) -> Result<(), Fail> {
         Instr::Commit,
         Instr::Back(3),
     ];
-    assert_eq!(rt; range_in(&entered_from_behind), Span { start: 2, end: 3 });
-    assert_eq!(rt; range_in(&[Instr::Halt]), Span { start: 0, end: 0 });
+    assert_eq!(rt;
+        range_in(alloc, &entered_from_behind)?,
+        Span { start: 2, end: 3 }
+    );
+    assert_eq!(rt; range_in(alloc, &[Instr::Halt])?, Span { start: 0, end: 0 });
     Ok(())
 }
