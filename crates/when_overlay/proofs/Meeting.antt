@@ -16,7 +16,7 @@ use Rattle.hera_meaning.proofs.Atoms.{rows_named-key}
 use Rattle.delta_atoms.specs.Atoms.{atoms_in, part_of}
 use Rattle.delta_atoms.proofs.Sides.{ascending_part_of}
 use Rattle.when_overlay.specs.Changed.{changed, rows_after}
-use Rattle.when_overlay.specs.Seeking.{sign_in, later, sign_over, stands, named_in, named, pluses, met, next_of}
+use Rattle.when_overlay.specs.Seeking.{sign_in, later, sign_over, stands, named_in, named, pluses, met, first_of}
 use Rattle.when_overlay.proofs.Signing.{holds-changed, ascending_changed, holds-after, ascending_after, sign_over-append, take_more}
 
 -- ---- the next of several lists
@@ -28,12 +28,38 @@ either xs ys =
     ∙ (λ i. holds-normal xs q i || holds-normal ys q i)
     ∙ sym (holds-normal (xs ++ ys) q ∙ holds-append xs ys q))
 
-pub next_append : (b : Option Row) (xs ys : List Row) → least_of (next_of b xs) (next_of b ys) ≡ next_of b (xs ++ ys)
-next_append b xs ys =
-    find-union b (normal xs) (normal ys) (ascending_normal xs) (ascending_normal ys) ∙ ap (find (is_past b)) (either xs ys)
+-- the first that passes is the first of those that pass
+pub find_first : (p : Row → Bool) (xs : List Row) → find p xs ≡ find (is_past None) (filter p xs)
+find_first p [] = refl
+find_first p (x ∷ xs) =
+    elim (p x) as (λ v. cond v (Some x) (find p xs) ≡ find (is_past None) (cond v (x ∷ filter p xs) (filter p xs))) [ true ↦ refl | false ↦ find_first p xs ]
 
-pub next_ascending : (b : Option Row) (xs : List Row) → IsAscending xs → find (is_past b) xs ≡ next_of b xs
-next_ascending b xs up = sym (ap (find (is_past b)) (normal_ascending xs up))
+and_either : (a b c : Bool) → ((a && b) || (a && c)) ≡ (a && (b || c))
+and_either true b c = refl
+and_either false b c = refl
+
+filter_either : (p : Row → Bool) (xs ys : List Row) → IsAscending xs → IsAscending ys → normal (filter p xs ++ filter p ys) ≡ filter p (normal (xs ++ ys))
+filter_either p xs ys up vp =
+    same_rows (normal (filter p xs ++ filter p ys)) (filter p (normal (xs ++ ys))) (ascending_normal (filter p xs ++ filter p ys)) (ascending_filter p (normal (xs ++ ys)) (ascending_normal (xs ++ ys)))
+    (λ q. holds-normal (filter p xs ++ filter p ys) q ∙ holds-append (filter p xs) (filter p ys) q
+    ∙ (λ i. holds-filter p xs q i || holds-filter p ys q i)
+    ∙ and_either (p q) (holds xs q) (holds ys q)
+    ∙ ap (λ v. p q && v) (sym (holds-normal (xs ++ ys) q ∙ holds-append xs ys q))
+    ∙ sym (holds-filter p (normal (xs ++ ys)) q))
+
+find_either : (p : Row → Bool) (xs ys : List Row) → IsAscending xs → IsAscending ys → least_of (find p xs) (find p ys) ≡ find p (normal (xs ++ ys))
+find_either p xs ys up vp =
+    (λ i. least_of (find_first p xs i) (find_first p ys i))
+    ∙ find-union None (filter p xs) (filter p ys) (ascending_filter p xs up) (ascending_filter p ys vp)
+    ∙ ap (find (is_past None)) (filter_either p xs ys up vp)
+    ∙ sym (find_first p (normal (xs ++ ys)))
+
+pub next_append : (b : Row → Bool) (xs ys : List Row) → least_of (first_of b xs) (first_of b ys) ≡ first_of b (xs ++ ys)
+next_append b xs ys =
+    find_either b (normal xs) (normal ys) (ascending_normal xs) (ascending_normal ys) ∙ ap (find b) (either xs ys)
+
+pub next_ascending : (b : Row → Bool) (xs : List Row) → IsAscending xs → find b xs ≡ first_of b xs
+next_ascending b xs up = sym (ap (find b) (normal_ascending xs up))
 
 pub named-append : (r : ℕ) (s : Sign) (ds es : List Delta) → named r s (ds ++ es) ≡ named r s ds ++ named r s es
 named-append r s [] es = refl
@@ -43,18 +69,18 @@ pub named-push : (r : ℕ) (s : Sign) (ds : List Delta) (d : Delta) → named r 
 named-push r s ds d = named-append r s ds (d ∷ []) ∙ ap (λ xs. named r s ds ++ xs) (Rattle.std.proofs.lemmas.List.append-nil (named_in r s d))
 
 -- the next of those named by the first deltas and by the others
-pub next_named : (b : Option Row) (r : ℕ) (s : Sign) (ds es : List Delta) → least_of (next_of b (named r s ds)) (next_of b (named r s es)) ≡ next_of b (named r s (ds ++ es))
-next_named b r s ds es = next_append b (named r s ds) (named r s es) ∙ ap (next_of b) (sym (named-append r s ds es))
+pub next_named : (b : Row → Bool) (r : ℕ) (s : Sign) (ds es : List Delta) → least_of (first_of b (named r s ds)) (first_of b (named r s es)) ≡ first_of b (named r s (ds ++ es))
+next_named b r s ds es = next_append b (named r s ds) (named r s es) ∙ ap (first_of b) (sym (named-append r s ds es))
 
 -- the next of those met, from the next of the rows and of those put in
-pub next_met : (b : Option Row) (r : ℕ) (rows : List Row) (ds : List Delta) → IsAscending rows →
-    least_of (find (is_past b) rows) (next_of b (pluses r ds)) ≡ find (is_past b) (met r rows ds)
-next_met b r rows ds up = (λ i. least_of (next_ascending b rows up i) (next_of b (pluses r ds))) ∙ next_append b rows (pluses r ds)
+pub next_met : (b : Row → Bool) (r : ℕ) (rows : List Row) (ds : List Delta) → IsAscending rows →
+    least_of (find b rows) (first_of b (pluses r ds)) ≡ find b (met r rows ds)
+next_met b r rows ds up = (λ i. least_of (next_ascending b rows up i) (first_of b (pluses r ds))) ∙ next_append b rows (pluses r ds)
 
 -- where no delta speaks, what is met is what was there
-pub met_alone : (b : Option Row) (r : ℕ) (rows : List Row) (ds : List Delta) → IsAscending rows → ds ≡ [] → find (is_past b) rows ≡ find (is_past b) (met r rows ds)
+pub met_alone : (b : Row → Bool) (r : ℕ) (rows : List Row) (ds : List Delta) → IsAscending rows → ds ≡ [] → find b rows ≡ find b (met r rows ds)
 met_alone b r rows ds up e =
-    next_ascending b rows up ∙ ap (next_of b) (sym (Rattle.std.proofs.lemmas.List.append-nil rows)) ∙ ap (λ (xs : List Delta). find (is_past b) (met r rows xs)) (sym e)
+    next_ascending b rows up ∙ ap (first_of b) (sym (Rattle.std.proofs.lemmas.List.append-nil rows)) ∙ ap (λ (xs : List Delta). find b (met r rows xs)) (sym e)
 
 pub kept_alone : (r : ℕ) (ds : List Delta) (q : Row) → ds ≡ [] → true ≡ stands (sign_over r ds q) true
 kept_alone r ds q e = ap (λ (xs : List Delta). stands (sign_over r xs q) true) (sym e)
@@ -105,16 +131,16 @@ after_is_filter r rows ds up =
     same_rows (rows_after r rows ds) (filter (holds (rows_after r rows ds)) (met r rows ds)) (ascending_after r rows ds up) (ascending_filter (holds (rows_after r rows ds)) (met r rows ds) (ascending_normal (rows ++ pluses r ds)))
     (λ q. within_and (holds (rows_after r rows ds) q) (holds (met r rows ds) q) (after_met r rows ds q) ∙ sym (holds-filter (holds (rows_after r rows ds)) (met r rows ds) q))
 
-pub find-after : (b : Option Row) (r : ℕ) (rows : List Row) (ds : List Delta) → IsAscending rows →
-    find (holds (rows_after r rows ds)) (filter (is_past b) (met r rows ds)) ≡ find (is_past b) (rows_after r rows ds)
-find-after b r rows ds up = sym (ap (find (is_past b)) (after_is_filter r rows ds up) ∙ find-filter (is_past b) (holds (rows_after r rows ds)) (met r rows ds))
+pub find-after : (b : Row → Bool) (r : ℕ) (rows : List Row) (ds : List Delta) → IsAscending rows →
+    find (holds (rows_after r rows ds)) (filter b (met r rows ds)) ≡ find b (rows_after r rows ds)
+find-after b r rows ds up = sym (ap (find b) (after_is_filter r rows ds up) ∙ find-filter b (holds (rows_after r rows ds)) (met r rows ds))
 
 -- ---- what was met is there unless it was taken out
 
-find_held : (b : Option Row) (xs : List Row) (q : Row) → find (is_past b) xs ≡ Some q → holds xs q ≡ true
+find_held : (b : Row → Bool) (xs : List Row) (q : Row) → find b xs ≡ Some q → holds xs q ≡ true
 find_held b [] q e = absurd (none-some q e)
 find_held b (x ∷ xs) q e =
-    elim (is_past b x) as (λ v. cond v (Some x) (find (is_past b) xs) ≡ Some q → holds (x ∷ xs) q ≡ true) [
+    elim (b x) as (λ v. cond v (Some x) (find b xs) ≡ Some q → holds (x ∷ xs) q ≡ true) [
       | true ↦ λ g. or_left (is_same q x) (holds xs q) (subst (λ (y : Row). is_same q y ≡ true) (sym (same_Some x q g)) (same_itself q))
       | false ↦ λ g. or_right (is_same q x) (holds xs q) (find_held b xs q g)
     ] e
@@ -144,25 +170,25 @@ stands_met None false p g e = sym (g refl) ∙ e
 stands_met (Some Plus) h p g e = refl
 stands_met (Some Minus) h p g e = refl
 
-pub kept_met : (b : Option Row) (r : ℕ) (rows : List Row) (ds : List Delta) (q : Row) (v : Bool) → find (is_past b) (met r rows ds) ≡ Some q → v ≡ stands (sign_over r ds q) true → holds (rows_after r rows ds) q ≡ v
+pub kept_met : (b : Row → Bool) (r : ℕ) (rows : List Row) (ds : List Delta) (q : Row) (v : Bool) → find b (met r rows ds) ≡ Some q → v ≡ stands (sign_over r ds q) true → holds (rows_after r rows ds) q ≡ v
 kept_met b r rows ds q v found e =
     let here : (holds rows q || holds (pluses r ds) q) ≡ true =
     sym (holds-normal (rows ++ pluses r ds) q ∙ holds-append rows (pluses r ds) q) ∙ find_held b (met r rows ds) q found in
     holds-after r rows ds q ∙ stands_met (sign_over r ds q) (holds rows q) (holds (pluses r ds) q) (silent r ds q) here ∙ sym e
 
 -- what the last delta puts in, beside what was met before it
-pub next_newest : (b : Option Row) (r : ℕ) (rows : List Row) (es ds : List Delta) (d : Delta) → ds ≡ es ++ d ∷ [] →
-    least_of (find (is_past b) (met r rows es)) (next_of b (named_in r Plus d)) ≡ find (is_past b) (met r rows ds)
+pub next_newest : (b : Row → Bool) (r : ℕ) (rows : List Row) (es ds : List Delta) (d : Delta) → ds ≡ es ++ d ∷ [] →
+    least_of (find b (met r rows es)) (first_of b (named_in r Plus d)) ≡ find b (met r rows ds)
 next_newest b r rows es ds d e =
     next_append b (rows ++ pluses r es) (named_in r Plus d)
-    ∙ ap (next_of b) (append_assoc rows (pluses r es) (named_in r Plus d) ∙ ap (λ xs. rows ++ xs) (sym (named-push r Plus es d) ∙ ap (named r Plus) (sym e)))
+    ∙ ap (first_of b) (append_assoc rows (pluses r es) (named_in r Plus d) ∙ ap (λ xs. rows ++ xs) (sym (named-push r Plus es d) ∙ ap (named r Plus) (sym e)))
 
 -- what the last delta puts in, beside what those before it do
-pub next_last : (b : Option Row) (r : ℕ) (es ds : List Delta) (d : Delta) → ds ≡ es ++ d ∷ [] →
-    least_of (next_of b (named r Plus es)) (next_of b (named_in r Plus d)) ≡ next_of b (named r Plus ds)
+pub next_last : (b : Row → Bool) (r : ℕ) (es ds : List Delta) (d : Delta) → ds ≡ es ++ d ∷ [] →
+    least_of (first_of b (named r Plus es)) (first_of b (named_in r Plus d)) ≡ first_of b (named r Plus ds)
 next_last b r es ds d e =
     next_append b (named r Plus es) (named_in r Plus d)
-    ∙ ap (next_of b) (sym (named-push r Plus es d) ∙ ap (named r Plus) (sym e))
+    ∙ ap (first_of b) (sym (named-push r Plus es d) ∙ ap (named r Plus) (sym e))
 
 -- a delta that is in order does not take out what it puts in
 still : (t : Atom → Bool) (xs : List Atom) (k : Row) → holds (keys_of xs) k ≡ false → holds (keys_of (filter t xs)) k ≡ false
@@ -192,7 +218,7 @@ one_sign (a ∷ xs) k up h =
     others e = none_held k (keys_of xs) (subst (λ z. IsBelowAll z (keys_of xs)) (sym (same_true k (key_of a) e)) up.0)
 
 -- a row that a delta puts in, found among those
-found_named : (b : Option Row) (r : ℕ) (d : Delta) (o : Option Row) (q : Row) → o ≡ next_of b (named_in r Plus d) → o ≡ Some q → holds (named_in r Plus d) q ≡ true
+found_named : (b : Row → Bool) (r : ℕ) (d : Delta) (o : Option Row) (q : Row) → o ≡ first_of b (named_in r Plus d) → o ≡ Some q → holds (named_in r Plus d) q ≡ true
 found_named b r d o q h g = sym (holds-normal (named_in r Plus d) q) ∙ find_held b (normal (named_in r Plus d)) q (sym h ∙ g)
 
 -- what a delta puts in it does not take out
@@ -204,7 +230,7 @@ put_in_here r fail q up h = absurd (false≢true h)
 put_in_here r (atoms xs) q up h = rw (apart_signs r xs q up h, h) refl
 
 -- a row found among those that the last delta puts in is put in
-pub newest_sign : (b : Option Row) (r : ℕ) (es ds : List Delta) (d : Delta) (o : Option Row) (q : Row) → ds ≡ es ++ d ∷ [] → IsDelta d → o ≡ next_of b (named_in r Plus d) → o ≡ Some q → sign_over r ds q ≡ Some Plus
+pub newest_sign : (b : Row → Bool) (r : ℕ) (es ds : List Delta) (d : Delta) (o : Option Row) (q : Row) → ds ≡ es ++ d ∷ [] → IsDelta d → o ≡ first_of b (named_in r Plus d) → o ≡ Some q → sign_over r ds q ≡ Some Plus
 newest_sign b r es ds d o q e up h g =
     ap (λ xs. sign_over r xs q) e ∙ sign_over-append r es (d ∷ []) q
     ∙ ap (λ (s : Option Sign). later s (sign_over r es q)) (put_in_here r d q up (found_named b r d o q h g))

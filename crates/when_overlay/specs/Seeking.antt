@@ -1,11 +1,15 @@
 -- What deltas say of one row, and the rows that they name.
 use Rattle.std.specs.Prelude.{ℕ, Bool, true, false, cond, List, [], ◌∷◌, ◌++◌, Option, None, Some}
 use Rattle.std.specs.List.{find}
+use Rattle.std.specs.Option.{option_copied}
 use Rattle.hera_sets.specs.Rows.{Row, holds, normal, is_past}
 use Rattle.hera_meaning.specs.declared.scalars.Sign.{Sign}
 use Rattle.hera_meaning.specs.declared.scalars.Sign.TheVariants.{Plus, Minus}
 use Rattle.hera_meaning.specs.Deltas.{Delta, fail, atoms, rows_named, plus_atoms, minus_atoms}
 use Rattle.delta_atoms.specs.Atoms.{part_of}
+use Rattle.hera_rows.specs.Froms.{is_from}
+use Rattle.when_overlay.specs.declared.soughts.Sought.{Sought}
+use Rattle.when_overlay.specs.declared.soughts.Sought.TheVariants.{Past, From}
 
 -- whether a delta takes the row out of relation r or puts it in, or says nothing of it
 abbrev pub sign_in : ℕ → Delta → Row → Option Sign
@@ -46,6 +50,15 @@ pluses r ds = named r Plus ds
 abbrev pub met : ℕ → List Row → List Delta → List Row
 met r rows ds = normal (rows ++ pluses r ds)
 
+-- which rows are looked for: those past a row, or all, or those from a row on
+abbrev pub passes : Sought → Row → Bool
+passes (Past b) = is_past (option_copied b)
+passes (From b) = is_from b.now
+
+-- the least of the rows that pass
+abbrev pub first_of : (Row → Bool) → List Row → Option Row
+first_of p rows = find p (normal rows)
+
 -- the least of the rows past the bound
 abbrev pub next_of : Option Row → List Row → Option Row
-next_of b rows = find (is_past b) (normal rows)
+next_of b rows = first_of (is_past b) rows

@@ -9,11 +9,11 @@ ghost use Rattle.when_overlay.specs.Layered.{IsTip, path};
 
 use crate::Layers;
 use crate::seeks::{has, named_above};
+use crate::soughts::Sought;
 use delta_atoms::Delta;
 use hera_meaning::{RelId, Sign};
 use hera_rows::{RowMark, RowSet, Sorted};
 use hera_sets::is_same;
-use std::alloc::Global;
 
 /// The most rows that are counted: 2^63 - 1.
 const ROWS_LIMIT: u64 = 9_223_372_036_854_775_807;
@@ -55,7 +55,7 @@ fn count_changes<S: Sorted>(
 {
     let mut count: u64 = 0;
     let mut last: Option<&[u8]> = None;
-    while let Some(row) = named_above(commits, layers, tip, rel, sign, last) {
+    while let Some(row) = named_above(commits, layers, tip, rel, sign, Sought::Past(last)) {
         let change = is_change(base, commits, layers, tip, rel, sign, row);
         count = count.checked_add(u64::from(change))?;
         last = Some(row);
@@ -122,10 +122,9 @@ fn count_shared<S: Sorted>(rows: &S, named: &RowSet) -> usize
 
 /// How a delta changes the number of these rows of a relation; none where there are 2^64 or more. Only the rows that the
 /// delta names are looked for. It takes no memory.
-pub fn change_of<S: Sorted>(alloc: Global, rows: &S, rel: RelId, delta: &Delta) -> Option<Change>
+pub fn change_of<S: Sorted>(rows: &S, rel: RelId, delta: &Delta) -> Option<Change>
     ensures { MatchOption result (2 ^ 64 ≤ length (S.rows rows.now) + length (changed rel.0 (S.rows rows.now) delta.now)) (λ change. length (changed rel.0 (S.rows rows.now) delta.now) + change.taken_out ≡ length (S.rows rows.now) + change.put_in) }
 {
-    let _ = alloc;
     if delta.is_fail() {
         return Some(Change {
             put_in: 0,

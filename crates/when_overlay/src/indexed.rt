@@ -1,9 +1,14 @@
 //! One relation of a hypothetical state, sought by where the base knows rows to begin.
-ghost use Rattle.std.specs.Prelude.{◌≡◌, ◌<◌, ◌≤◌, ◌^◌, List, ℕ, IfOk, MatchOption, length};
+ghost use Rattle.std.specs.Prelude.{◌≡◌, ◌<◌, ◌≤◌, ◌^◌, ◌++◌, List, ℕ, IfOk, IfSome, MatchOption, length};
 ghost use Rattle.std.specs.List.{find};
 ghost use Rattle.std.specs.Option.{option_copied};
+ghost use Rattle.hera_rows.specs.Froms.{is_from};
 ghost use Rattle.hera_sets.specs.Rows.{is_past, IsAscending, holds};
+ghost use Rattle.when_overlay.specs.Changed.{rows_after};
+ghost use Rattle.when_overlay.specs.Layered.{IsTip, path};
 
+use crate::naming::{newest_naming, up_to_naming};
+use crate::soughts::Sought;
 use crate::{Layers, SeenRow, ViewMark, counts, froms, seeks};
 use delta_atoms::Delta;
 use hera_meaning::RelId;
@@ -16,15 +21,17 @@ use std::marker::Model;
 /// slices of where they stand.
 #[derive(Drop)]
 pub struct IndexedHyp<'a> {
-    pub(crate) pages: IndexedRel<'a>,
-    pub(crate) commits: &'a [Delta],
-    pub(crate) layers: &'a Layers,
-    pub(crate) tip: Option<usize>,
-    pub(crate) rel: RelId,
+    pages: IndexedRel<'a>,
+    commits: &'a [Delta],
+    layers: &'a Layers,
+    tip: Option<usize>,
+    rel: RelId,
+    /// The rows, where one delta has put all of them in.
+    alone: Option<&'a RowSet>,
 }
 
 impl<'a> Model for IndexedHyp<'a> {
-    ghost use Rattle.std.specs.Prelude.{List, ℕ, ◌++◌};
+    ghost use Rattle.std.specs.Prelude.{◌≡◌, List, ℕ, ◌++◌, IfSome};
     ghost use Rattle.when_overlay.specs.Changed.{rows_after};
     ghost use Rattle.when_overlay.specs.Layered.{IsTip, path};
 
@@ -32,7 +39,7 @@ impl<'a> Model for IndexedHyp<'a> {
 
     ghost view = { λ h. rows_after h.rel.0 h.pages (h.commits.now ++ path h.layers.now.layers h.tip) };
 
-    ghost invariant = { λ h. IsTip h.layers.now.layers h.tip };
+    ghost invariant = { λ h. IsTip h.layers.now.layers h.tip × IfSome h.alone (λ rows. rows.now ≡ rows_after h.rel.0 h.pages (h.commits.now ++ path h.layers.now.layers h.tip)) };
 }
 
 impl<'a> Sorted for IndexedHyp<'a> {
@@ -49,32 +56,81 @@ impl<'a> Sorted for IndexedHyp<'a> {
     }
 
     fn not_below<'s>(&'s self, bound: &'s [u8], mark: &mut RowMark) -> Option<&'s [u8]> {
-        let found = froms::not_below_near(
-            &self.pages,
-            self.commits,
-            self.layers,
-            self.tip,
-            self.rel,
-            bound,
-            ViewMark::of(mark.first),
-        );
+        let found = self.not_below_near(bound, ViewMark::of(mark.first));
         mark.first = found.mark.side();
         found.row
     }
 
     fn has(&self, row: &[u8]) -> bool {
-        seeks::has(
-            &self.pages,
-            self.commits,
-            self.layers,
-            self.tip,
-            self.rel,
-            row,
-        )
+        self.has_row(row)
     }
 }
 
 impl<'a> IndexedHyp<'a> {
+    /// The rows of the pages after the commits and then after the layers up to the tip.
+    pub(crate) fn of(
+        pages: IndexedRel<'a>,
+        commits: &'a [Delta],
+        layers: &'a Layers,
+        tip: Option<usize>,
+        rel: RelId,
+    ) -> IndexedHyp<'a>
+        requires { IsTip layers.now.layers tip }
+        ensures { result ≡ rows_after rel.0 pages.entry (commits.now ++ path layers.now.layers tip) }
+    {
+        let alone = seeks::put_in_alone(&pages, commits, layers, tip, rel);
+        IndexedHyp {
+            pages,
+            commits,
+            layers,
+            tip,
+            rel,
+            alone,
+        }
+    }
+
+    /// The same rows: the last layers and commits that say nothing of the relation are passed over.
+    pub(crate) fn new(
+        pages: IndexedRel<'a>,
+        commits: &'a [Delta],
+        layers: &'a Layers,
+        tip: Option<usize>,
+        rel: RelId,
+    ) -> IndexedHyp<'a>
+        requires tip { IsTip layers.now.layers tip }
+        requires ordered { IsAscending pages }
+        ensures { result ≡ rows_after rel.0 pages.entry (commits.entry.now ++ path layers.now.layers tip) }
+    {
+        let newest = newest_naming(layers, tip, rel);
+        IndexedHyp::of(pages, up_to_naming(commits, rel), layers, newest, rel)
+    }
+
+    /// The rows as a set, where one delta has put all of them in.
+    #[inline]
+    fn alone(&self) -> Option<&'a RowSet>
+        ensures { IfSome result (λ rows. rows.now ≡ self.now) }
+    {
+        self.alone
+    }
+
+    /// Whether the row is one of them.
+    fn has_row(&self, row: &[u8]) -> bool
+        ensures found { result ≡ holds self.now row.now }
+        ensures ordered { IsAscending self.now }
+    {
+        match self.alone() {
+            Some(rows) => rows.has(row),
+            None => seeks::has(
+                &self.pages,
+                self.commits,
+                self.layers,
+                self.tip,
+                self.rel,
+                row,
+            ),
+        }
+    }
+
     /// The same rows, sought as these are. It takes no memory.
     pub fn again(&self) -> IndexedHyp<'a>
         ensures { result ≡ self.now }
@@ -85,6 +141,7 @@ impl<'a> IndexedHyp<'a> {
             layers: self.layers,
             tip: self.tip,
             rel: self.rel,
+            alone: self.alone,
         }
     }
 
@@ -95,22 +152,45 @@ impl<'a> IndexedHyp<'a> {
         ensures next { option_copied result.row ≡ find (is_past (option_copied bound.entry)) self.now }
         ensures ordered { IsAscending self.now }
     {
-        seeks::above_near(
-            &self.pages,
-            self.commits,
-            self.layers,
-            self.tip,
-            self.rel,
-            bound,
-            mark,
-        )
+        match self.alone() {
+            Some(rows) => seeks::above_alone(rows, bound, mark),
+            None => seeks::first_met(
+                &self.pages,
+                self.commits,
+                self.layers,
+                self.tip,
+                self.rel,
+                Sought::Past(bound),
+                mark,
+            ),
+        }
+    }
+
+    /// The first row that does not stand before the bound, and about where it stands, looked for as `above_near`
+    /// looks.
+    fn not_below_near<'s>(&'s self, bound: &'s [u8], mark: ViewMark) -> SeenRow<'s>
+        ensures least { option_copied result.row ≡ find (is_from bound.now) self.now }
+        ensures ordered { IsAscending self.now }
+    {
+        match self.alone() {
+            Some(rows) => froms::not_below_alone(rows, bound, mark),
+            None => seeks::first_met(
+                &self.pages,
+                self.commits,
+                self.layers,
+                self.tip,
+                self.rel,
+                Sought::From(bound),
+                mark,
+            ),
+        }
     }
 
     /// A set of its own with the same rows.
     pub fn collect(&self, alloc: Global) -> Result<RowSet, AllocError>
         ensures { IfOk result (λ rows. rows ≡ self.now) }
     {
-        match seeks::put_in_alone(&self.pages, self.commits, self.layers, self.tip, self.rel) {
+        match self.alone() {
             Some(rows) => rows.copy(),
             None => self.collect_met(alloc),
         }

@@ -11,8 +11,10 @@ mod froms;
 mod indexed;
 mod layers;
 mod marks;
+mod naming;
 mod seeks;
 mod signs;
+mod soughts;
 mod stored;
 mod views;
 

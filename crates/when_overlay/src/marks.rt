@@ -1,11 +1,12 @@
-//! About where a walk stands, and the first row past a bound of those that a delta puts in, looked for there
+//! About where a walk stands, and the first row that is looked for of those that a delta puts in, looked for there
 //! before it is searched for.
 ghost use Rattle.std.specs.Prelude.{◌≡◌};
 ghost use Rattle.std.specs.Option.{option_copied};
 ghost use Rattle.hera_meaning.specs.declared.scalars.Sign.TheVariants.{Plus};
 ghost use Rattle.hera_meaning.specs.Deltas.{IsDelta};
-ghost use Rattle.when_overlay.specs.Seeking.{named_in, next_of};
+ghost use Rattle.when_overlay.specs.Seeking.{named_in, first_of, passes};
 
+use crate::soughts::{Sought, set_near};
 use delta_atoms::Delta;
 use hera_meaning::{RelId, Sign};
 use hera_rows::{Near, Side, Spot};
@@ -74,18 +75,18 @@ pub struct SeenRow<'s> {
     pub mark: ViewMark,
 }
 
-/// The first row past the bound that a delta puts in. It is looked for beside the spot first.
+/// The first row that is looked for of those that a delta puts in. It is looked for beside the spot first.
 pub(crate) fn put_in_near<'s>(
     delta: &'s Delta,
     rel: RelId,
-    bound: Option<&[u8]>,
+    sought: Sought<'_>,
     spot: Spot,
 ) -> Near<'s>
-    ensures next { option_copied result.row ≡ next_of (option_copied bound.entry) (named_in rel.0 Plus delta.now) }
+    ensures next { option_copied result.row ≡ first_of (passes sought.entry) (named_in rel.0 Plus delta.now) }
     ensures valid { IsDelta delta.now }
 {
     if delta.is_fail() {
         return Near { row: None, spot };
     }
-    delta.part(rel, Sign::Plus).above_near(bound, spot)
+    set_near(delta.part(rel, Sign::Plus), sought, spot)
 }

@@ -4,19 +4,27 @@ ghost use Rattle.std.specs.List.{find};
 ghost use Rattle.std.specs.Option.{option_copied};
 ghost use Rattle.hera_sets.specs.Rows.{is_past, IsAscending, holds};
 ghost use Rattle.hera_sets.specs.Sets.{least_of};
-ghost use Rattle.when_overlay.specs.Changed.{rows_after};
+ghost use Rattle.when_overlay.specs.Changed.{changed, rows_after};
 ghost use Rattle.hera_meaning.specs.declared.scalars.Sign.TheVariants.{Plus};
 ghost use Rattle.when_overlay.specs.Layered.{IsTip, path, layer_at};
-ghost use Rattle.when_overlay.specs.Seeking.{named_in, named, met, next_of, later, sign_in, sign_over, stands};
+ghost use Rattle.when_overlay.specs.Seeking.{named_in, named, met, first_of, passes, later, sign_in, sign_over, stands};
 
 use crate::Layers;
 use crate::marks::{SeenRow, ViewMark, put_in_near};
+use crate::naming::newest_naming;
 use crate::signs::{sign_in, sign_of};
+use crate::soughts::{Sought, pages_near, set_near};
 use delta_atoms::Delta;
 use hera_meaning::{RelId, Sign};
 use hera_rows::{RowSet, Sorted, Spot};
 use hera_sets::{is_below, is_same};
 use rel_pages::{IndexedRel, Place};
+
+/// A spot for who has none to tell.
+const NOWHERE: Spot = Spot {
+    block: usize::MAX,
+    row: 0,
+};
 
 /// The lesser of two rows, where a row stands before none.
 fn lesser<'s>(x: Option<&'s [u8]>, y: Option<&'s [u8]>) -> Option<&'s [u8]>
@@ -29,78 +37,73 @@ fn lesser<'s>(x: Option<&'s [u8]>, y: Option<&'s [u8]>) -> Option<&'s [u8]>
     }
 }
 
-/// The first row past the bound that a delta names with this sign.
-fn part_above<'s>(
-    delta: &'s Delta,
-    rel: RelId,
-    sign: Sign,
-    bound: Option<&[u8]>,
-) -> Option<&'s [u8]>
-    ensures { option_copied result ≡ next_of (option_copied bound.entry) (named_in rel.0 sign delta.now) }
+/// The first row that is looked for and that a delta names with this sign.
+fn part_above<'s>(delta: &'s Delta, rel: RelId, sign: Sign, sought: Sought<'_>) -> Option<&'s [u8]>
+    ensures { option_copied result ≡ first_of (passes sought.entry) (named_in rel.0 sign delta.now) }
 {
     if delta.is_fail() {
         return None;
     }
-    delta.part(rel, sign).above(bound)
+    set_near(delta.part(rel, sign), sought, NOWHERE).row
 }
 
-/// The first row past the bound that one of the deltas names with this sign.
+/// The first row that is looked for and that one of the deltas names with this sign.
 fn parts_above<'s>(
     deltas: &'s [Delta],
     rel: RelId,
     sign: Sign,
-    bound: Option<&[u8]>,
+    sought: Sought<'_>,
 ) -> Option<&'s [u8]>
-    ensures { option_copied result ≡ next_of (option_copied bound.entry) (named rel.0 sign deltas.now) }
+    ensures { option_copied result ≡ first_of (passes sought.entry) (named rel.0 sign deltas.now) }
 {
     let mut first = None;
     for delta in deltas {
-        first = lesser(first, part_above(delta, rel, sign, bound));
+        first = lesser(first, part_above(delta, rel, sign, sought));
     }
     first
 }
 
-/// The first row past the bound that one of the layers from the tip down to the root names with this
+/// The first row that is looked for and that one of the layers from the tip down to the root names with this
 /// sign.
 fn layered_above<'s>(
     layers: &'s Layers,
     tip: Option<usize>,
     rel: RelId,
     sign: Sign,
-    bound: Option<&[u8]>,
+    sought: Sought<'_>,
 ) -> Option<&'s [u8]>
     requires { IsTip layers.now.layers tip }
-    ensures { option_copied result ≡ next_of (option_copied bound.entry) (named rel.0 sign (path layers.now.layers tip)) }
+    ensures { option_copied result ≡ first_of (passes sought.entry) (named rel.0 sign (path layers.now.layers tip)) }
 {
     let mut first = None;
     let mut at = tip;
     while let Some(i) = at {
         let layer = layers.layer(i);
-        first = lesser(part_above(&layer.delta, rel, sign, bound), first);
+        first = lesser(part_above(&layer.delta, rel, sign, sought), first);
         at = layer.parent;
     }
     first
 }
 
-/// The first row past the bound that a commit or a layer names with this sign.
+/// The first row that is looked for and that a commit or a layer names with this sign.
 pub(crate) fn named_above<'s>(
     commits: &'s [Delta],
     layers: &'s Layers,
     tip: Option<usize>,
     rel: RelId,
     sign: Sign,
-    bound: Option<&[u8]>,
+    sought: Sought<'_>,
 ) -> Option<&'s [u8]>
     requires { IsTip layers.now.layers tip }
-    ensures { option_copied result ≡ next_of (option_copied bound.entry) (named rel.0 sign (commits.now ++ path layers.now.layers tip)) }
+    ensures { option_copied result ≡ first_of (passes sought.entry) (named rel.0 sign (commits.now ++ path layers.now.layers tip)) }
 {
     lesser(
-        parts_above(commits, rel, sign, bound),
-        layered_above(layers, tip, rel, sign, bound),
+        parts_above(commits, rel, sign, sought),
+        layered_above(layers, tip, rel, sign, sought),
     )
 }
 
-/// The first row past a bound of those that some deltas put in. The last of them is looked at beside a spot first: the
+/// The first row that is looked for of those that some deltas put in. The last of them is looked at beside a spot first: the
 /// first that it puts in, which stands behind that delta, and about where.
 #[derive(Clone, Copy)]
 struct PutIn<'s> {
@@ -109,22 +112,22 @@ struct PutIn<'s> {
     spot: Spot,
 }
 
-/// The first row past the bound that one of the commits puts in, of which this is the last.
+/// The first row that is looked for and that one of the commits puts in, of which this is the last.
 fn put_in_by_last<'s>(
     commits: &'s [Delta],
     last: &'s Delta,
     below: &'s [Delta],
     rel: RelId,
-    bound: Option<&[u8]>,
+    sought: Sought<'_>,
     spot: Spot,
 ) -> PutIn<'s>
     requires { commits.now ≡ below.now ++ last.now ∷ [] }
-    ensures next { option_copied result.row ≡ next_of (option_copied bound.entry) (named rel.0 Plus commits.now) }
+    ensures next { option_copied result.row ≡ first_of (passes sought.entry) (named rel.0 Plus commits.now) }
     ensures own { (q : List ℕ) → option_copied result.own ≡ Some q → sign_over rel.0 commits.now q ≡ Some Plus }
 {
     let _ = commits;
-    let near = put_in_near(last, rel, bound, spot);
-    let rest = parts_above(below, rel, Sign::Plus, bound);
+    let near = put_in_near(last, rel, sought, spot);
+    let rest = parts_above(below, rel, Sign::Plus, sought);
     PutIn {
         row: lesser(rest, near.row),
         own: near.row,
@@ -132,18 +135,18 @@ fn put_in_by_last<'s>(
     }
 }
 
-/// The first row past the bound that one of the commits puts in.
+/// The first row that is looked for and that one of the commits puts in.
 fn put_in_by_commits<'s>(
     commits: &'s [Delta],
     rel: RelId,
-    bound: Option<&[u8]>,
+    sought: Sought<'_>,
     spot: Spot,
 ) -> PutIn<'s>
-    ensures next { option_copied result.row ≡ next_of (option_copied bound.entry) (named rel.0 Plus commits.now) }
+    ensures next { option_copied result.row ≡ first_of (passes sought.entry) (named rel.0 Plus commits.now) }
     ensures own { (q : List ℕ) → option_copied result.own ≡ Some q → sign_over rel.0 commits.now q ≡ Some Plus }
 {
     match commits.split_last() {
-        Some((last, below)) => put_in_by_last(commits, last, below, rel, bound, spot),
+        Some((last, below)) => put_in_by_last(commits, last, below, rel, sought, spot),
         None => PutIn {
             row: None,
             own: None,
@@ -152,22 +155,22 @@ fn put_in_by_commits<'s>(
     }
 }
 
-/// The first row past the bound that this layer, one below it or a commit puts in.
+/// The first row that is looked for and that this layer, one below it or a commit puts in.
 fn put_in_up_to<'s>(
     commits: &'s [Delta],
     layers: &'s Layers,
     i: usize,
     rel: RelId,
-    bound: Option<&[u8]>,
+    sought: Sought<'_>,
     spot: Spot,
 ) -> PutIn<'s>
     requires { i < length layers.now.layers }
-    ensures next { option_copied result.row ≡ next_of (option_copied bound.entry) (named rel.0 Plus (commits.now ++ path layers.now.layers (Some i))) }
+    ensures next { option_copied result.row ≡ first_of (passes sought.entry) (named rel.0 Plus (commits.now ++ path layers.now.layers (Some i))) }
     ensures own { (q : List ℕ) → option_copied result.own ≡ Some q → sign_over rel.0 (commits.now ++ path layers.now.layers (Some i)) q ≡ Some Plus }
 {
     let layer = layers.layer(i);
-    let near = put_in_near(&layer.delta, rel, bound, spot);
-    let rest = named_above(commits, layers, layer.parent, rel, Sign::Plus, bound);
+    let near = put_in_near(&layer.delta, rel, sought, spot);
+    let rest = named_above(commits, layers, layer.parent, rel, Sign::Plus, sought);
     PutIn {
         row: lesser(rest, near.row),
         own: near.row,
@@ -175,27 +178,45 @@ fn put_in_up_to<'s>(
     }
 }
 
-/// The first row past the bound that a commit or a layer puts in.
+/// The first row that is looked for and that a commit or a layer puts in, where this layer is the newest, or no layer.
+fn put_in_from<'s>(
+    commits: &'s [Delta],
+    layers: &'s Layers,
+    tip: Option<usize>,
+    rel: RelId,
+    sought: Sought<'_>,
+    spot: Spot,
+) -> PutIn<'s>
+    requires { IsTip layers.now.layers tip }
+    ensures next { option_copied result.row ≡ first_of (passes sought.entry) (named rel.0 Plus (commits.now ++ path layers.now.layers tip)) }
+    ensures own { (q : List ℕ) → option_copied result.own ≡ Some q → sign_over rel.0 (commits.now ++ path layers.now.layers tip) q ≡ Some Plus }
+{
+    match tip {
+        Some(i) => put_in_up_to(commits, layers, i, rel, sought, spot),
+        None => put_in_by_commits(commits, rel, sought, spot),
+    }
+}
+
+/// The first row that is looked for and that a commit or a layer puts in. The newest layers that say nothing of the
+/// relation are passed over.
 fn put_in_above<'s>(
     commits: &'s [Delta],
     layers: &'s Layers,
     tip: Option<usize>,
     rel: RelId,
-    bound: Option<&[u8]>,
+    sought: Sought<'_>,
     spot: Spot,
 ) -> PutIn<'s>
     requires { IsTip layers.now.layers tip }
-    ensures next { option_copied result.row ≡ next_of (option_copied bound.entry) (named rel.0 Plus (commits.now ++ path layers.now.layers tip)) }
+    ensures next { option_copied result.row ≡ first_of (passes sought.entry) (named rel.0 Plus (commits.now ++ path layers.now.layers tip)) }
     ensures own { (q : List ℕ) → option_copied result.own ≡ Some q → sign_over rel.0 (commits.now ++ path layers.now.layers tip) q ≡ Some Plus }
 {
-    match tip {
-        Some(i) => put_in_up_to(commits, layers, i, rel, bound, spot),
-        None => put_in_by_commits(commits, rel, bound, spot),
-    }
+    let newest = newest_naming(layers, tip, rel);
+    put_in_from(commits, layers, newest, rel, sought, spot)
 }
 
 /// A row that was met below a layer or a commit, or none, and about where it stands in the pages; and of the delta right
-/// below, the first row past the bound that it puts in, and about where that stands.
+/// below, the first row that is looked for and that it puts in, and about where that stands.
 #[derive(Clone, Copy)]
 struct MetBelow<'s> {
     row: Option<&'s [u8]>,
@@ -204,23 +225,23 @@ struct MetBelow<'s> {
     spot: Spot,
 }
 
-/// The first row past the bound of those that stand in the pages or that a commit or a layer puts in.
+/// The first row that is looked for of those that stand in the pages or that a commit or a layer puts in.
 fn met_near<'s>(
     pages: &IndexedRel<'s>,
     commits: &'s [Delta],
     layers: &'s Layers,
     tip: Option<usize>,
     rel: RelId,
-    bound: Option<&[u8]>,
+    sought: Sought<'_>,
     mark: ViewMark,
 ) -> MetBelow<'s>
     requires { IsTip layers.now.layers tip }
-    ensures next { option_copied result.row ≡ find (is_past (option_copied bound.entry)) (met rel.0 pages.now (commits.now ++ path layers.now.layers tip)) }
+    ensures next { option_copied result.row ≡ find (passes sought.entry) (met rel.0 pages.now (commits.now ++ path layers.now.layers tip)) }
     ensures own { (q : List ℕ) → option_copied result.own ≡ Some q → sign_over rel.0 (commits.now ++ path layers.now.layers tip) q ≡ Some Plus }
     ensures ordered { IsAscending pages.now }
 {
-    let near = pages.above_near(bound, mark.pages);
-    let added = put_in_above(commits, layers, tip, rel, bound, mark.below);
+    let near = pages_near(pages, sought, mark.pages);
+    let added = put_in_above(commits, layers, tip, rel, sought, mark.below);
     MetBelow {
         row: lesser(near.row, added.row),
         place: near.place,
@@ -341,22 +362,22 @@ struct Met<'s> {
     kept: bool,
 }
 
-/// The first row past the bound of those that stand in the pages, which are all that are met where there are neither
+/// The first row that is looked for of those that stand in the pages, which are all that are met where there are neither
 /// commits nor layers: it is there.
 fn met_in_pages<'s>(
     pages: &IndexedRel<'s>,
     commits: &'s [Delta],
     layers: &'s Layers,
     rel: RelId,
-    bound: Option<&[u8]>,
+    sought: Sought<'_>,
     mark: ViewMark,
 ) -> Met<'s>
     requires { commits.now ≡ [] }
-    ensures next { option_copied result.found.row ≡ find (is_past (option_copied bound.entry)) (met rel.0 pages.now (commits.now ++ path layers.now.layers None)) }
+    ensures next { option_copied result.found.row ≡ find (passes sought.entry) (met rel.0 pages.now (commits.now ++ path layers.now.layers None)) }
     ensures kept { IfSome result.found.row (λ row. result.kept ≡ stands (sign_over rel.0 (commits.now ++ path layers.now.layers None) row.now) true) }
     ensures ordered { IsAscending pages.now }
 {
-    let near = pages.above_near(bound, mark.pages);
+    let near = pages_near(pages, sought, mark.pages);
     let mark = ViewMark {
         pages: near.place,
         ..mark
@@ -368,7 +389,7 @@ fn met_in_pages<'s>(
     }
 }
 
-/// The first row past the bound of those that are met, where there are no layers and this commit is the last: one of
+/// The first row that is looked for of those that are met, where there are no layers and this commit is the last: one of
 /// those that it puts in, which is there, or one met below it.
 fn met_behind<'s>(
     pages: &IndexedRel<'s>,
@@ -377,16 +398,16 @@ fn met_behind<'s>(
     below: &'s [Delta],
     layers: &'s Layers,
     rel: RelId,
-    bound: Option<&[u8]>,
+    sought: Sought<'_>,
     mark: ViewMark,
 ) -> Met<'s>
     requires { commits.now ≡ below.now ++ last.now ∷ [] }
-    ensures next { option_copied result.found.row ≡ find (is_past (option_copied bound.entry)) (met rel.0 pages.now (commits.now ++ path layers.now.layers None)) }
+    ensures next { option_copied result.found.row ≡ find (passes sought.entry) (met rel.0 pages.now (commits.now ++ path layers.now.layers None)) }
     ensures kept { IfSome result.found.row (λ row. result.kept ≡ stands (sign_over rel.0 (commits.now ++ path layers.now.layers None) row.now) true) }
     ensures ordered { IsAscending pages.now }
 {
-    let own = put_in_near(last, rel, bound, mark.put_in);
-    let near = met_near(pages, below, layers, None, rel, bound, mark);
+    let own = put_in_near(last, rel, sought, mark.put_in);
+    let near = met_near(pages, below, layers, None, rel, sought, mark);
     let row = lesser(near.row, own.row);
     let mark = ViewMark {
         pages: near.place,
@@ -399,26 +420,28 @@ fn met_behind<'s>(
     }
 }
 
-/// The first row past the bound of those that are met, where there are no layers.
+/// The first row that is looked for of those that are met, where there are no layers.
 fn met_without<'s>(
     pages: &IndexedRel<'s>,
     commits: &'s [Delta],
     layers: &'s Layers,
     rel: RelId,
-    bound: Option<&[u8]>,
+    sought: Sought<'_>,
     mark: ViewMark,
 ) -> Met<'s>
-    ensures next { option_copied result.found.row ≡ find (is_past (option_copied bound.entry)) (met rel.0 pages.now (commits.now ++ path layers.now.layers None)) }
+    ensures next { option_copied result.found.row ≡ find (passes sought.entry) (met rel.0 pages.now (commits.now ++ path layers.now.layers None)) }
     ensures kept { IfSome result.found.row (λ row. result.kept ≡ stands (sign_over rel.0 (commits.now ++ path layers.now.layers None) row.now) true) }
     ensures ordered { IsAscending pages.now }
 {
     match commits.split_last() {
-        Some((last, below)) => { met_behind(pages, commits, last, below, layers, rel, bound, mark) }
-        None => met_in_pages(pages, commits, layers, rel, bound, mark),
+        Some((last, below)) => {
+            met_behind(pages, commits, last, below, layers, rel, sought, mark)
+        }
+        None => met_in_pages(pages, commits, layers, rel, sought, mark),
     }
 }
 
-/// The first row past the bound of those that are met, where this layer is the newest: one of those that it
+/// The first row that is looked for of those that are met, where this layer is the newest: one of those that it
 /// puts in, which is there, or one met below it.
 fn met_under<'s>(
     pages: &IndexedRel<'s>,
@@ -426,17 +449,17 @@ fn met_under<'s>(
     layers: &'s Layers,
     i: usize,
     rel: RelId,
-    bound: Option<&[u8]>,
+    sought: Sought<'_>,
     mark: ViewMark,
 ) -> Met<'s>
     requires { i < length layers.now.layers }
-    ensures next { option_copied result.found.row ≡ find (is_past (option_copied bound.entry)) (met rel.0 pages.now (commits.now ++ path layers.now.layers (Some i))) }
+    ensures next { option_copied result.found.row ≡ find (passes sought.entry) (met rel.0 pages.now (commits.now ++ path layers.now.layers (Some i))) }
     ensures kept { IfSome result.found.row (λ row. result.kept ≡ stands (sign_over rel.0 (commits.now ++ path layers.now.layers (Some i)) row.now) true) }
     ensures ordered { IsAscending pages.now }
 {
     let newest = layers.layer(i);
-    let own = put_in_near(&newest.delta, rel, bound, mark.put_in);
-    let near = met_near(pages, commits, layers, newest.parent, rel, bound, mark);
+    let own = put_in_near(&newest.delta, rel, sought, mark.put_in);
+    let near = met_near(pages, commits, layers, newest.parent, rel, sought, mark);
     let row = lesser(near.row, own.row);
     let mark = ViewMark {
         pages: near.place,
@@ -449,43 +472,43 @@ fn met_under<'s>(
     }
 }
 
-/// The first row past the bound of those that are met, and whether it is there.
+/// The first row that is looked for of those that are met, and whether it is there.
 fn met_next<'s>(
     pages: &IndexedRel<'s>,
     commits: &'s [Delta],
     layers: &'s Layers,
     tip: Option<usize>,
     rel: RelId,
-    bound: Option<&[u8]>,
+    sought: Sought<'_>,
     mark: ViewMark,
 ) -> Met<'s>
     requires { IsTip layers.now.layers tip }
-    ensures next { option_copied result.found.row ≡ find (is_past (option_copied bound.entry)) (met rel.0 pages.now (commits.now ++ path layers.now.layers tip)) }
+    ensures next { option_copied result.found.row ≡ find (passes sought.entry) (met rel.0 pages.now (commits.now ++ path layers.now.layers tip)) }
     ensures kept { IfSome result.found.row (λ row. result.kept ≡ stands (sign_over rel.0 (commits.now ++ path layers.now.layers tip) row.now) true) }
     ensures ordered { IsAscending pages.now }
 {
     match tip {
-        Some(i) => met_under(pages, commits, layers, i, rel, bound, mark),
-        None => met_without(pages, commits, layers, rel, bound, mark),
+        Some(i) => met_under(pages, commits, layers, i, rel, sought, mark),
+        None => met_without(pages, commits, layers, rel, sought, mark),
     }
 }
 
-/// The first row past the bound of those that are there, found among those that are met: what was met and taken
+/// The first row that is looked for of those that are there, found among those that are met: what was met and taken
 /// out again is passed over.
-pub(crate) fn above_met<'s>(
+pub(crate) fn first_met<'s>(
     pages: &IndexedRel<'s>,
     commits: &'s [Delta],
     layers: &'s Layers,
     tip: Option<usize>,
     rel: RelId,
-    bound: Option<&[u8]>,
+    sought: Sought<'_>,
     mark: ViewMark,
 ) -> SeenRow<'s>
     requires { IsTip layers.now.layers tip }
-    ensures next { option_copied result.row ≡ find (is_past (option_copied bound.entry)) (rows_after rel.0 pages.now (commits.now ++ path layers.now.layers tip)) }
+    ensures next { option_copied result.row ≡ find (passes sought.entry) (rows_after rel.0 pages.now (commits.now ++ path layers.now.layers tip)) }
     ensures ordered { IsAscending (rows_after rel.0 pages.now (commits.now ++ path layers.now.layers tip)) }
 {
-    let mut last = bound;
+    let mut last = sought;
     let mut mark = mark;
     loop {
         let next = met_next(pages, commits, layers, tip, rel, last, mark);
@@ -495,25 +518,99 @@ pub(crate) fn above_met<'s>(
         if next.kept {
             return next.found;
         }
-        last = Some(row);
+        last = Sought::Past(Some(row));
         mark = next.found.mark;
     }
 }
 
-/// Whether nothing stands in the pages, and nothing is below a layer with this parent.
-fn is_bare(pages: &IndexedRel<'_>, commits: &[Delta], parent: Option<usize>) -> bool
-    ensures pages { result ≡ true → pages.now ≡ [] }
+/// Whether there is none of the deltas.
+fn are_none(deltas: &[Delta]) -> bool
+    ensures { result ≡ true → deltas.now ≡ [] }
+{
+    deltas.is_empty()
+}
+
+/// Whether nothing stands in the pages.
+fn is_bare(pages: &IndexedRel<'_>) -> bool
+    ensures { result ≡ true → pages.now ≡ [] }
+{
+    pages.is_empty()
+}
+
+/// Whether nothing is below a layer with this parent.
+fn is_lowest(commits: &[Delta], parent: Option<usize>) -> bool
     ensures commits { result ≡ true → commits.now ≡ [] }
     ensures parent { result ≡ true → parent ≡ None }
 {
-    pages.is_empty() && commits.is_empty() && parent.is_none()
+    commits.is_empty() && parent.is_none()
 }
 
-/// The rows that the layer at the tip puts in, where these are all that are there: nothing stands in the pages, and
-/// no delta is below.
+/// The delta of this layer, where none is below it.
+fn lowest_delta<'s>(commits: &[Delta], layers: &'s Layers, i: usize) -> Option<&'s Delta>
+    requires { i < length layers.now.layers }
+    ensures { IfSome result (λ delta. commits.now ++ path layers.now.layers (Some i) ≡ delta.now ∷ []) }
+{
+    let layer = layers.layer(i);
+    if is_lowest(commits, layer.parent) {
+        return Some(&layer.delta);
+    }
+    None
+}
+
+/// The last commit, where none is below it.
+fn first_commit<'s>(
+    commits: &[Delta],
+    last: &'s Delta,
+    below: &[Delta],
+    layers: &Layers,
+) -> Option<&'s Delta>
+    requires { commits.now ≡ below.now ++ last.now ∷ [] }
+    ensures { IfSome result (λ delta. commits.now ++ path layers.now.layers None ≡ delta.now ∷ []) }
+{
+    let _ = commits;
+    let _ = layers;
+    if are_none(below) {
+        return Some(last);
+    }
+    None
+}
+
+/// The commit, where it is the only one.
+fn lone_commit<'s>(commits: &'s [Delta], layers: &Layers) -> Option<&'s Delta>
+    ensures { IfSome result (λ delta. commits.now ++ path layers.now.layers None ≡ delta.now ∷ []) }
+{
+    match commits.split_last() {
+        Some((last, below)) => first_commit(commits, last, below, layers),
+        None => None,
+    }
+}
+
+/// The delta of a layer or a commit, where it is the only one.
+fn lone_delta<'s>(commits: &'s [Delta], layers: &'s Layers, tip: Option<usize>) -> Option<&'s Delta>
+    requires { IsTip layers.now.layers tip }
+    ensures { IfSome result (λ delta. commits.now ++ path layers.now.layers tip ≡ delta.now ∷ []) }
+{
+    match tip {
+        Some(i) => lowest_delta(commits, layers, i),
+        None => lone_commit(commits, layers),
+    }
+}
+
+/// The rows that a delta puts in where there were none, if it is not `fail`.
+fn put_in_first(delta: &Delta, rel: RelId) -> Option<&RowSet>
+    ensures { IfSome result (λ rows. rows.now ≡ changed rel.0 [] delta.now) }
+{
+    if delta.is_fail() {
+        return None;
+    }
+    Some(delta.part(rel, Sign::Plus))
+}
+
+/// The rows that a layer or a commit puts in, where these are all that are there: nothing stands in the pages, and no
+/// other delta changes it.
 pub(crate) fn put_in_alone<'s>(
     pages: &IndexedRel<'_>,
-    commits: &[Delta],
+    commits: &'s [Delta],
     layers: &'s Layers,
     tip: Option<usize>,
     rel: RelId,
@@ -521,18 +618,16 @@ pub(crate) fn put_in_alone<'s>(
     requires { IsTip layers.now.layers tip }
     ensures { IfSome result (λ rows. rows.now ≡ rows_after rel.0 pages.now (commits.now ++ path layers.now.layers tip)) }
 {
-    let Some(i) = tip else {
-        return None;
-    };
-    let newest = layers.layer(i);
-    if newest.delta.is_fail() || !is_bare(pages, commits, newest.parent) {
-        return None;
+    let delta = lone_delta(commits, layers, tip)?;
+    let rows = put_in_first(delta, rel)?;
+    if is_bare(pages) {
+        return Some(rows);
     }
-    Some(newest.delta.part(rel, Sign::Plus))
+    None
 }
 
 /// The first row past the bound of a set, and about where it stands.
-fn above_alone<'s>(rows: &'s RowSet, bound: Option<&[u8]>, mark: ViewMark) -> SeenRow<'s>
+pub(crate) fn above_alone<'s>(rows: &'s RowSet, bound: Option<&[u8]>, mark: ViewMark) -> SeenRow<'s>
     ensures next { option_copied result.row ≡ find (is_past (option_copied bound.entry)) rows.now }
     ensures ordered { IsAscending rows.now }
 {
@@ -544,7 +639,7 @@ fn above_alone<'s>(rows: &'s RowSet, bound: Option<&[u8]>, mark: ViewMark) -> Se
     SeenRow { row: own.row, mark }
 }
 
-/// The first row past the bound that is there, and about where it stands: there it is looked for first.
+/// The first row that is looked for and that is there, and about where it stands: there it is looked for first.
 pub(crate) fn above_near<'s>(
     pages: &IndexedRel<'s>,
     commits: &'s [Delta],
@@ -560,6 +655,6 @@ pub(crate) fn above_near<'s>(
 {
     match put_in_alone(pages, commits, layers, tip, rel) {
         Some(rows) => above_alone(rows, bound, mark),
-        None => above_met(pages, commits, layers, tip, rel, bound, mark),
+        None => first_met(pages, commits, layers, tip, rel, Sought::Past(bound), mark),
     }
 }

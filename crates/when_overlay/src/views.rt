@@ -47,13 +47,15 @@ impl<'a> View<'a> {
         requires there { rel.0 < length self.now.base.now.catalogue }
         ensures { slice_get (after_all self.now.base.now.state (self.now.commits.now ++ path self.now.layers.now.layers self.now.tip)) rel.0 ≡ Some result }
     {
-        IndexedHyp {
-            pages: self.base.indexed(rel),
-            commits: self.commits,
-            layers: self.layers,
-            tip: self.tip,
+        // for the proof alone: the rows of the base ascend
+        let _state = self.base.catalogue();
+        IndexedHyp::new(
+            self.base.indexed(rel),
+            self.commits,
+            self.layers,
+            self.tip,
             rel,
-        }
+        )
     }
 }
 
@@ -154,13 +156,13 @@ impl<'a> Hyp<'a> {
     fn indexed(&self) -> IndexedHyp<'a>
         ensures { result ≡ self.now }
     {
-        IndexedHyp {
-            pages: self.pages.indexed(),
-            commits: self.commits,
-            layers: self.layers,
-            tip: self.tip,
-            rel: self.rel,
-        }
+        IndexedHyp::of(
+            self.pages.indexed(),
+            self.commits,
+            self.layers,
+            self.tip,
+            self.rel,
+        )
     }
 
     /// How many rows there are; none for more than 2^63 - 1. It takes no memory, and looks at no row

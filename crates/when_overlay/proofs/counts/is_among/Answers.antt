@@ -1,4 +1,4 @@
-use Rattle.std.proofs.Common.{ap, sym, ◌∙◌}
+use Rattle.std.proofs.Common.{ap, ◌∙◌}
 use Rattle.rel_pages.proofs.Searches.{is_that, held_from}
 use Rattle.when_overlay.proofs.counts.is_among.Goals as goal
 

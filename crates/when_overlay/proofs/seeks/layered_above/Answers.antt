@@ -1,8 +1,7 @@
 use Rattle.std.proofs.Common.{◌++◌, ◌<◌, ◌∙◌, ap, sym, subst, append_assoc}
-use Rattle.std.specs.Option.{option_copied}
 use Rattle.hera_sets.specs.Sets.{least_of}
 use Rattle.when_overlay.specs.Layered.{path}
-use Rattle.when_overlay.specs.Seeking.{named_in, named, next_of}
+use Rattle.when_overlay.specs.Seeking.{named_in, named, first_of, passes}
 use Rattle.when_overlay.proofs.Layering.{path_step, path_none, parent_lower, parent_tip, height}
 use Rattle.when_overlay.proofs.Meeting.{next_append, named-push}
 use Rattle.when_overlay.proofs.seeks.layered_above.Goals as goal
@@ -21,7 +20,7 @@ loop-at-preserved c =
       named_in c.args.rel.0 c.args.sign l.delta ++ rows,
       c.lesser-first.ensures
           ∙ (λ j. least_of (c.part_above.ensures j) (c.loop-at.invariant.1 j))
-          ∙ next_append (option_copied c.args.bound) (named_in c.args.rel.0 c.args.sign l.delta) rows,
+          ∙ next_append (passes c.args.sought) (named_in c.args.rel.0 c.args.sign l.delta) rows,
       sym (append_assoc (named c.args.rel.0 c.args.sign (path ls l.parent)) (named_in c.args.rel.0 c.args.sign l.delta) rows)
           ∙ ap (λ xs. xs ++ rows) (sym (named-push c.args.rel.0 c.args.sign (path ls l.parent) l.delta) ∙ ap (named c.args.rel.0 c.args.sign) (sym s.step))
           ∙ ap (λ o. named c.args.rel.0 c.args.sign (path ls o) ++ rows) (sym c.in-Some.is)
@@ -34,7 +33,7 @@ returns c =
     let ls = c.args.layers.now.layers in
     let rows = c.loop-at.invariant.0 in
     c.loop-at.invariant.1
-    ∙ ap (next_of (option_copied c.args.bound))
+    ∙ ap (first_of (passes c.args.sought))
     (ap (λ ds. named c.args.rel.0 c.args.sign ds ++ rows) (sym (path_none ls))
     ∙ ap (λ o. named c.args.rel.0 c.args.sign (path ls o) ++ rows) (sym c.in_default.is)
     ∙ c.loop-at.invariant.2)

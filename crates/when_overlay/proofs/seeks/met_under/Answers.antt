@@ -1,7 +1,7 @@
 use Rattle.std.proofs.Common.{◌≡◌, ◌++◌, ◌∷◌, [], ◌∙◌, ap, sym, subst, Option, Some, IfSome, append_assoc}
 use Rattle.hera_meaning.specs.declared.scalars.Sign.TheVariants.{Plus}
 use Rattle.when_overlay.specs.declared.layers.Layer.{Layer}
-use Rattle.when_overlay.specs.Seeking.{later, sign_in, sign_over}
+use Rattle.when_overlay.specs.Seeking.{later, sign_in, sign_over, passes}
 use Rattle.std.specs.Option.{option_copied}
 use Rattle.hera_sets.specs.Sets.{least_of}
 use Rattle.when_overlay.specs.Layered.{path}
@@ -22,7 +22,7 @@ is_kept_under-requires-clause-put_in c = λ q found.
     let s = path_step ls c.args.i l c.layer-newest.ensures.valid c.layer-newest.ensures.layer in
     let under = c.args.commits.now ++ path ls l.parent in
     let whole = ap (λ ds. c.args.commits.now ++ ds) s.step ∙ sym (append_assoc c.args.commits.now (path ls l.parent) (l.delta ∷ [])) in
-    newest_sign (option_copied c.args.bound) c.args.rel.0 under (c.args.commits.now ++ path ls (Some c.args.i)) l.delta (option_copied c.put_in_near-own.result.row) q whole c.put_in_near-own.ensures.valid c.put_in_near-own.ensures.next found
+    newest_sign (passes c.args.sought) c.args.rel.0 under (c.args.commits.now ++ path ls (Some c.args.i)) l.delta (option_copied c.put_in_near-own.result.row) q whole c.put_in_near-own.ensures.valid c.put_in_near-own.ensures.next found
 
 pub is_kept_under-requires-clause-below : goal.is_kept_under-requires-clause-below
 is_kept_under-requires-clause-below c = λ q found.
@@ -44,4 +44,4 @@ returns-clause-next c =
     let whole = ap (λ ds. c.args.commits.now ++ ds) s.step ∙ sym (append_assoc c.args.commits.now (path ls l.parent) (l.delta ∷ [])) in
     c.lesser-row.ensures
     ∙ (λ j. least_of (c.met_near-near.ensures.next j) (c.put_in_near-own.ensures.next j))
-    ∙ next_newest (option_copied c.args.bound) c.args.rel.0 c.args.pages.now under (c.args.commits.now ++ path ls (Some c.args.i)) l.delta whole
+    ∙ next_newest (passes c.args.sought) c.args.rel.0 c.args.pages.now under (c.args.commits.now ++ path ls (Some c.args.i)) l.delta whole

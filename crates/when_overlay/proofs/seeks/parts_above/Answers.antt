@@ -1,7 +1,6 @@
 use Rattle.std.proofs.Common.{◌∙◌, ap, sym, take}
-use Rattle.std.specs.Option.{option_copied}
 use Rattle.hera_sets.specs.Sets.{least_of}
-use Rattle.when_overlay.specs.Seeking.{named_in, named, next_of}
+use Rattle.when_overlay.specs.Seeking.{named_in, named, first_of, passes}
 use Rattle.when_overlay.proofs.Meeting.{next_append, named_more}
 use Rattle.when_overlay.proofs.seeks.parts_above.Goals as goal
 
@@ -9,5 +8,5 @@ pub loop-delta-preserved : goal.loop-delta-preserved
 loop-delta-preserved c =
     c.lesser-first.ensures
     ∙ (λ j. least_of (c.loop-delta.invariant j) (c.part_above.ensures j))
-    ∙ next_append (option_copied c.args.bound) (named c.args.rel.0 c.args.sign (take c.loop-delta.delta-index c.args.deltas.now)) (named_in c.args.rel.0 c.args.sign c.delta-item.result)
-    ∙ ap (next_of (option_copied c.args.bound)) (sym (named_more c.args.rel.0 c.args.sign c.args.deltas.now c.loop-delta.delta-index c.delta-item.result c.loop-delta-test.true c.delta-item.is))
+    ∙ next_append (passes c.args.sought) (named c.args.rel.0 c.args.sign (take c.loop-delta.delta-index c.args.deltas.now)) (named_in c.args.rel.0 c.args.sign c.delta-item.result)
+    ∙ ap (first_of (passes c.args.sought)) (sym (named_more c.args.rel.0 c.args.sign c.args.deltas.now c.loop-delta.delta-index c.delta-item.result c.loop-delta-test.true c.delta-item.is))

@@ -1,17 +1,19 @@
-use Rattle.std.proofs.Common.{◌++◌, ◌∙◌, ap, sym}
-use Rattle.std.specs.Option.{option_copied}
-use Rattle.hera_meaning.specs.declared.scalars.Sign.TheVariants.{Plus}
+use Rattle.std.proofs.Common.{◌∙◌, ap, sym, refl}
 use Rattle.when_overlay.specs.Layered.{path}
-use Rattle.when_overlay.specs.Seeking.{named, next_of, sign_over}
-use Rattle.when_overlay.proofs.Layering.{path_end}
+use Rattle.when_overlay.specs.Seeking.{first_of, passes}
+use Rattle.when_overlay.proofs.Silence.{same_signs, same_puts}
 use Rattle.when_overlay.proofs.seeks.put_in_above.Goals as goal
 
-pub returns-in-None-clause-next : goal.returns-in-None-clause-next
-returns-in-None-clause-next c =
-    let end = ap (λ t. c.args.commits.now ++ path c.args.layers.now.layers t) c.in-None.is ∙ path_end c.args.layers.now.layers c.args.commits.now in
-    c.put_in_by_commits.ensures.next ∙ ap (λ ds. next_of (option_copied c.args.bound) (named c.args.rel.0 Plus ds)) (sym end)
+pub returns-clause-next : goal.returns-clause-next
+returns-clause-next c =
+    let ls = c.args.layers.now.layers in
+    let commits = c.args.commits.now in
+    c.put_in_from.ensures.next
+    ∙ ap (first_of (passes c.args.sought)) (same_puts c.args.rel.0 commits (path ls c.newest_naming-newest.result) (path ls c.args.tip) c.newest_naming-newest.ensures.puts)
 
-pub returns-in-None-clause-own : goal.returns-in-None-clause-own
-returns-in-None-clause-own c = λ q found.
-    let end = ap (λ t. c.args.commits.now ++ path c.args.layers.now.layers t) c.in-None.is ∙ path_end c.args.layers.now.layers c.args.commits.now in
-    ap (λ ds. sign_over c.args.rel.0 ds q) end ∙ c.put_in_by_commits.ensures.own q found
+pub returns-clause-own : goal.returns-clause-own
+returns-clause-own c = λ q found.
+    let ls = c.args.layers.now.layers in
+    let commits = c.args.commits.now in
+    sym (same_signs c.args.rel.0 commits commits (path ls c.newest_naming-newest.result) (path ls c.args.tip) (λ _. refl) c.newest_naming-newest.ensures.signs q)
+    ∙ c.put_in_from.ensures.own q found

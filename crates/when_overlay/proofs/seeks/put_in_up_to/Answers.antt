@@ -2,6 +2,7 @@ use Rattle.std.proofs.Common.{◌++◌, ◌∷◌, [], ◌∙◌, ap, sym, Some,
 use Rattle.std.specs.Option.{option_copied}
 use Rattle.hera_sets.specs.Sets.{least_of}
 use Rattle.when_overlay.specs.Layered.{path}
+use Rattle.when_overlay.specs.Seeking.{passes}
 use Rattle.when_overlay.proofs.Layering.{path_step, parent_tip}
 use Rattle.when_overlay.proofs.Meeting.{next_last, newest_sign}
 use Rattle.when_overlay.proofs.seeks.put_in_up_to.Goals as goal
@@ -14,7 +15,7 @@ named_above-rest-requires c =
 
 pub returns : goal.returns
 returns c =
-    let b = option_copied c.args.bound in
+    let b = passes c.args.sought in
     let ls = c.args.layers.now.layers in
     let l = c.layer-layer.result.now in
     let s = path_step ls c.args.i l c.layer-layer.ensures.valid c.layer-layer.ensures.layer in
