@@ -52,7 +52,7 @@ walks_settled s t ls ms (w ∷ ws) = ap (λ vs. walk_at s ls w ∷ vs) (walks_se
 
 rest_given : (s t : State) (ls ms : List Layer) (last : Option _) (r : Rest) → IsGiven r → to_come t ms last r ≡ to_come s ls last r
 rest_given s t ls ms last (given rows) h = refl
-rest_given s t ls ms last (named r k) h = absurd h
+rest_given s t ls ms last (named ahead r k) h = absurd h
 
 pub walks_given : (s t : State) (ls ms : List Layer) (ws : List Pace) → AreGiven ws → map (walk_at t ms) ws ≡ map (walk_at s ls) ws
 walks_given s t ls ms [] h = refl
@@ -65,7 +65,7 @@ walks_are_given s ls (w ∷ ws) = (tt, walks_are_given s ls ws)
 
 rest_reach_given : (r : Rest) → IsGiven r → rest_reach r ≡ 0
 rest_reach_given (given rows) h = refl
-rest_reach_given (named r k) h = absurd h
+rest_reach_given (named ahead r k) h = absurd h
 
 pub reach_given : (ws : List Pace) → AreGiven ws → walks_reach ws ≡ 0
 reach_given [] h = refl
@@ -79,7 +79,7 @@ reach_settled s ls ws = reach_given (map (settled s ls) ws) (walks_are_given s l
 
 pub unnamed : (r : Rest) → is_named r ≡ false → IsGiven r
 unnamed (given rows) h = tt
-unnamed (named r k) h = cc
+unnamed (named ahead r k) h = cc
 
 -- ---- what a loop over all has seen
 

@@ -1,7 +1,6 @@
 -- What a change of the layers leaves as it is, and what stays named by layers that are there.
 use Rattle.std.proofs.Common.{◌≡◌, ℕ, suc, ◌+◌, ◌-◌, ◌<◌, ◌≤◌, Bool, false, List, [], ◌∷◌, length, map, max, min, Option, Some, refl, sym, ap, ◌∙◌, subst, arith}
-use Rattle.hera_sets.specs.Rows.{Row, is_past}
-use Rattle.std.specs.List.{filter}
+use Rattle.hera_sets.specs.Rows.{Row}
 use Rattle.hera_meaning.specs.Deltas.{Delta, State, atoms, is_fail, rows_at, apply_of}
 use Rattle.hera_meaning.proofs.DeltaLaws.{apply_of-kept}
 use Rattle.hera_meaning.specs.Values.{table}
@@ -10,7 +9,7 @@ use Rattle.when_overlay.specs.declared.layers.Layer.{Layer}
 use Rattle.hera_frames.specs.declared.frames.Frame.{Frame}
 use Rattle.hera_reads.specs.Branched.{Branches, pending_of, under, seen_at, lowest}
 use Rattle.hera_frames.specs.Items.{Item, held, relation, value_at, operands_at, collected, reach_of, reach}
-use Rattle.hera_reads.specs.Walking.{Rest, given, named, Pace, to_come, walk_at, settled, rest_reach, walks_reach}
+use Rattle.hera_reads.specs.Walking.{Rest, given, named, Pace, onward, to_come, walk_at, settled, rest_reach, walks_reach}
 use Rattle.hera_frames.specs.Waiting.{frame_at, IsWithin, NamesNone, AreKept, IsUpheld, frame_settled}
 use Rattle.hera_reads.proofs.Branching.{under_lower, under_here, seen_lower, seen_lowest, under_lowest, length_lowest}
 use Rattle.hera_frames.proofs.Settled.{items_collected, items_are_held, reach_collected, walks_settled, walks_are_given, reach_settled}
@@ -32,7 +31,7 @@ items_agree s ls t ms n a (item ∷ items) h =
 
 rest_agree : (s : State) (ls : List Layer) (t : State) (ms : List Layer) (n : ℕ) → Agree s ls t ms n → (last : Option Row) (r : Rest) → rest_reach r ≤ n → to_come s ls last r ≡ to_come t ms last r
 rest_agree s ls t ms n a last (given rows) h = refl
-rest_agree s ls t ms n a last (named r k) h = ap (λ u. filter (is_past last) (rows_at u r)) (a.states k h)
+rest_agree s ls t ms n a last (named ahead r k) h = ap (λ u. onward last ahead (rows_at u r)) (a.states k h)
 
 pub walks_agree : (s : State) (ls : List Layer) (t : State) (ms : List Layer) (n : ℕ) → Agree s ls t ms n → (ws : List Pace) → walks_reach ws ≤ n → map (walk_at s ls) ws ≡ map (walk_at t ms) ws
 walks_agree s ls t ms n a [] h = refl

@@ -1,9 +1,35 @@
 -- The rows of a walk that are still to come.
-use Rattle.std.proofs.Common.{◌≡◌, ℕ, zero, suc, ◌+◌, ◌<◌, ◌≤◌, true, false, List, [], ◌∷◌, drop, length, get_or, is_some, refl, sym, Option, Some, arith, ap, ◌∙◌, add-one}
+use Rattle.std.proofs.Common.{◌≡◌, ℕ, zero, suc, ◌+◌, ◌<◌, ◌≤◌, true, false, List, [], ◌∷◌, drop, length, get_or, is_some, refl, sym, Option, Some, arith, ap, ◌∙◌}
 use Rattle.std.specs.Prelude.{slice_get}
-use Rattle.std.proofs.lemmas.Option.{none-some, same_Some}
+use Rattle.std.proofs.lemmas.Bool.{false≢true}
 use Rattle.hera_sets.specs.Rows.{Row}
-use Rattle.hera_reads.specs.Walking.{given, row_before, first_of, past_row}
+use Rattle.hera_reads.specs.Walking.{row_before, last_or, past_left}
+
+-- the first one that is left
+pub first_left : (rows : List Row) (i : ℕ) → slice_get rows i ≡ slice_get (drop i rows) 0
+first_left [] zero = refl
+first_left [] (suc i) = refl
+first_left (x ∷ rows) zero = refl
+first_left (x ∷ rows) (suc i) = first_left rows i
+
+-- whether one is left
+pub left_some : (rows : List Row) (i : ℕ) → i < length rows → true ≡ is_some (slice_get (drop i rows) 0)
+left_some [] i h = absurd (omega (arith, h))
+left_some (x ∷ rows) zero h = refl
+left_some (x ∷ rows) (suc i) h = left_some rows i (omega (arith, h))
+
+pub left_none : (rows : List Row) (i : ℕ) → length rows ≤ i → false ≡ is_some (slice_get (drop i rows) 0)
+left_none [] zero h = refl
+left_none [] (suc i) h = refl
+left_none (x ∷ rows) zero h = absurd (omega (arith, h))
+left_none (x ∷ rows) (suc i) h = left_none rows i (omega (arith, h))
+
+-- the one that is left, and those behind it
+pub drop_some : (rows : List Row) (i : ℕ) → is_some (slice_get (drop i rows) 0) ≡ true → (x : Row) × (slice_get rows i ≡ Some x) × (drop i rows ≡ x ∷ drop (suc i) rows)
+drop_some [] zero h = absurd (false≢true h)
+drop_some [] (suc i) h = absurd (false≢true h)
+drop_some (x ∷ rows) zero h = (x, refl, refl)
+drop_some (x ∷ rows) (suc i) h = drop_some rows i h
 
 pub drop_past : {A : Type 0} → (xs : List A) (i : ℕ) → length xs ≤ i → drop i xs ≡ []
 drop_past [] zero h = refl
@@ -11,52 +37,42 @@ drop_past [] (suc i) h = refl
 drop_past (x ∷ xs) zero h = absurd (omega (arith, h))
 drop_past (x ∷ xs) (suc i) h = drop_past xs i (omega (arith, h))
 
-drop_suc : {A : Type 0} → (xs : List A) (i : ℕ) (x : A) → slice_get xs i ≡ Some x → drop i xs ≡ x ∷ drop (suc i) xs
-drop_suc [] i x e = absurd (none-some x e)
-drop_suc (y ∷ ys) zero x e = ap (λ z. z ∷ ys) (same_Some y x e)
-drop_suc (y ∷ ys) (suc i) x e = drop_suc ys i x e
+-- the last one that is left
+last_of_all : (b : Option Row) (rows : List Row) (n : ℕ) (x : Row) → n + 1 ≡ length rows → x ≡ get_or rows n x → Some x ≡ last_or b rows
+last_of_all b [] n x e g = absurd (omega (arith, e))
+last_of_all b (y ∷ []) zero x e g = ap (λ z. Some z) g
+last_of_all b (y ∷ []) (suc n) x e g = absurd (omega (arith, e))
+last_of_all b (y ∷ z ∷ rows) zero x e g = absurd (omega (arith, e))
+last_of_all b (y ∷ z ∷ rows) (suc n) x e g = last_of_all (Some y) (z ∷ rows) n x (omega (arith, e)) g
 
-pub drop_at : {A : Type 0} → (xs : List A) (i : ℕ) (x : A) → slice_get xs i ≡ Some x → drop i xs ≡ x ∷ drop (i + 1) xs
-drop_at xs i x e = drop_suc xs i x e ∙ ap (λ k. x ∷ drop k xs) (sym (add-one i))
+pub last_left : (b : Option Row) (rows : List Row) (i n : ℕ) (x : Row) → i < length rows → n + 1 ≡ length rows → x ≡ get_or rows n x → Some x ≡ last_or b (drop i rows)
+last_left b rows zero n x h e g = last_of_all b rows n x e g
+last_left b [] (suc i) n x h e g = absurd (omega (arith, h))
+last_left b (y ∷ rows) (suc i) zero x h e g = absurd (omega (arith, h, e))
+last_left b (y ∷ rows) (suc i) (suc n) x h e g = last_left b rows i n x (omega (arith, h)) (omega (arith, e)) g
 
--- the first one that is left
-pub first_left : (rows : List Row) (i : ℕ) → slice_get rows i ≡ first_of (given (drop i rows))
-first_left [] zero = refl
-first_left [] (suc i) = refl
-first_left (x ∷ rows) zero = refl
-first_left (x ∷ rows) (suc i) = first_left rows i
+pub last_none : (b : Option Row) (rows : List Row) (i : ℕ) → length rows ≤ i → b ≡ last_or b (drop i rows)
+last_none b rows i h = ap (last_or b) (sym (drop_past rows i h))
 
--- past the next row, and where none is left
-before_more : (rows : List Row) (i : ℕ) (last : Option Row) → row_before (i + 1) rows last ≡ slice_get rows i
-before_more rows i last = ap (λ k. row_before k rows last) (add-one i)
+-- past the next row read ahead, and where none is left
+pub pass_left : (rows : List Row) (i : ℕ) → i < length rows → record { passed = row_before (i + 1) rows; left = drop (i + 1) rows } ≡ past_left (drop i rows) (record { passed = row_before i rows; left = drop i rows })
+pass_left rows i h = by (drop_some rows i (sym (left_some rows i h)))
+  where
+    more : i + 1 ≡ suc i
+    more = omega arith
 
-pass_row : (rows gathered : List Row) (i : ℕ) (x : Row) (last : Option Row) → slice_get rows i ≡ Some x →
-    record { rest = given (drop (i + 1) rows); current = row_before (i + 1) rows last; gathered = gathered }
-    ≡ past_row (given (drop i rows)) (record { rest = given (drop i rows); current = row_before i rows last; gathered = gathered })
-pass_row rows gathered i x last e =
-    ap (λ (o : Option Row). record { rest = given (drop (i + 1) rows); current = o; gathered = gathered }) (before_more rows i last ∙ e)
-    ∙ ap (λ xs. past_row (given xs) (record { rest = given (drop i rows); current = row_before i rows last; gathered = gathered })) (sym (drop_at rows i x e))
+    by : (x : Row) × (slice_get rows i ≡ Some x) × (drop i rows ≡ x ∷ drop (suc i) rows) →
+        record { passed = row_before (i + 1) rows; left = drop (i + 1) rows } ≡ past_left (drop i rows) (record { passed = row_before i rows; left = drop i rows })
+    by d =
+        ap (λ k. record { passed = row_before k rows; left = drop k rows }) more
+        ∙ ap (λ (o : Option Row). record { passed = o; left = drop (suc i) rows }) d.1
+        ∙ ap (λ xs. past_left xs (record { passed = row_before i rows; left = drop i rows })) (sym d.2)
 
-get_some : (rows : List Row) (i : ℕ) → i < length rows → slice_get rows i ≡ Some (get_or rows i [])
-get_some [] i h = absurd (omega (arith, h))
-get_some (x ∷ rows) zero h = refl
-get_some (x ∷ rows) (suc i) h = get_some rows i (omega (arith, h))
+pub pass_none : (rows : List Row) (i : ℕ) → length rows ≤ i → record { passed = row_before i rows; left = drop i rows } ≡ past_left (drop i rows) (record { passed = row_before i rows; left = drop i rows })
+pass_none rows i h = ap (λ xs. past_left xs (record { passed = row_before i rows; left = drop i rows })) (sym (drop_past rows i h))
 
-pub pass_within : (rows gathered : List Row) (i : ℕ) (last : Option Row) → i < length rows →
-    record { rest = given (drop (i + 1) rows); current = row_before (i + 1) rows last; gathered = gathered }
-    ≡ past_row (given (drop i rows)) (record { rest = given (drop i rows); current = row_before i rows last; gathered = gathered })
-pass_within rows gathered i last h = pass_row rows gathered i (get_or rows i []) last (get_some rows i h)
+pub ruleset lefts = (first_left, left_some, left_none)
 
--- whether one is left
-pub left_some : (rows : List Row) (i : ℕ) → i < length rows → true ≡ is_some (first_of (given (drop i rows)))
-left_some [] i h = absurd (omega (arith, h))
-left_some (x ∷ rows) zero h = refl
-left_some (x ∷ rows) (suc i) h = left_some rows i (omega (arith, h))
+pub ruleset passes = (left_some, left_none, pass_left, pass_none)
 
-pub left_none : (rows : List Row) (i : ℕ) → length rows ≤ i → false ≡ is_some (first_of (given (drop i rows)))
-left_none [] zero h = refl
-left_none [] (suc i) h = refl
-left_none (x ∷ rows) zero h = absurd (omega (arith, h))
-left_none (x ∷ rows) (suc i) h = left_none rows i (omega (arith, h))
-
-pub ruleset lefts = (first_left)
+pub ruleset lasts = (last_none)

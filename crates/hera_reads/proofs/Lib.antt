@@ -3,7 +3,8 @@ pub mod Naming
 pub mod Branching
 pub mod Known
 pub mod Tops
-pub mod Gathering
+pub mod Passing
+pub mod Reading
 pub mod Goings
 pub mod Collecting
 pub mod Counting

@@ -1,15 +1,9 @@
 -- The newest item of a stack, which its list has at the end.
-use Rattle.std.proofs.Common.{◌≡◌, ℕ, zero, suc, ◌+◌, ◌<◌, ◌≤◌, List, [], ◌∷◌, ◌++◌, length, map, drop, get_or, Option, None, Some, IsSomeAnd, refl, sym, ap, ◌∙◌, subst, arith}
+use Rattle.std.proofs.Common.{◌≡◌, ℕ, zero, suc, ◌+◌, ◌<◌, ◌≤◌, List, [], ◌∷◌, ◌++◌, length, map, drop, get_or, None, refl, sym, ap, ◌∙◌, subst, arith}
 use Rattle.std.proofs.lemmas.List.{map-append}
 use Rattle.std.specs.Prelude.{slice_set}
 use Rattle.hera_fits.specs.Newest.{newest}
 use Rattle.hera_fits.proofs.Stacks.{newest_length}
-use Rattle.hera_sets.specs.Rows.{Row}
-use Rattle.hera_meaning.specs.Values.{Value, tuple}
-use Rattle.hera_meaning.specs.Worlds.{set_local}
-use Rattle.hera_values.specs.declared.values.Datum.{Datum}
-use Rattle.hera_values.specs.Little.{plain_of}
-use Rattle.hera_values.proofs.Slots.{set_local-map}
 use Rattle.hera_reads.specs.Walking.{Pace, coming_in, current_in, rest_reach, walks_reach, on_newest}
 
 -- what stands behind the first element stays behind it when the list is longer
@@ -87,17 +81,6 @@ none_changed change (x ∷ xs) e = absurd (omega (arith, e))
 pub none_changed_at : {A B : Type 0} → (f : A → B) (change : B → B) (xs : List A) → length xs ≡ 0 → map f (newest (λ x. x) xs) ≡ on_newest change (map f (newest (λ x. x) xs))
 none_changed_at f change [] e = refl
 none_changed_at f change (x ∷ xs) e = absurd (omega (arith, e))
-
--- the newest walk's row, which a slot has too
-row_put : (o : Option Row) (ds : List Datum) (k : ℕ) (v : Datum) → IsSomeAnd o (λ x. plain_of v ≡ tuple x) → IsSomeAnd o (λ x. map plain_of (slice_set ds k v) ≡ set_local (map plain_of ds) k (tuple x))
-row_put None ds k v h = absurd h
-row_put (Some x) ds k v h = set_local-map plain_of ds k v ∙ ap (set_local (map plain_of ds) k) h
-
-pub hopped_put : (locals : List Value) (ds : List Datum) (k : ℕ) (v : Datum) → map plain_of ds ≡ locals → (xs : List Pace) (i : ℕ) (w : Pace) → i + 1 ≡ length xs → IsSomeAnd w.current (λ x. plain_of v ≡ tuple x) →
-    IsSomeAnd (current_in (newest (λ x. x) (slice_set xs i w))) (λ x. map plain_of (slice_set ds k v) ≡ set_local locals k (tuple x))
-hopped_put locals ds k v same xs i w e h =
-    subst (λ ls. IsSomeAnd (current_in (newest (λ x. x) (slice_set xs i w))) (λ x. map plain_of (slice_set ds k v) ≡ set_local ls k (tuple x))) same
-    (subst (λ ws. IsSomeAnd (current_in ws) (λ x. map plain_of (slice_set ds k v) ≡ set_local (map plain_of ds) k (tuple x))) (sym (newest_set_end (λ x. x) xs i w e)) (row_put w.current ds k v h))
 
 pub ruleset tops = (none_coming, none_current, none_changed, none_changed_at, changed, changed_at, changed_reach, same_set)
 

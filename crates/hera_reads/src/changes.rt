@@ -205,14 +205,7 @@ impl<'c> Changes<'c> {
 
     /// How the layer of this number, which is not the pending delta, changes the number of rows that a relation has under
     /// the layer below; none where there are 2^64 or more. Only the rows that it names are looked for. It takes no memory.
-    fn change(
-        &self,
-        alloc: Global,
-        stored: &Stored<'_>,
-        rel: RelId,
-        i: usize,
-        below: usize,
-    ) -> Option<Change>
+    fn change(&self, stored: &Stored<'_>, rel: RelId, i: usize, below: usize) -> Option<Change>
         requires there { rel.0 < length stored.now.catalogue }
         requires within { i < length self.now.layers }
         requires upon { i ≢ 0 }
@@ -222,14 +215,13 @@ impl<'c> Changes<'c> {
         ensures change { let s = stored.now.state in IfSome result (λ change. length (rows_at (seen_at s self.now.layers i) rel.0) + change.taken_out ≡ length (rows_at (seen_at s self.now.layers below) rel.0) + change.put_in) }
     {
         let rows = self.rel(stored, rel, below);
-        change_of(alloc, &rows, rel, self.layers.delta(i))
+        change_of(&rows, rel, self.layers.delta(i))
     }
 
     /// How many rows a relation has under the layer of this number, from how many it has after the pending delta; none
     /// for more than 2^63 - 1. Only the rows that the layers upon that name are looked for. It takes no memory.
     pub(crate) fn count_upon(
         &self,
-        alloc: Global,
         stored: &Stored<'_>,
         rel: RelId,
         tip: usize,
@@ -246,7 +238,7 @@ impl<'c> Changes<'c> {
         let mut taken_out: u64 = 0;
         while at != 0 {
             let below = self.below(at);
-            let change = self.change(alloc, stored, rel, at, below)?;
+            let change = self.change(stored, rel, at, below)?;
             put_in = put_in.checked_add(change.put_in)?;
             taken_out = taken_out.checked_add(change.taken_out)?;
             at = below;

@@ -15,7 +15,6 @@ use when_overlay::{Stored, change_of};
 #[derive(Drop)]
 pub struct Counts {
     numbers: Vec<Option<u64>>,
-    alloc: Global,
 }
 
 impl Model for Counts {
@@ -35,7 +34,7 @@ impl Counts {
         for _ in 0..relations {
             numbers.push(None)?;
         }
-        Ok(Counts { numbers, alloc })
+        Ok(Counts { numbers })
     }
 
     /// How many rows a relation has, if that is known.
@@ -99,7 +98,7 @@ impl Counts {
         ensures counted { AreCounts (apply_of stored.now.state (pending_of changes.now.layers)) self.new }
     {
         let pending = self.pending(changes, stored, rel)?;
-        changes.count_upon(self.alloc, stored, rel, tip, pending)
+        changes.count_upon(stored, rel, tip, pending)
     }
 
     /// How many rows a relation has after the pending delta and then one delta more, if it is known how many it has after
@@ -120,7 +119,7 @@ impl Counts {
         let rel = RelId(i as u16);
         let count = self.known(rel)?;
         let rows = changes.pending_rel(stored, rel);
-        let change = change_of(self.alloc, &rows, rel, delta)?;
+        let change = change_of(&rows, rel, delta)?;
         let next = count
             .checked_add(change.put_in)?
             .checked_sub(change.taken_out)?;

@@ -6,6 +6,7 @@
 //! is collected. Walks stand on a stack, which contracts see with the newest first.
 #![tactic(auto)]
 
+mod ahead;
 mod changes;
 mod counts;
 mod kinds;

@@ -1,30 +1,28 @@
 //! Walks.
-ghost use Rattle.std.specs.Prelude.{◌≡◌, ◌≤◌, List, [], ◌∷◌, ◌++◌, true, false, is_some, None, Some, min, slice_get, OnOk, OnErr, IfOk, IsSomeAnd, MatchBool, MatchOption};
+ghost use Rattle.std.specs.Prelude.{◌≡◌, ◌≤◌, List, [], ◌∷◌, true, false, is_some, None, Some, min, slice_get, OnOk, OnErr, IfOk, IsSomeAnd, MatchBool, MatchOption};
 ghost use Rattle.std.specs.List.{filter};
 ghost use Rattle.std.specs.Option.{option_copied};
-ghost use Rattle.hera_sets.specs.Rows.{put, is_past, IsAscending};
+ghost use Rattle.hera_sets.specs.Rows.{is_past};
 ghost use Rattle.hera_meaning.specs.Deltas.{State, rows_at};
-ghost use Rattle.hera_meaning.specs.Values.{tuple};
 ghost use Rattle.when_overlay.specs.declared.layers.Layer.{Layer};
 ghost use Rattle.when_overlay.specs.Changed.{after_all};
 ghost use Rattle.hera_reads.specs.Branched.{seen_at};
-ghost use Rattle.hera_values.specs.Little.{plain_of};
-ghost use Rattle.hera_reads.specs.Walking.{given, named, rest_of, current_of, first_of, past_first, to_come, walk_at, gone_on, with_kept, with_gathered, settled, is_named, IsGiven, rest_reach};
+ghost use Rattle.hera_reads.specs.declared.walks.WalkSource.TheVariants.{Named};
+ghost use Rattle.hera_reads.specs.Walking.{Front, given, named, rest_of, current_of, onward, first_of, past_first, to_come, walk_at, gone_on, with_kept, with_gathered, settled, is_named, IsGiven, rest_reach, has_passed, own_rows, past_own};
 
 use crate::Changes;
+use crate::ahead::Ahead;
 use crate::past::collect_past;
-use delta_atoms::Delta;
 use hera_meaning::RelId;
-use hera_rows::{RowBuf, RowSet};
-use hera_sets::is_below;
-use hera_values::{Datum, let_go, refill};
+use hera_rows::RowSet;
+use hera_values::let_go;
 use std::alloc::{AllocError, Global};
 use std::marker::Model;
 use std::mem::replace;
-use when_overlay::{Stored, ViewMark};
+use when_overlay::Stored;
 
-/// What a walk goes over: rows of its own, from a place on; or a relation as it is under a layer, of which
-/// what lies past the current row is still to come.
+/// What a walk goes over behind the rows that it has read ahead: rows of its own, from a place on; or a relation as
+/// it is under a layer, of which what lies past those rows is still to come.
 #[derive(Drop)]
 pub(crate) enum WalkSource {
     Rows { rows: RowSet, next: usize },
@@ -34,22 +32,9 @@ pub(crate) enum WalkSource {
 /// A walk over the rows of a relation, with the rows gathered on it.
 #[derive(Drop)]
 pub struct Walk {
+    ahead: Ahead,
     source: WalkSource,
-    /// The row that the last step found, if it is none of the walk's own rows.
-    last: Option<RowBuf>,
-    /// About where that row stands in the relation that is named. It only saves time.
-    mark: ViewMark,
     gathered: RowSet,
-}
-
-/// The bytes of a row, where there is one.
-fn bytes_of(row: &Option<RowBuf>) -> Option<&[u8]>
-    ensures { option_copied result ≡ row.now }
-{
-    match row {
-        None => None,
-        Some(row) => Some(row.bytes()),
-    }
 }
 
 /// The row at a place, if there is one.
@@ -63,97 +48,23 @@ fn row_at(rows: &RowSet, i: usize) -> Option<&[u8]>
     }
 }
 
-/// Puts another row in the place of the last one, whose buffer takes it.
-fn put_last(last: &mut Option<RowBuf>, alloc: Global, row: &[u8]) -> Result<(), AllocError>
-    ensures { OnOk result (last.new ≡ Some row.now) }
-{
-    let mut buffer = match last.take() {
-        None => Vec::new(alloc),
-        Some(old) => old.into_vec(),
-    };
-    refill(&mut buffer, row)?;
-    *last = Some(RowBuf::from_vec(buffer));
-    Ok(())
-}
-
-/// Goes on from the last row to the next one past it in a relation under a layer, if there is one. It is
-/// looked for beside the last one's mark.
+/// Goes on to the next row past the last one in a relation under a layer, if there is one, and reads rows behind it
+/// ahead.
 fn row_past(
-    last: &mut Option<RowBuf>,
-    mark: &mut ViewMark,
+    ahead: &mut Ahead,
     alloc: Global,
     changes: &Changes,
     stored: &Stored<'_>,
     rel: RelId,
     tip: usize,
 ) -> Result<bool, AllocError>
-    ensures { let rows = rows_at (seen_at stored.now.state changes.now.layers tip) rel.0 in IfOk result (λ found. MatchBool found (IsSomeAnd last.new (λ x. filter (is_past last.old) rows ≡ x ∷ filter (is_past (Some x)) rows)) (filter (is_past last.old) rows ≡ [])) }
+    ensures { let rows = rows_at (seen_at stored.now.state changes.now.layers tip) rel.0 in IfOk result (λ found. MatchBool found (IsSomeAnd ahead.new.passed (λ x. filter (is_past ahead.old.passed) rows ≡ x ∷ onward (Some x) ahead.new.left rows)) (filter (is_past ahead.old.passed) rows ≡ [])) }
 {
     if usize::from(rel.0) >= stored.len() {
         return Ok(false);
     }
     let rows = changes.rel(stored, rel, tip);
-    let next = rows.above_near(bytes_of(last), *mark);
-    match next.row {
-        None => Ok(false),
-        Some(row) => {
-            put_last(last, alloc, row)?;
-            *mark = next.mark;
-            Ok(true)
-        }
-    }
-}
-
-/// Puts a row in the place of the last one and in the place of a value, if that one is there, the value is a
-/// tuple, and both have the room. It takes no memory.
-fn fit_last(last: &mut Option<RowBuf>, value: &mut Datum, row: &[u8]) -> bool
-    ensures last { result ≡ true → last.new ≡ Some row.now }
-    ensures value { result ≡ true → plain_of value.new ≡ tuple row.now }
-    ensures kept { result ≡ false → last.new ≡ last.old }
-    ensures kept_value { result ≡ false → plain_of value.new ≡ plain_of value.old }
-{
-    let Some(old) = last.take() else {
-        return false;
-    };
-    let mut buffer = old.into_vec();
-    if buffer.capacity() < row.len() || !value.fit_tuple(row) {
-        *last = Some(RowBuf::from_vec(buffer));
-        return false;
-    }
-    let _ = refill(&mut buffer, row);
-    *last = Some(RowBuf::from_vec(buffer));
-    true
-}
-
-/// Goes on from the last row to the next one past it in a relation under a layer, as `row_past` does, and puts it
-/// in the place of a value too, if there is one and it fits in both places. It takes no memory.
-fn row_past_fits(
-    last: &mut Option<RowBuf>,
-    mark: &mut ViewMark,
-    value: &mut Datum,
-    changes: &Changes,
-    stored: &Stored<'_>,
-    rel: RelId,
-    tip: usize,
-) -> bool
-    ensures found { let rows = rows_at (seen_at stored.now.state changes.now.layers tip) rel.0 in result ≡ true → IsSomeAnd last.new (λ x. filter (is_past last.old) rows ≡ x ∷ filter (is_past (Some x)) rows) }
-    ensures value { result ≡ true → IsSomeAnd last.new (λ x. plain_of value.new ≡ tuple x) }
-    ensures kept { result ≡ false → last.new ≡ last.old }
-    ensures kept_value { result ≡ false → plain_of value.new ≡ plain_of value.old }
-{
-    if usize::from(rel.0) >= stored.len() {
-        return false;
-    }
-    let rows = changes.rel(stored, rel, tip);
-    let next = rows.above_near(bytes_of(last), *mark);
-    let Some(row) = next.row else {
-        return false;
-    };
-    if !fit_last(last, value, row) {
-        return false;
-    }
-    *mark = next.mark;
-    true
+    ahead.read(alloc, &rows)
 }
 
 /// The rows past the bound in a relation under a layer, as a set.
@@ -174,48 +85,37 @@ pub fn rows_past(
     collect_past(alloc, &rows, bound)
 }
 
-/// Whether all rows of a set are below this one.
-fn is_last(rows: &RowSet, row: &[u8]) -> bool
-    ensures { result ≡ true → IsAscending (rows.now ++ row.now ∷ []) × (put row.now rows.now ≡ rows.now ++ row.now ∷ []) }
-{
-    let count = rows.len();
-    count == 0 || is_below(rows.row(count - 1), row)
-}
-
-/// Takes a row into a set. Rows mostly come in their order, so that it is the last one. Without memory all is
-/// as before.
-fn take_in(rows: &mut RowSet, row: &[u8]) -> Result<(), AllocError>
-    ensures ok { OnOk result (rows.new ≡ put row.now rows.old) }
-    ensures err { OnErr result (rows.new ≡ rows.old) }
-{
-    if is_last(rows, row) {
-        return rows.push_last(row);
-    }
-    rows.insert(row)?;
-    Ok(())
-}
-
 impl WalkSource {
     /// The row that the last step found, where one was found.
-    fn current<'a>(&'a self, last: &'a Option<RowBuf>) -> Option<&'a [u8]>
-        ensures { option_copied result ≡ current_of self.now last.now }
+    fn current<'a>(&'a self, ahead: &'a Ahead) -> Option<&'a [u8]>
+        ensures { option_copied result ≡ current_of ahead.now self.now }
     {
         match self {
             WalkSource::Rows { rows, next } => {
                 if *next == 0 {
-                    bytes_of(last)
+                    ahead.current()
                 } else {
                     row_at(rows, *next - 1)
                 }
             }
-            WalkSource::Named { .. } => bytes_of(last),
+            WalkSource::Named { .. } => ahead.current(),
         }
     }
 
-    /// The next one of the walk's own rows, if it has some and one is left.
+    /// Whether one of the walk's own rows is passed.
+    fn has_passed(&self) -> bool
+        ensures { result ≡ has_passed self.now }
+    {
+        match self {
+            WalkSource::Rows { rows: _, next } => *next > 0,
+            WalkSource::Named { .. } => false,
+        }
+    }
+
+    /// The next one of the walk's own rows, if one is left.
     #[tactic(auto, using(crate::proofs::Drops::lefts))]
     fn coming(&self) -> Option<&[u8]>
-        ensures { option_copied result ≡ first_of (rest_of self.now) }
+        ensures { option_copied result ≡ slice_get (own_rows self.now) 0 }
     {
         match self {
             WalkSource::Rows { rows, next } => row_at(rows, *next),
@@ -223,9 +123,29 @@ impl WalkSource {
         }
     }
 
+    /// Goes on to the next one of the walk's own rows, if one is left, and answers whether it did. It takes no
+    /// memory.
+    fn pass(&mut self) -> bool
+        ensures found { result ≡ is_some (slice_get (own_rows self.old) 0) }
+        ensures past { result ≡ true → self.new ≡ past_own self.old }
+        ensures kept { result ≡ false → self.new ≡ self.old }
+    {
+        match self {
+            WalkSource::Rows { rows, next } => {
+                if *next < rows.len() {
+                    *next += 1;
+                    true
+                } else {
+                    false
+                }
+            }
+            WalkSource::Named { .. } => false,
+        }
+    }
+
     /// The relation and the layer that are named, where they are.
     fn name(&self) -> Option<(RelId, usize)>
-        ensures { MatchOption result (IsGiven (rest_of self.now)) (λ p. rest_of self.now ≡ named p.0.0 p.1) }
+        ensures { MatchOption result ((ahead : Front) → IsGiven (rest_of ahead self.now)) (λ p. self.now ≡ Named p.0 p.1) }
     {
         match self {
             WalkSource::Rows { .. } => None,
@@ -239,7 +159,7 @@ impl Model for Walk {
 
     ghost Value = { Pace };
 
-    ghost view = { λ w. record { rest = rest_of w.source; current = current_of w.source w.last; gathered = w.gathered } };
+    ghost view = { λ w. record { rest = rest_of w.ahead w.source; current = current_of w.ahead w.source; gathered = w.gathered } };
 }
 
 impl Walk {
@@ -248,9 +168,8 @@ impl Walk {
         ensures { result ≡ record { rest = given rows; current = None; gathered = [] } }
     {
         Walk {
+            ahead: Ahead::new(alloc),
             source: WalkSource::Rows { rows, next: 0 },
-            last: None,
-            mark: ViewMark::start(),
             gathered: RowSet::new(alloc),
         }
     }
@@ -258,17 +177,16 @@ impl Walk {
     /// A walk in front of the first row of a relation under a layer, with nothing gathered.
     /// It takes no memory.
     pub fn over(alloc: Global, rel: RelId, tip: usize) -> Walk
-        ensures { result ≡ record { rest = named rel.0 tip; current = None; gathered = [] } }
+        ensures { result ≡ record { rest = named [] rel.0 tip; current = None; gathered = [] } }
     {
         Walk {
+            ahead: Ahead::new(alloc),
             source: WalkSource::Named { rel, tip },
-            last: None,
-            mark: ViewMark::start(),
             gathered: RowSet::new(alloc),
         }
     }
 
-    /// Whether it names a relation, and has no rows of its own.
+    /// Whether it names a relation, and has not all rows that are left.
     pub fn is_named(&self) -> bool
         ensures { result ≡ is_named self.now.rest }
     {
@@ -292,33 +210,34 @@ impl Walk {
     pub(crate) fn current(&self) -> Option<&[u8]>
         ensures { option_copied result ≡ self.now.current }
     {
-        self.source.current(&self.last)
+        self.source.current(&self.ahead)
     }
 
-    /// The next row, where the walk has rows of its own and one is left.
+    /// The next row, where the walk has it: one of its own, or one that it has read ahead.
     pub(crate) fn coming(&self) -> Option<&[u8]>
         ensures { option_copied result ≡ first_of self.now.rest }
     {
-        self.source.coming()
+        if self.source.has_passed() {
+            return self.source.coming();
+        }
+        match self.ahead.coming() {
+            None => self.source.coming(),
+            Some(row) => Some(row),
+        }
     }
 
-    /// Goes on to the next row, where the walk has rows of its own and one is left, and answers whether it
-    /// did. It takes no memory.
+    /// Goes on to the next row, where the walk has it, and answers whether it did. It takes no memory.
     pub(crate) fn pass(&mut self) -> bool
         ensures found { result ≡ is_some (first_of self.old.rest) }
         ensures past { self.new ≡ past_first self.old }
     {
-        match &mut self.source {
-            WalkSource::Rows { rows, next } => {
-                if *next < rows.len() {
-                    *next += 1;
-                    true
-                } else {
-                    false
-                }
-            }
-            WalkSource::Named { .. } => false,
+        if self.source.has_passed() {
+            return self.source.pass();
         }
+        if self.ahead.pass() {
+            return true;
+        }
+        self.source.pass()
     }
 
     /// Ends the walk, which has no row left. It takes no memory.
@@ -327,10 +246,10 @@ impl Walk {
     {
         let rows = RowSet::new(alloc);
         let_go(replace(&mut self.source, WalkSource::Rows { rows, next: 0 }));
-        let_go(replace(&mut self.last, None));
+        let_go(replace(&mut self.ahead, Ahead::new(alloc)));
     }
 
-    /// Goes on to the next row of a relation under a layer, or ends.
+    /// Goes on to the next row of a relation under a layer, of which none is read ahead, or ends.
     #[tactic(auto, using(crate::proofs::Goings::goings))]
     fn seek(
         &mut self,
@@ -340,39 +259,40 @@ impl Walk {
         rel: RelId,
         tip: usize,
     ) -> Result<(), AllocError>
-        requires { self.old.rest ≡ named rel.0 tip }
+        requires { self.old.rest ≡ named [] rel.0 tip }
         ensures step { let s = stored.now.state in OnOk result (walk_at s changes.now.layers self.new ≡ gone_on (walk_at s changes.now.layers self.old)) }
         ensures names { rest_reach self.new.rest ≤ rest_reach self.old.rest }
     {
-        if row_past(
-            &mut self.last,
-            &mut self.mark,
-            alloc,
-            changes,
-            stored,
-            rel,
-            tip,
-        )? {
+        if row_past(&mut self.ahead, alloc, changes, stored, rel, tip)? {
             return Ok(());
         }
         self.end(alloc);
         Ok(())
     }
 
-    /// Goes on to the next one of the walk's own rows, or ends. It takes no memory.
+    /// Goes on to the next row, which the walk has not, or ends.
     #[tactic(auto, using(crate::proofs::Goings::goings))]
-    fn go_on(&mut self, alloc: Global)
-        requires { IsGiven self.old.rest }
-        ensures step { (s : State) → (ls : List Layer) → walk_at s ls self.new ≡ gone_on (walk_at s ls self.old) }
+    fn go_on(
+        &mut self,
+        alloc: Global,
+        changes: &Changes,
+        stored: &Stored<'_>,
+    ) -> Result<(), AllocError>
+        requires { first_of self.old.rest ≡ None }
+        ensures step { let s = stored.now.state in OnOk result (walk_at s changes.now.layers self.new ≡ gone_on (walk_at s changes.now.layers self.old)) }
         ensures names { rest_reach self.new.rest ≤ rest_reach self.old.rest }
     {
-        if self.pass() {
-            return;
+        match self.source.name() {
+            Some((rel, tip)) => self.seek(alloc, changes, stored, rel, tip),
+            None => {
+                self.end(alloc);
+                Ok(())
+            }
         }
-        self.end(alloc);
     }
 
     /// Goes on to the next row, or finds none left.
+    #[tactic(auto, using(crate::proofs::Goings::goings))]
     pub(crate) fn next(
         &mut self,
         alloc: Global,
@@ -382,37 +302,10 @@ impl Walk {
         ensures step { let s = stored.now.state in OnOk result (walk_at s changes.now.layers self.new ≡ gone_on (walk_at s changes.now.layers self.old)) }
         ensures names { rest_reach self.new.rest ≤ rest_reach self.old.rest }
     {
-        match self.source.name() {
-            Some((rel, tip)) => self.seek(alloc, changes, stored, rel, tip),
-            None => {
-                self.go_on(alloc);
-                Ok(())
-            }
+        if self.pass() {
+            return Ok(());
         }
-    }
-
-    /// Goes on to the next row of the relation that the walk names, which is put in the place of a tuple too. It
-    /// takes no memory. False, with all as before, where the walk has rows of its own, where no row is left, or
-    /// where a place has not the room.
-    pub(crate) fn hop(&mut self, value: &mut Datum, changes: &Changes, stored: &Stored<'_>) -> bool
-        ensures step { let s = stored.now.state in result ≡ true → walk_at s changes.now.layers self.new ≡ gone_on (walk_at s changes.now.layers self.old) }
-        ensures names { rest_reach self.new.rest ≤ rest_reach self.old.rest }
-        ensures put { result ≡ true → IsSomeAnd self.new.current (λ x. plain_of value.new ≡ tuple x) }
-        ensures kept { result ≡ false → self.new ≡ self.old }
-        ensures kept_value { result ≡ false → plain_of value.new ≡ plain_of value.old }
-    {
-        let Some((rel, tip)) = self.source.name() else {
-            return false;
-        };
-        row_past_fits(
-            &mut self.last,
-            &mut self.mark,
-            value,
-            changes,
-            stored,
-            rel,
-            tip,
-        )
+        self.go_on(alloc, changes, stored)
     }
 
     /// The walk with the rows that are left of it, collected where it names a relation.
@@ -428,7 +321,7 @@ impl Walk {
         match self.source.name() {
             None => Ok(self),
             Some((rel, tip)) => {
-                let last = bytes_of(&self.last);
+                let last = self.ahead.last();
                 let rows = rows_past(alloc, changes, stored, rel, tip, last)?;
                 let_go(replace(&mut self.source, WalkSource::Rows { rows, next: 0 }));
                 Ok(self)
@@ -441,9 +334,12 @@ impl Walk {
         ensures ok { OnOk result (self.new ≡ with_kept self.old) }
         ensures err { OnErr result (self.new ≡ self.old) }
     {
-        match self.source.current(&self.last) {
+        match self.source.current(&self.ahead) {
             None => Ok(()),
-            Some(row) => take_in(&mut self.gathered, row),
+            Some(row) => {
+                self.gathered.insert(row)?;
+                Ok(())
+            }
         }
     }
 
@@ -452,7 +348,8 @@ impl Walk {
         ensures ok { OnOk result (self.new ≡ with_gathered row.now self.old) }
         ensures err { OnErr result (self.new ≡ self.old) }
     {
-        take_in(&mut self.gathered, row)
+        self.gathered.insert(row)?;
+        Ok(())
     }
 
     /// The gathered rows.
@@ -460,9 +357,8 @@ impl Walk {
         ensures { result ≡ self.gathered }
     {
         let Walk {
+            ahead: _,
             source: _,
-            last: _,
-            mark: _,
             gathered,
         } = self;
         gathered
