@@ -1,5 +1,5 @@
 -- A smash or a merge, and the slot that takes what it gives.
-use Rattle.std.proofs.Common.{◌≡◌, ℕ, zero, suc, ◌+◌, ◌≤◌, true, List, [], ◌∷◌, length, Option, None, Some, refl, sym, ap, ◌∙◌, subst, arith}
+use Rattle.std.proofs.Common.{◌≡◌, ℕ, zero, suc, ◌+◌, true, List, [], ◌∷◌, Option, None, Some, refl, sym, ap, ◌∙◌}
 use Rattle.std.specs.Prelude.{slice_get}
 use Rattle.std.specs.Option.{is_some}
 use Rattle.hera_meaning.specs.declared.schemas.RelDecl.{RelDecl}
@@ -12,19 +12,15 @@ use Rattle.hera_meaning.specs.Worlds.{set_local}
 use Rattle.hera_meaning.specs.Fits.{arity, fits_of}
 use Rattle.hera_meaning.specs.Primitives.{gives, given}
 use Rattle.hera_code.specs.declared.instrs.Code.{Code}
-use Rattle.hera_code.specs.Forward.{Forward}
 use Rattle.hera_code.specs.Machine.{Machine, Step, quiet, needs, needs_that, on_top, on_some, answers, answer_step, needs_slot, act, code_step}
 use Rattle.hera_frames.specs.Items.{Item, held, relation, are_deltas, operands_at}
 use Rattle.hera_steps.specs.declared.events.Told.{Told}
 use Rattle.hera_steps.specs.declared.events.Told.TheVariants as told
-use Rattle.hera_steps.specs.Descends.{left}
-use Rattle.hera_machine.specs.Pairs.{IsJoinAt, joins, then_stores}
-use Rattle.hera_machine.specs.Standing.{GoesQuietly}
+use Rattle.hera_machine.specs.Pairs.{IsJoinAt, joins, behind, stored_in}
+use Rattle.hera_machine.specs.Standing.{GoesOn}
 use Rattle.hera_steps.specs.Telling.{step_at}
 use Rattle.hera_steps.specs.Working.{Work, machine_at}
-use Rattle.hera_steps.proofs.Lowered.{Lowers, step_lowers}
-use Rattle.hera_steps.proofs.Nearing.{left_over}
-use Rattle.hera_machine.proofs.Quietly.{quietly_none, quietly_more}
+use Rattle.hera_machine.proofs.Quietly.{one_on, goes_on, fewer}
 
 -- ---- what is joined
 
@@ -86,7 +82,7 @@ slot_needed (Some v) t h = refl
 -- ---- both
 
 -- what told a quiet step
-quietly_told : (s : State) (t : Told) (w : Work) (m : Machine) → step_at s t w ≡ quiet m → machine_at s w ≡ m
+pub quietly_told : (s : State) (t : Told) (w : Work) (m : Machine) → step_at s t w ≡ quiet m → machine_at s w ≡ m
 quietly_told s told.Quiet w m e = cc
 quietly_told s (told.Out line) w m e = cc
 quietly_told s (told.Commit d) w m e = cc
@@ -94,21 +90,21 @@ quietly_told s (told.Ended end) w m e = cc
 
 -- the machine behind both, from that whose slot has another value first
 stores : (m : Machine) (op : Op) (at i : ℕ) (u : Value) (a b : Delta) (vs : List Value) → joins op ≡ true → m.operands ≡ delta b ∷ delta a ∷ vs → is_some (slice_get m.locals i) ≡ true →
-    then_stores i (on_some (arity op) m.operands (λ args vs. answers at op args vs (record m { locals = set_local m.locals i u }))) ≡ then_stores i (on_some (arity op) m.operands (λ args vs. answers at op args vs m))
+    behind (stored_in i) (on_some (arity op) m.operands (λ args vs. answers at op args vs (record m { locals = set_local m.locals i u }))) ≡ behind (stored_in i) (on_some (arity op) m.operands (λ args vs. answers at op args vs m))
 stores m op at i u a b vs h e there =
     let g = joined op a b h in
     let n : Machine = record m { locals = set_local m.locals i u } in
-    ap (then_stores i) (computes n op at a b vs g e)
+    ap (behind (stored_in i)) (computes n op at a b vs g e)
     ∙ slot_needed (slice_get (set_local m.locals i u) i) _ (still_there m.locals i u there)
     ∙ ap (λ xs. quiet (record m { at = m.at + 1 + 1; operands = vs; locals = xs })) (set_twice m.locals i u g.value)
     ∙ sym (slot_needed (slice_get m.locals i) _ there)
-    ∙ sym (ap (then_stores i) (computes m op at a b vs g e))
+    ∙ sym (ap (behind (stored_in i)) (computes m op at a b vs g e))
 
 module _ (s : State) (op : Op) (at i : ℕ) (u : Value) (old here mid new : Work) (first second : Told) (same : here ≡ record old { locals = set_local old.locals i u })
     (computed : step_at s first mid ≡ on_some (arity op) (machine_at s here).operands (λ args vs. answers at op args vs (machine_at s here)))
     (stored : step_at s second new ≡ on_top (machine_at s mid).operands (λ v vs. needs_slot i (machine_at s mid) (quiet (record (machine_at s mid) { at = (machine_at s mid).at + 1; operands = vs; locals = set_local (machine_at s mid).locals i v })))) where
   pub joined_told : joins op ≡ true → are_deltas old.operands ≡ true → is_some (slice_get old.locals i) ≡ true →
-      quiet (machine_at s new) ≡ then_stores i (on_some (arity op) (machine_at s old).operands (λ args vs. answers at op args vs (machine_at s old)))
+      quiet (machine_at s new) ≡ behind (stored_in i) (on_some (arity op) (machine_at s old).operands (λ args vs. answers at op args vs (machine_at s old)))
   joined_told h deltas there =
       let two = two_deltas old.operands deltas in
       let vs : List Value = operands_at s old.layers two.rest in
@@ -120,18 +116,18 @@ module _ (s : State) (op : Op) (at i : ℕ) (u : Value) (old here mid new : Work
       let one : step_at s first mid ≡ quiet (record n { at = n.at + 1; operands = g.value ∷ vs }) =
       computed ∙ ap (λ (x : Machine). on_some (arity op) x.operands (λ args vs. answers at op args vs x)) over ∙ computes n op at two.before two.newest vs g e in
       let between : machine_at s mid ≡ record n { at = n.at + 1; operands = g.value ∷ vs } = quietly_told s first mid _ one in
-      let two_told : step_at s second new ≡ then_stores i (quiet (record n { at = n.at + 1; operands = g.value ∷ vs })) = stored ∙ ap (λ (x : Machine). then_stores i (quiet x)) between in
-      let behind : step_at s second new ≡ quiet (record m { at = m.at + 1 + 1; operands = vs; locals = set_local (set_local m.locals i u) i g.value }) =
+      let two_told : step_at s second new ≡ behind (stored_in i) (quiet (record n { at = n.at + 1; operands = g.value ∷ vs })) = stored ∙ ap (λ (x : Machine). behind (stored_in i) (quiet x)) between in
+      let stored_told : step_at s second new ≡ quiet (record m { at = m.at + 1 + 1; operands = vs; locals = set_local (set_local m.locals i u) i g.value }) =
       two_told ∙ slot_needed (slice_get (set_local m.locals i u) i) _ (still_there m.locals i u there) in
-      ap quiet (quietly_told s second new _ behind)
+      ap quiet (quietly_told s second new _ stored_told)
       ∙ sym (slot_needed (slice_get (set_local m.locals i u) i) _ (still_there m.locals i u there))
-      ∙ sym (ap (then_stores i) (computes n op at two.before two.newest vs g e))
+      ∙ sym (ap (behind (stored_in i)) (computes n op at two.before two.newest vs g e))
       ∙ stores m op at i u two.before two.newest vs h e there
 
 -- ---- two instructions of the code
 
 module _ (code : Code) (rels : List RelDecl) (hosts : Hosts) (s : State) (old new : Work) (op : Op) (at i : ℕ) (a : IsJoinAt code old op at i)
-    (done : quiet (machine_at s new) ≡ then_stores i (on_some (arity op) (machine_at s old).operands (λ args vs. answers at op args vs (machine_at s old)))) where
+    (done : quiet (machine_at s new) ≡ behind (stored_in i) (on_some (arity op) (machine_at s old).operands (λ args vs. answers at op args vs (machine_at s old)))) where
   abbrev m : Machine
   m = machine_at s old
 
@@ -148,14 +144,7 @@ module _ (code : Code) (rels : List RelDecl) (hosts : Hosts) (s : State) (old ne
   first = sym (ap (λ o. act code rels hosts o s m) a.here ∙ computes m op at two.before two.newest (operands_at s old.layers two.rest) g (ap (operands_at s old.layers) two.is))
 
   second : quiet (machine_at s new) ≡ code_step code rels hosts s mid
-  second = done ∙ ap (then_stores i) (computes m op at two.before two.newest (operands_at s old.layers two.rest) g (ap (operands_at s old.layers) two.is)) ∙ sym (ap (λ o. act code rels hosts o s mid) a.next)
+  second = done ∙ ap (behind (stored_in i)) (computes m op at two.before two.newest (operands_at s old.layers two.rest) g (ap (operands_at s old.layers) two.is)) ∙ sym (ap (λ o. act code rels hosts o s mid) a.next)
 
-  pub quietly_stored : GoesQuietly code rels hosts s (machine_at s old) (machine_at s new)
-  quietly_stored = quietly_more code rels hosts s m mid (machine_at s new) (quietly_more code rels hosts s m m mid (quietly_none code rels hosts s m m refl) first) second
-
-  pub stored_less : Forward code → left (length code.instrs) (machine_at [] new) ≤ left (length code.instrs) (machine_at [] old)
-  stored_less forward =
-      let l : ℕ = length code.instrs in
-      let one : Lowers l m (quiet mid) = subst (λ t. Lowers l m t) (sym first) (step_lowers code rels hosts forward (slice_get code.instrs m.at) s m refl) in
-      let other : Lowers l mid (quiet (machine_at s new)) = subst (λ t. Lowers l mid t) (sym second) (step_lowers code rels hosts forward (slice_get code.instrs mid.at) s mid refl) in
-      omega (arith, one.less_left, other.less_left, left_over l s [] old, left_over l s [] new)
+  pub stored_on : GoesOn 0 code rels hosts s (machine_at s old) (machine_at s new)
+  stored_on = fewer code rels hosts s 1 m (machine_at s new) (goes_on code rels hosts s 1 1 m mid (machine_at s new) (one_on code rels hosts s m mid first) (one_on code rels hosts s mid (machine_at s new) second))

@@ -21,25 +21,24 @@ with_value place op v m = on_some (arity op) (v ∷ m.operands) (λ args vs. ans
 abbrev pub ahead : ℕ → Value → Machine → Machine
 ahead k v m = record m { at = m.at + k; operands = v ∷ m.operands }
 
--- behind a quiet instruction, a jump by the value that it put up
-abbrev pub then_parts : Code → ℕ → Step → Step
-then_parts code a (quiet m) = on_top m.operands (λ v vs. needs_address code a (by_bool v (quiet (on_with vs m)) (quiet (record m { at = a; operands = vs }))))
-then_parts code a t = t
+-- behind a quiet instruction
+abbrev pub behind : (Machine → Step) → Step → Step
+behind f (quiet m) = f m
+behind f t = t
 
--- two instructions further, in the same frame
-abbrev pub IsPast : Work → Work → Type 0
-IsPast old new = (new.at ≡ old.at + 2) × (new.turns ≡ old.turns) × (new.callers ≡ old.callers)
+-- a jump by the newest operand
+abbrev pub parted_by : Code → ℕ → Machine → Step
+parted_by code a m = on_top m.operands (λ v vs. needs_address code a (by_bool v (quiet (on_with vs m)) (quiet (record m { at = a; operands = vs }))))
+
+-- the newest operand goes into the slot
+abbrev pub stored_in : ℕ → Machine → Step
+stored_in i m = on_top m.operands (λ v vs. needs_slot i m (quiet (record m { at = m.at + 1; operands = vs; locals = set_local m.locals i v })))
 
 -- the operation joins two deltas
 abbrev pub joins : Op → Bool
 joins Smash = true
 joins Merge = true
 joins _ = false
-
--- behind a quiet instruction, the value that it put up goes into the slot
-abbrev pub then_stores : ℕ → Step → Step
-then_stores i (quiet m) = on_top m.operands (λ v vs. needs_slot i m (quiet (record m { at = m.at + 1; operands = vs; locals = set_local m.locals i v })))
-then_stores i t = t
 
 -- the instruction at hand joins the two newest operands, which are deltas, and the next one stores what it gives in a
 -- slot that is there

@@ -1,12 +1,13 @@
 -- What contracts see of a machine, and what its events tell.
-use Rattle.std.specs.Prelude.{◌≡◌, ◌≢◌, ◌+◌, ◌<◌, ℕ, List, Option, Some, None, Result, Ok, Err}
+use Rattle.std.specs.Prelude.{◌≡◌, ◌≢◌, ◌+◌, ◌<◌, ◌≤◌, ℕ, List, length, Option, Some, None, Result, Ok, Err}
 use Rattle.std.specs.declared.alloc.AllocError.{AllocError}
 use Rattle.hera_meaning.specs.declared.schemas.RelDecl.{RelDecl}
 use Rattle.hera_meaning.specs.Deltas.{Delta, State, apply_of}
 use Rattle.hera_meaning.specs.Hosts.{Hosts}
 use Rattle.hera_meaning.specs.Worlds as worlds
 use Rattle.hera_code.specs.declared.instrs.Code.{Code}
-use Rattle.hera_code.specs.Machine.{Machine, ended, stuck, Step, quiet, says, commits, ends, code_step}
+use Rattle.hera_code.specs.Forward.{Forward}
+use Rattle.hera_code.specs.Machine.{Machine, stuck, Step, quiet, says, commits, ends, code_step}
 use Rattle.hera_code.specs.Reached.{exec_code}
 use Rattle.hera_machine.specs.declared.events.Event.{Event}
 use Rattle.hera_machine.specs.declared.events.Event.TheVariants.{Quiet, Out, Commit, Ended}
@@ -72,6 +73,10 @@ IsNearer l old new (Ended end) = Unit {0}
 -- from one machine some quiet instructions lead to the other one: what comes of the code goes on there
 abbrev pub GoesQuietly : Code → List RelDecl → Hosts → State → Machine → Machine → Type 0
 GoesQuietly code rels hosts s m n = (k : ℕ) × ((j : ℕ) → (es : List worlds.Event) → exec_code code rels hosts (k + j) s m es ≡ exec_code code rels hosts j s n es)
+
+-- from one machine some quiet instructions lead to the other one; where the code goes forward, at least so much less is left
+abbrev pub GoesOn : ℕ → Code → List RelDecl → Hosts → State → Machine → Machine → Type 0
+GoesOn d code rels hosts s m n = GoesQuietly code rels hosts s m n × (Forward code → left (length code.instrs) n + d ≤ left (length code.instrs) m)
 
 -- some quiet instructions, and then one that an event and the machine behind it tell
 abbrev pub Tells : Code → List RelDecl → Hosts → State → Event → (old new : Standing) → Type 0

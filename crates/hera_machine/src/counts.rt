@@ -1,6 +1,6 @@
 //! Counts of relations that are named, from what is known of how many rows relations have after the pending delta.
 ghost use Rattle.std.specs.Prelude.{◌≡◌, ◌≢◌, ◌+◌, ◌<◌, ◌≤◌, ◌^◌, [], ◌∷◌, ℕ, List, Some, true, false, drop, length, slice_get, IfSome};
-ghost use Rattle.hera_meaning.specs.Deltas.{State, Delta as PlainDelta, apply_of};
+ghost use Rattle.hera_meaning.specs.Deltas.{Delta as PlainDelta, apply_of};
 ghost use Rattle.hera_meaning.specs.Hosts.{Hosts};
 ghost use Rattle.hera_meaning.specs.Values.{Value, table};
 ghost use Rattle.hera_meaning.specs.declared.schemas.RelDecl.{RelDecl as PlainDecl};

@@ -1,16 +1,14 @@
 //! A smash or a merge that is stored in a slot: both instructions at once. The slot's value goes before the operands are
 //! joined, so that a delta which it lent to an operand is changed where it stands and not copied.
-ghost use Rattle.std.specs.Prelude.{◌≡◌, ◌+◌, ◌<◌, ◌≤◌, ◌^◌, List, [], true, length, slice_get, IfSome, OnOk};
+ghost use Rattle.std.specs.Prelude.{◌≡◌, ◌+◌, ◌<◌, ◌^◌, List, true, slice_get, IfSome, OnOk};
 ghost use Rattle.std.specs.Option.{is_some};
 ghost use Rattle.hera_meaning.specs.Fits.{arity};
 ghost use Rattle.hera_meaning.specs.Hosts.{Hosts};
 ghost use Rattle.hera_meaning.specs.declared.schemas.RelDecl.{RelDecl as PlainDecl};
-ghost use Rattle.hera_code.specs.Forward.{Forward};
 ghost use Rattle.hera_code.specs.Machine.{quiet, on_some, answers};
 ghost use Rattle.hera_frames.specs.Items.{are_deltas};
-ghost use Rattle.hera_steps.specs.Descends.{left};
-ghost use Rattle.hera_machine.specs.Pairs.{IsJoinAt, joins, then_stores};
-ghost use Rattle.hera_machine.specs.Standing.{GoesQuietly};
+ghost use Rattle.hera_machine.specs.Pairs.{IsJoinAt, joins, behind, stored_in};
+ghost use Rattle.hera_machine.specs.Standing.{GoesOn};
 ghost use Rattle.hera_steps.specs.Working.{machine_at};
 
 use hera_code::{Code, Instr};
@@ -57,8 +55,7 @@ pub(crate) fn join(
     code: &Code,
     stored: &Stored<'_>,
 ) -> Result<(), AllocError>
-    ensures quietly { (rels : List PlainDecl) → (hosts : Hosts) → let s = stored.now.state in OnOk result (GoesQuietly code.now rels hosts s (machine_at s work.old) (machine_at s work.new)) }
-    ensures less { Forward code.now → OnOk result (left (length code.now.instrs) (machine_at [] work.new) ≤ left (length code.now.instrs) (machine_at [] work.old)) }
+    ensures goes { (rels : List PlainDecl) → (hosts : Hosts) → let s = stored.now.state in OnOk result (GoesOn 0 code.now rels hosts s (machine_at s work.old) (machine_at s work.new)) }
     ensures layers { work.new.layers ≡ work.old.layers }
     ensures relations { work.new.relations ≡ work.old.relations }
 {
@@ -85,7 +82,7 @@ fn join_into(
     requires op { joins op.now ≡ true }
     requires deltas { are_deltas work.old.operands ≡ true }
     requires slot { is_some (slice_get work.old.locals i) ≡ true }
-    ensures done { let s = stored.now.state in OnOk result (quiet (machine_at s work.new) ≡ then_stores i (on_some (arity op.now) (machine_at s work.old).operands (λ args vs. answers at op.now args vs (machine_at s work.old)))) }
+    ensures done { let s = stored.now.state in OnOk result (quiet (machine_at s work.new) ≡ behind (stored_in i) (on_some (arity op.now) (machine_at s work.old).operands (λ args vs. answers at op.now args vs (machine_at s work.old)))) }
     ensures layers { work.new.layers ≡ work.old.layers }
     ensures relations { work.new.relations ≡ work.old.relations }
 {

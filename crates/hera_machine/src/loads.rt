@@ -1,19 +1,17 @@
 //! What is behind an int or a bool that one or two instructions put up: it is not put up where an int is pushed next and
 //! an operation takes both off again. What that gives may be jumped by, or stored, at once too. Where a function here does not
 //! answer true, nothing has changed.
-ghost use Rattle.std.specs.Prelude.{◌≡◌, ◌≤◌, ◌+◌, ◌<◌, ◌^◌, ◌∷◌, ℕ, List, [], Some, true, false, length, slice_get};
+ghost use Rattle.std.specs.Prelude.{◌≡◌, ◌≤◌, ◌+◌, ◌<◌, ◌^◌, ℕ, List, [], Some, true, false, length, slice_get};
 ghost use Rattle.hera_meaning.specs.Deltas.{State};
 ghost use Rattle.hera_meaning.specs.Hosts.{Hosts};
 ghost use Rattle.hera_meaning.specs.Values.{int_value};
 ghost use Rattle.hera_meaning.specs.declared.schemas.RelDecl.{RelDecl as PlainDecl};
 ghost use Rattle.hera_meaning.specs.declared.scalars.Scalar.TheVariants.{Int as int_scalar};
 ghost use Rattle.hera_meaning.specs.declared.trees.Const.TheVariants.{Scalar as scalar_const};
-ghost use Rattle.hera_code.specs.Forward.{Forward};
 ghost use Rattle.hera_code.specs.Machine.{quiet};
 ghost use Rattle.hera_flat.specs.Flats.{flat_value};
-ghost use Rattle.hera_steps.specs.Descends.{left};
-ghost use Rattle.hera_machine.specs.Pairs.{with_value, ahead, then_parts, then_stores};
-ghost use Rattle.hera_machine.specs.Standing.{GoesQuietly};
+ghost use Rattle.hera_machine.specs.Pairs.{with_value, ahead, behind, parted_by, stored_in};
+ghost use Rattle.hera_machine.specs.Standing.{GoesOn};
 ghost use Rattle.hera_steps.specs.Working.{machine_at};
 
 use hera_code::{Code, Instr};
@@ -68,7 +66,7 @@ fn part_by_computed(
     a: u32,
 ) -> bool
     requires { work.old.at + k + 3 < 2 ^ 64 }
-    ensures done { (s : State) → (place : ℕ) → result ≡ true → quiet (machine_at s work.new) ≡ then_parts code.now a (with_value place op.now (int_value n) (ahead k (flat_value v) (machine_at s work.old))) }
+    ensures done { (s : State) → (place : ℕ) → result ≡ true → quiet (machine_at s work.new) ≡ behind (parted_by code.now a) (with_value place op.now (int_value n) (ahead k (flat_value v) (machine_at s work.old))) }
     ensures kept { result ≡ false → work.new ≡ work.old }
     ensures layers { work.new.layers ≡ work.old.layers }
     ensures relations { work.new.relations ≡ work.old.relations }
@@ -91,7 +89,7 @@ fn part_by_computed(
 #[inline(always)]
 fn store_computed(work: &mut Running<'_>, k: usize, v: Flat, n: i64, op: &Op, i: u32) -> bool
     requires { work.old.at + k + 3 < 2 ^ 64 }
-    ensures done { (s : State) → (place : ℕ) → result ≡ true → quiet (machine_at s work.new) ≡ then_stores i (with_value place op.now (int_value n) (ahead k (flat_value v) (machine_at s work.old))) }
+    ensures done { (s : State) → (place : ℕ) → result ≡ true → quiet (machine_at s work.new) ≡ behind (stored_in i) (with_value place op.now (int_value n) (ahead k (flat_value v) (machine_at s work.old))) }
     ensures kept { result ≡ false → work.new ≡ work.old }
     ensures layers { work.new.layers ≡ work.old.layers }
     ensures relations { work.new.relations ≡ work.old.relations }
@@ -112,8 +110,7 @@ fn store_computed(work: &mut Running<'_>, k: usize, v: Flat, n: i64, op: &Op, i:
 #[inline(always)]
 fn compute_with(work: &mut Running<'_>, code: &Code, k: usize, v: Flat, n: i64) -> bool
     requires { slice_get code.now.instrs (work.old.at + k) ≡ Some (Instr.Push (scalar_const (int_scalar n))) }
-    ensures quietly { (rels : List PlainDecl) → (hosts : Hosts) → (s : State) → result ≡ true → GoesQuietly code.now rels hosts s (ahead k (flat_value v) (machine_at s work.old)) (machine_at s work.new) }
-    ensures less { Forward code.now → result ≡ true → left (length code.now.instrs) (machine_at [] work.new) < left (length code.now.instrs) (ahead k (flat_value v) (machine_at [] work.old)) }
+    ensures goes { (rels : List PlainDecl) → (hosts : Hosts) → (s : State) → result ≡ true → GoesOn 1 code.now rels hosts s (ahead k (flat_value v) (machine_at s work.old)) (machine_at s work.new) }
     ensures kept { result ≡ false → work.new ≡ work.old }
     ensures layers { work.new.layers ≡ work.old.layers }
     ensures relations { work.new.relations ≡ work.old.relations }
@@ -134,8 +131,7 @@ fn compute_with(work: &mut Running<'_>, code: &Code, k: usize, v: Flat, n: i64) 
 #[inline(always)]
 pub(crate) fn go_on_with(work: &mut Running<'_>, code: &Code, k: usize, v: Flat) -> bool
     requires { work.old.at + k < 2 ^ 64 }
-    ensures quietly { (rels : List PlainDecl) → (hosts : Hosts) → (s : State) → result ≡ true → GoesQuietly code.now rels hosts s (ahead k (flat_value v) (machine_at s work.old)) (machine_at s work.new) }
-    ensures less { Forward code.now → result ≡ true → left (length code.now.instrs) (machine_at [] work.new) ≤ left (length code.now.instrs) (ahead k (flat_value v) (machine_at [] work.old)) }
+    ensures goes { (rels : List PlainDecl) → (hosts : Hosts) → (s : State) → result ≡ true → GoesOn 0 code.now rels hosts s (ahead k (flat_value v) (machine_at s work.old)) (machine_at s work.new) }
     ensures kept { result ≡ false → work.new ≡ work.old }
     ensures layers { work.new.layers ≡ work.old.layers }
     ensures relations { work.new.relations ≡ work.old.relations }

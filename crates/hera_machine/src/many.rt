@@ -1,12 +1,9 @@
 //! Many quick instructions at once. Where the quick way of an instruction does not answer true, for want of memory too,
 //! nothing has changed, and the instruction is done by a step.
-ghost use Rattle.std.specs.Prelude.{◌≡◌, ◌<◌, ◌≤◌, List, [], true, false, length};
-ghost use Rattle.hera_meaning.specs.Deltas.{State};
+ghost use Rattle.std.specs.Prelude.{◌≡◌, List, true, false};
 ghost use Rattle.hera_meaning.specs.Hosts.{Hosts};
 ghost use Rattle.hera_meaning.specs.declared.schemas.RelDecl.{RelDecl as PlainDecl};
-ghost use Rattle.hera_code.specs.Forward.{Forward};
-ghost use Rattle.hera_steps.specs.Descends.{left};
-ghost use Rattle.hera_machine.specs.Standing.{GoesQuietly};
+ghost use Rattle.hera_machine.specs.Standing.{GoesOn};
 ghost use Rattle.hera_steps.specs.Working.{machine_at};
 
 use crate::pairs::try_fused;
@@ -21,8 +18,7 @@ const AT_ONCE: usize = 4096;
 /// most 20,480 of them. It stops in front of one for which memory is refused.
 #[inline(never)]
 pub(crate) fn run_quick(work: &mut Running<'_>, code: &Code, stored: &Stored<'_>)
-    ensures quietly { (rels : List PlainDecl) → (hosts : Hosts) → let s = stored.now.state in GoesQuietly code.now rels hosts s (machine_at s work.old) (machine_at s work.new) }
-    ensures less { Forward code.now → left (length code.now.instrs) (machine_at [] work.new) ≤ left (length code.now.instrs) (machine_at [] work.old) }
+    ensures goes { (rels : List PlainDecl) → (hosts : Hosts) → let s = stored.now.state in GoesOn 0 code.now rels hosts s (machine_at s work.old) (machine_at s work.new) }
     ensures layers { work.new.layers ≡ work.old.layers }
     ensures relations { work.new.relations ≡ work.old.relations }
 {
@@ -37,8 +33,7 @@ pub(crate) fn run_quick(work: &mut Running<'_>, code: &Code, stored: &Stored<'_>
 /// where they are done at once. Where memory for it is refused nothing has changed.
 #[inline]
 fn try_some(work: &mut Running<'_>, code: &Code, stored: &Stored<'_>) -> bool
-    ensures quietly { (rels : List PlainDecl) → (hosts : Hosts) → let s = stored.now.state in result ≡ true → GoesQuietly code.now rels hosts s (machine_at s work.old) (machine_at s work.new) }
-    ensures less { Forward code.now → result ≡ true → left (length code.now.instrs) (machine_at [] work.new) < left (length code.now.instrs) (machine_at [] work.old) }
+    ensures goes { (rels : List PlainDecl) → (hosts : Hosts) → let s = stored.now.state in result ≡ true → GoesOn 1 code.now rels hosts s (machine_at s work.old) (machine_at s work.new) }
     ensures kept { result ≡ false → work.new ≡ work.old }
     ensures layers { work.new.layers ≡ work.old.layers }
     ensures relations { work.new.relations ≡ work.old.relations }

@@ -8,12 +8,10 @@ ghost use Rattle.hera_meaning.specs.Values.{int_value};
 ghost use Rattle.hera_meaning.specs.declared.schemas.RelDecl.{RelDecl as PlainDecl};
 ghost use Rattle.hera_meaning.specs.declared.scalars.Scalar.TheVariants.{Int as int_scalar};
 ghost use Rattle.hera_meaning.specs.declared.trees.Const.TheVariants.{Scalar as scalar_const};
-ghost use Rattle.hera_code.specs.Forward.{Forward};
 ghost use Rattle.hera_code.specs.Machine.{quiet};
 ghost use Rattle.hera_values.specs.Little.{slot_in};
-ghost use Rattle.hera_steps.specs.Descends.{left};
-ghost use Rattle.hera_machine.specs.Pairs.{with_value, then_parts, IsPast};
-ghost use Rattle.hera_machine.specs.Standing.{GoesQuietly};
+ghost use Rattle.hera_machine.specs.Pairs.{with_value, behind, parted_by};
+ghost use Rattle.hera_machine.specs.Standing.{GoesOn};
 ghost use Rattle.hera_steps.specs.Working.{machine_at};
 
 use crate::loads::go_on_with;
@@ -34,8 +32,7 @@ fn loaded_field(
 ) -> bool
     requires here { slice_get code.now.instrs work.old.at ≡ Some (Instr.Load i) }
     requires next { slice_get code.now.instrs (work.old.at + 1) ≡ Some (Instr.Prim (Op.Field schema.now field) at) }
-    ensures quietly { (rels : List PlainDecl) → (hosts : Hosts) → (s : State) → result ≡ true → GoesQuietly code.now rels hosts s (machine_at s work.old) (machine_at s work.new) }
-    ensures less { Forward code.now → result ≡ true → left (length code.now.instrs) (machine_at [] work.new) < left (length code.now.instrs) (machine_at [] work.old) }
+    ensures goes { (rels : List PlainDecl) → (hosts : Hosts) → (s : State) → result ≡ true → GoesOn 1 code.now rels hosts s (machine_at s work.old) (machine_at s work.new) }
     ensures kept { result ≡ false → work.new ≡ work.old }
     ensures layers { work.new.layers ≡ work.old.layers }
     ensures relations { work.new.relations ≡ work.old.relations }
@@ -53,8 +50,7 @@ fn loaded_field(
 #[inline]
 fn loaded_int(work: &mut Running<'_>, code: &Code, i: u32) -> bool
     requires { slice_get code.now.instrs work.old.at ≡ Some (Instr.Load i) }
-    ensures quietly { (rels : List PlainDecl) → (hosts : Hosts) → (s : State) → result ≡ true → GoesQuietly code.now rels hosts s (machine_at s work.old) (machine_at s work.new) }
-    ensures less { Forward code.now → result ≡ true → left (length code.now.instrs) (machine_at [] work.new) < left (length code.now.instrs) (machine_at [] work.old) }
+    ensures goes { (rels : List PlainDecl) → (hosts : Hosts) → (s : State) → result ≡ true → GoesOn 1 code.now rels hosts s (machine_at s work.old) (machine_at s work.new) }
     ensures kept { result ≡ false → work.new ≡ work.old }
     ensures layers { work.new.layers ≡ work.old.layers }
     ensures relations { work.new.relations ≡ work.old.relations }
@@ -73,7 +69,6 @@ fn loaded_asked(work: &mut Running<'_>, i: u32) -> bool
     requires { work.old.at + 2 < 2 ^ 64 }
     ensures there { result ≡ true → slice_get work.old.locals i ≡ Some (slot_in (slice_get work.old.locals i)) }
     ensures done { (s : State) → (place : ℕ) → result ≡ true → quiet (machine_at s work.new) ≡ with_value place Op.In (slot_in (slice_get work.old.locals i)) (machine_at s work.old) }
-    ensures past { result ≡ true → IsPast work.old work.new }
     ensures kept { result ≡ false → work.new ≡ work.old }
     ensures layers { work.new.layers ≡ work.old.layers }
     ensures relations { work.new.relations ≡ work.old.relations }
@@ -94,7 +89,6 @@ fn loaded_asked(work: &mut Running<'_>, i: u32) -> bool
 fn computed_with(work: &mut Running<'_>, n: i64, op: &Op) -> bool
     requires { work.old.at + 2 < 2 ^ 64 }
     ensures done { (s : State) → (place : ℕ) → result ≡ true → quiet (machine_at s work.new) ≡ with_value place op.now (int_value n) (machine_at s work.old) }
-    ensures past { result ≡ true → IsPast work.old work.new }
     ensures kept { result ≡ false → work.new ≡ work.old }
     ensures layers { work.new.layers ≡ work.old.layers }
     ensures relations { work.new.relations ≡ work.old.relations }
@@ -115,7 +109,7 @@ fn computed_with(work: &mut Running<'_>, n: i64, op: &Op) -> bool
 #[inline]
 fn parted_with(work: &mut Running<'_>, code: &Code, n: i64, op: &Op, a: u32) -> bool
     requires { work.old.at + 3 < 2 ^ 64 }
-    ensures done { (s : State) → (place : ℕ) → result ≡ true → quiet (machine_at s work.new) ≡ then_parts code.now a (with_value place op.now (int_value n) (machine_at s work.old)) }
+    ensures done { (s : State) → (place : ℕ) → result ≡ true → quiet (machine_at s work.new) ≡ behind (parted_by code.now a) (with_value place op.now (int_value n) (machine_at s work.old)) }
     ensures kept { result ≡ false → work.new ≡ work.old }
     ensures layers { work.new.layers ≡ work.old.layers }
     ensures relations { work.new.relations ≡ work.old.relations }
@@ -144,8 +138,7 @@ fn parted_with(work: &mut Running<'_>, code: &Code, n: i64, op: &Op, a: u32) -> 
 #[inline]
 fn loaded_next(work: &mut Running<'_>, code: &Code, i: u32) -> bool
     requires { slice_get code.now.instrs work.old.at ≡ Some (Instr.Load i) }
-    ensures quietly { (rels : List PlainDecl) → (hosts : Hosts) → (s : State) → result ≡ true → GoesQuietly code.now rels hosts s (machine_at s work.old) (machine_at s work.new) }
-    ensures less { Forward code.now → result ≡ true → left (length code.now.instrs) (machine_at [] work.new) < left (length code.now.instrs) (machine_at [] work.old) }
+    ensures goes { (rels : List PlainDecl) → (hosts : Hosts) → (s : State) → result ≡ true → GoesOn 1 code.now rels hosts s (machine_at s work.old) (machine_at s work.new) }
     ensures kept { result ≡ false → work.new ≡ work.old }
     ensures layers { work.new.layers ≡ work.old.layers }
     ensures relations { work.new.relations ≡ work.old.relations }
@@ -165,8 +158,7 @@ fn loaded_next(work: &mut Running<'_>, code: &Code, i: u32) -> bool
 #[inline]
 fn pushed_next(work: &mut Running<'_>, code: &Code, n: i64) -> bool
     requires { slice_get code.now.instrs work.old.at ≡ Some (Instr.Push (scalar_const (int_scalar n))) }
-    ensures quietly { (rels : List PlainDecl) → (hosts : Hosts) → (s : State) → result ≡ true → GoesQuietly code.now rels hosts s (machine_at s work.old) (machine_at s work.new) }
-    ensures less { result ≡ true → left (length code.now.instrs) (machine_at [] work.new) < left (length code.now.instrs) (machine_at [] work.old) }
+    ensures goes { (rels : List PlainDecl) → (hosts : Hosts) → (s : State) → result ≡ true → GoesOn 1 code.now rels hosts s (machine_at s work.old) (machine_at s work.new) }
     ensures kept { result ≡ false → work.new ≡ work.old }
     ensures layers { work.new.layers ≡ work.old.layers }
     ensures relations { work.new.relations ≡ work.old.relations }
@@ -184,8 +176,7 @@ fn pushed_next(work: &mut Running<'_>, code: &Code, n: i64) -> bool
 #[inline]
 fn parted_next(work: &mut Running<'_>, code: &Code, n: i64) -> bool
     requires { slice_get code.now.instrs work.old.at ≡ Some (Instr.Push (scalar_const (int_scalar n))) }
-    ensures quietly { (rels : List PlainDecl) → (hosts : Hosts) → (s : State) → result ≡ true → GoesQuietly code.now rels hosts s (machine_at s work.old) (machine_at s work.new) }
-    ensures less { Forward code.now → result ≡ true → left (length code.now.instrs) (machine_at [] work.new) < left (length code.now.instrs) (machine_at [] work.old) }
+    ensures goes { (rels : List PlainDecl) → (hosts : Hosts) → (s : State) → result ≡ true → GoesOn 1 code.now rels hosts s (machine_at s work.old) (machine_at s work.new) }
     ensures kept { result ≡ false → work.new ≡ work.old }
     ensures layers { work.new.layers ≡ work.old.layers }
     ensures relations { work.new.relations ≡ work.old.relations }
@@ -205,8 +196,7 @@ fn parted_next(work: &mut Running<'_>, code: &Code, n: i64) -> bool
 #[inline]
 pub(crate) fn try_fused(work: &mut Running<'_>, instr: &Instr, code: &Code) -> bool
     requires { slice_get code.now.instrs work.old.at ≡ Some instr.now }
-    ensures quietly { (rels : List PlainDecl) → (hosts : Hosts) → (s : State) → result ≡ true → GoesQuietly code.now rels hosts s (machine_at s work.old) (machine_at s work.new) }
-    ensures less { Forward code.now → result ≡ true → left (length code.now.instrs) (machine_at [] work.new) < left (length code.now.instrs) (machine_at [] work.old) }
+    ensures goes { (rels : List PlainDecl) → (hosts : Hosts) → (s : State) → result ≡ true → GoesOn 1 code.now rels hosts s (machine_at s work.old) (machine_at s work.new) }
     ensures kept { result ≡ false → work.new ≡ work.old }
     ensures layers { work.new.layers ≡ work.old.layers }
     ensures relations { work.new.relations ≡ work.old.relations }

@@ -4,7 +4,6 @@ use Rattle.hera_meaning.specs.declared.hosts.HostAnswer.{HostAnswer}
 use Rattle.hera_meaning.specs.declared.scalars.Scalar.{Scalar}
 use Rattle.hera_meaning.specs.Hosts.{host_at, host_of}
 use Rattle.hera_meaning.specs.Scalars.{is_kind}
-use Rattle.hera_meaning.specs.Values.{table}
 use Rattle.hera_host.specs.Tables.{Host, specs_of, takes_at}
 use Rattle.hera_steps.specs.Answering.{answer_to}
 

@@ -50,7 +50,7 @@ named_told s w old tip r ops spare same at is there =
     ∙ ap (λ (x : Work). pushes (rows_value (slice_get (current_state s (machine_at s x)) r)) (machine_at s x)) same
 
 -- a walk over a relation that is named
-pub opened : (s : State) (w old : Work) (r tip spare : ℕ) (vs : List Item) (ws : List Pace) → w ≡ old → w.operands ≡ relation r tip ∷ vs → ws ≡ record { rest = named r tip; current = None; gathered = [] } ∷ w.walks →
+pub opened : (s : State) (w old : Work) (r tip spare : ℕ) (vs : List Item) (ws : List Pace) → w ≡ old → w.operands ≡ relation r tip ∷ vs → ws ≡ record { rest = named [] r tip; current = None; gathered = [] } ∷ w.walks →
     quiet (machine_at s (record w { at = w.at + 1; operands = vs; spare = spare; walks = ws })) ≡ on_top (machine_at s old).operands (λ v vs. opens_walk v vs (machine_at s old))
 opened s w old r tip spare vs ws same top is =
     ap (λ xs. quiet (machine_at s (record w { at = w.at + 1; operands = vs; spare = spare; walks = xs }))) is

@@ -7,6 +7,5 @@ pub mod Answering
 pub mod Walked
 pub mod Calling
 pub mod Smashed
-pub mod Storing
 pub mod Sights
 pub mod Parting

@@ -1,4 +1,4 @@
--- Each step of forward code that does not end lowers the turns, the frames or the way to the code's end.
+-- What a step leaves: of forward code less turns, frames or way to the code's end, and the pending delta unless it changes that.
 use Rattle.std.proofs.Common.{◌≡◌, ℕ, zero, suc, ◌+◌, ◌*◌, ◌<◌, ◌≤◌, Bool, true, false, List, [], ◌∷◌, length, Option, Some, None, refl, ap, arith}
 use Rattle.std.proofs.Math.Nat.{mul-le-mul_right}
 use Rattle.std.specs.Prelude.{slice_get, nat_lt, nat_le}
@@ -8,7 +8,7 @@ use Rattle.hera_meaning.specs.declared.schemas.RelDecl.{RelDecl}
 use Rattle.hera_meaning.specs.declared.trees.TrapName.{TrapName}
 use Rattle.hera_meaning.specs.declared.trees.TrapName.TheVariants.{WhenFail, ApplyFail}
 use Rattle.hera_meaning.specs.Scalars.{is_kind}
-use Rattle.hera_meaning.specs.Deltas.{State, Delta, is_fail}
+use Rattle.hera_meaning.specs.Deltas.{State, Delta, atoms, is_fail}
 use Rattle.hera_meaning.specs.Values.{Value}
 use Rattle.hera_meaning.specs.Hosts.{Hosts, host_at, host_takes}
 use Rattle.hera_meaning.specs.Fits.{arity, fits_of, is_delta_of, has_shape}
@@ -20,99 +20,131 @@ use Rattle.hera_code.specs.Forward.{GoesForward, Forward}
 use Rattle.hera_code.specs.Machine.{Walk, Frame, Machine, stuck, Step, quiet, says, commits, ends, current_state, needs, if_step, needs_that, as_scalar, as_bool, as_tuple, as_table, as_delta, on_top, on_walk, taken, spends, rows_value, answer_step, leaves_layer, next_row, goes_back, unless_fail, act}
 use Rattle.hera_steps.specs.Descends.{Descends, fewer_turns, fewer_frames, nearer_end, left, IsLower}
 
--- a step that does not end lowers what it starts from
-abbrev pub Sinks : ℕ → Machine → Step → Type 0
-Sinks l old (quiet m) = Descends l old m
-Sinks l old (says bs m) = Descends l old m
-Sinks l old (commits d m) = Descends l old m
-Sinks l old (ends stop) = Unit {0}
+-- an instruction that neither applies a delta nor rolls back
+abbrev pub KeepsPending : Instr → Type 0
+KeepsPending (Apply place) = ⊥
+KeepsPending Rollback = ⊥
+KeepsPending i = Unit {0}
 
-module _ (l : ℕ) (old : Machine) where
-  sinks_needs : {A : Type 0} (o : Option A) (go : A → Step) → ((a : A) → Sinks l old (go a)) → Sinks l old (needs o go)
-  sinks_needs None go h = tt
-  sinks_needs (Some a) go h = h a
+-- what a step that goes on leaves: less of forward code of length l, and the pending delta where it is kept
+pub record Leaves (forward kept : Type 0) (l : ℕ) (old new : Machine) : Type 0 where
+  pub lower : forward → Descends l old new
+  pub pending : kept → new.pending ≡ old.pending
 
-  sinks_if : (b : Bool) (s t : Step) → Sinks l old s → Sinks l old t → Sinks l old (if_step b s t)
-  sinks_if true s t g h = g
-  sinks_if false s t g h = h
+-- and a step that stores a delta stores the pending one
+abbrev pub Sinks : Type 0 → Type 0 → ℕ → Machine → Step → Type 0
+Sinks forward kept l old (quiet m) = Leaves forward kept l old m
+Sinks forward kept l old (says bs m) = Leaves forward kept l old m
+Sinks forward kept l old (commits d m) = (d ≡ old.pending) × (m.pending ≡ atoms []) × (forward → Descends l old m)
+Sinks forward kept l old (ends stop) = Unit {0}
 
-  sinks_that : (b : Bool) (s : Step) → Sinks l old s → Sinks l old (needs_that b s)
-  sinks_that b s h = sinks_if b s (ends stuck) h tt
-
-  sinks_top : (vs : List Value) (go : Value → List Value → Step) → ((v : Value) (vs : List Value) → Sinks l old (go v vs)) → Sinks l old (on_top vs go)
-  sinks_top [] go h = tt
-  sinks_top (v ∷ vs) go h = h v vs
-
-  sinks_walk : (ws : List Walk) (go : Walk → List Walk → Step) → ((w : Walk) (ws : List Walk) → Sinks l old (go w ws)) → Sinks l old (on_walk ws go)
-  sinks_walk [] go h = tt
-  sinks_walk (w ∷ ws) go h = h w ws
-
-  sinks_spends : (turns : ℕ) (go : ℕ → Step) → turns ≡ old.turns → ((k : ℕ) → k < old.turns → Sinks l old (go k)) → Sinks l old (spends turns go)
-  sinks_spends zero go e h = tt
-  sinks_spends (suc k) go e h = h k (omega (arith, e))
-
-  sinks_back : (fs : List Frame) (vs : List Value) → fs ≡ old.callers → Sinks l old (goes_back fs vs old)
-  sinks_back [] vs e = tt
-  sinks_back (f ∷ fs) vs e =
-      let long : suc (length fs) ≡ length old.callers = ap (λ xs. length xs) e in
-      fewer_frames refl (omega (arith, long))
-
-module _ (l : ℕ) (m : Machine) (in_code : m.at < l) where
-  sinks_ahead : (new : Machine) → new.turns ≡ m.turns → length new.callers ≡ length m.callers → new.at ≡ m.at + 1 → Descends l m new
-  sinks_ahead new t c e = nearer_end t c (omega (arith, in_code, e))
-
-  sinks_to : (new : Machine) (b : ℕ) → m.at < b → new.turns ≡ m.turns → length new.callers ≡ length m.callers → new.at ≡ b → Descends l m new
-  sinks_to new b lt t c e = nearer_end t c (omega (arith, in_code, lt, e))
-
-  sinks_answer : (place : ℕ) (r : Answer) (vs : List Value) → Sinks l m (answer_step place r vs m)
-  sinks_answer place (gives v) vs = sinks_ahead _ refl refl refl
-  sinks_answer place (refuses name) vs = tt
-
-  sinks_fail : (rels : List RelDecl) (name : TrapName) (place : ℕ) (v : Value) (go : Delta → Step) → ((d : Delta) → Sinks l m (go d)) → Sinks l m (unless_fail rels name place v go)
-  sinks_fail rels name place v go h = sinks_needs l m (as_delta v) _ (λ d. sinks_if l m (is_fail d) _ _ tt (sinks_that l m (is_delta_of rels d) (go d) (h d)))
-
-  sinks_leaves : (own : ℕ) (ds : List Delta) → Sinks l m (leaves_layer own ds m)
-  sinks_leaves zero ds = tt
-  sinks_leaves (suc n) [] = tt
-  sinks_leaves (suc n) (d ∷ ds) = sinks_ahead _ refl refl refl
-
-  sinks_next : (i b : ℕ) (rows : List Row) (w : Walk) (ws : List Walk) → m.at < b → Sinks l m (next_row i b rows w ws m)
-  sinks_next i b [] w ws lt = sinks_to _ b lt refl refl refl
-  sinks_next i b (x ∷ xs) w ws lt = sinks_ahead _ refl refl refl
-
-module _ (code : Code) (rels : List RelDecl) (hosts : Hosts) where
+module _ (code : Code) (rels : List RelDecl) (hosts : Hosts) (m : Machine) (forward kept : Type 0) (in_code : forward → m.at < length code.instrs) where
   abbrev L : ℕ
   L = length code.instrs
 
-  sinks_act : (i : Instr) (s : State) (m : Machine) → m.at < L → GoesForward m.at i → Sinks L m (act code rels hosts (Some i) s m)
-  sinks_act (Push c) s m lt f = sinks_ahead L m lt _ refl refl refl
-  sinks_act (Load i) s m lt f = sinks_needs L m (slice_get m.locals i) _ (λ v. sinks_ahead L m lt _ refl refl refl)
-  sinks_act (Store i) s m lt f = sinks_top L m m.operands _ (λ v vs. sinks_needs L m (slice_get m.locals i) _ (λ u. sinks_ahead L m lt _ refl refl refl))
-  sinks_act (Rel r) s m lt f = sinks_needs L m (rows_value (slice_get (current_state s m) r.0)) _ (λ v. sinks_ahead L m lt _ refl refl refl)
-  sinks_act (Prim op place) s m lt f = sinks_needs L m (taken (arity op) [] m.operands) _ (λ t. sinks_that L m (fits_of op t.args) _ (sinks_answer L m lt place (given op t.args) t.rest))
-  sinks_act (Host h) s m lt f = sinks_top L m m.operands _ (λ v vs. sinks_needs L m (host_at hosts h) _ (λ spec. sinks_needs L m (as_scalar v) _ (λ q. sinks_that L m (is_kind (host_takes spec) q) _ (sinks_ahead L m lt _ refl refl refl))))
-  sinks_act (Jump b) s m lt f = sinks_that L m (nat_lt b L) _ (sinks_to L m lt _ b f refl refl refl)
-  sinks_act (Unless b) s m lt f = sinks_top L m m.operands _ (λ v vs. sinks_that L m (nat_lt b L) _ (sinks_needs L m (as_bool v) _ (λ c. sinks_if L m c _ _ (sinks_ahead L m lt _ refl refl refl) (sinks_to L m lt _ b f refl refl refl))))
-  sinks_act (Back b) s m lt f = sinks_that L m (nat_lt b L) _ (sinks_spends L m m.turns _ refl (λ k less. fewer_turns less (omega arith)))
-  sinks_act (Enter place) s m lt f = sinks_top L m m.operands _ (λ v vs. sinks_fail L m lt rels WhenFail place v _ (λ d. sinks_ahead L m lt _ refl refl refl))
-  sinks_act Leave s m lt f = sinks_leaves L m lt m.own m.layers
-  sinks_act walk_instr s m lt f = sinks_top L m m.operands _ (λ v vs. sinks_needs L m (as_table v) _ (λ rows. sinks_ahead L m lt _ refl refl refl))
-  sinks_act (Next i b) s m lt f = sinks_walk L m m.walks _ (λ w ws. sinks_needs L m (slice_get m.locals i) _ (λ v. sinks_that L m (nat_lt b L) _ (sinks_next L m lt i b w.rows w ws f)))
-  sinks_act Keep s m lt f = sinks_walk L m m.walks _ (λ w ws. sinks_top L m m.operands _ (λ v vs. sinks_needs L m (as_bool v) _ (λ c. sinks_if L m c _ _ (sinks_ahead L m lt _ refl refl refl) (sinks_ahead L m lt _ refl refl refl))))
-  sinks_act Gather s m lt f = sinks_walk L m m.walks _ (λ w ws. sinks_top L m m.operands _ (λ v vs. sinks_needs L m (as_tuple v) _ (λ x. sinks_ahead L m lt _ refl refl refl)))
-  sinks_act Yield s m lt f = sinks_walk L m m.walks _ (λ w ws. sinks_ahead L m lt _ refl refl refl)
-  sinks_act Drop s m lt f = sinks_walk L m m.walks _ (λ w ws. sinks_ahead L m lt _ refl refl refl)
-  sinks_act (Call k) s m lt f =
-      sinks_needs L m (slice_get code.bodies k) _ (λ b. sinks_that L m (nat_le b.params b.slots) _ (sinks_needs L m (taken b.params [] m.operands) _ (λ t.
-      sinks_spends L m m.turns _ refl (λ n less. fewer_turns less (omega arith)))))
-  sinks_act Ret s m lt f = sinks_back L m m.callers [] refl
-  sinks_act RetVal s m lt f = sinks_top L m m.operands _ (λ v vs. sinks_back L m m.callers (v ∷ []) refl)
-  sinks_act (Print shape) s m lt f = sinks_top L m m.operands _ (λ v vs. sinks_that L m (has_shape rels shape v) _ (sinks_ahead L m lt _ refl refl refl))
-  sinks_act (Apply place) s m lt f = sinks_top L m m.operands _ (λ v vs. sinks_fail L m lt rels ApplyFail place v _ (λ d. sinks_ahead L m lt _ refl refl refl))
-  sinks_act Commit s m lt f = sinks_ahead L m lt _ refl refl refl
-  sinks_act Rollback s m lt f = sinks_ahead L m lt _ refl refl refl
-  sinks_act (Assert place) s m lt f = sinks_top L m m.operands _ (λ v vs. sinks_needs L m (as_bool v) _ (λ c. sinks_if L m c _ _ (sinks_ahead L m lt _ refl refl refl) tt))
-  sinks_act Halt s m lt f = tt
+  abbrev Falls : Step → Type 0
+  Falls t = Sinks forward kept L m t
+
+  falls_needs : {A : Type 0} (o : Option A) (go : A → Step) → ((a : A) → Falls (go a)) → Falls (needs o go)
+  falls_needs None go h = tt
+  falls_needs (Some a) go h = h a
+
+  falls_if : (b : Bool) (s t : Step) → Falls s → Falls t → Falls (if_step b s t)
+  falls_if true s t g h = g
+  falls_if false s t g h = h
+
+  falls_that : (b : Bool) (s : Step) → Falls s → Falls (needs_that b s)
+  falls_that b s h = falls_if b s (ends stuck) h tt
+
+  falls_top : (vs : List Value) (go : Value → List Value → Step) → ((v : Value) (vs : List Value) → Falls (go v vs)) → Falls (on_top vs go)
+  falls_top [] go h = tt
+  falls_top (v ∷ vs) go h = h v vs
+
+  falls_walk : (ws : List Walk) (go : Walk → List Walk → Step) → ((w : Walk) (ws : List Walk) → Falls (go w ws)) → Falls (on_walk ws go)
+  falls_walk [] go h = tt
+  falls_walk (w ∷ ws) go h = h w ws
+
+  falls_spends : (turns : ℕ) (go : ℕ → Step) → turns ≡ m.turns → ((k : ℕ) → k < m.turns → Falls (go k)) → Falls (spends turns go)
+  falls_spends zero go e h = tt
+  falls_spends (suc k) go e h = h k (omega (arith, e))
+
+  falls_back : (fs : List Frame) (vs : List Value) → fs ≡ m.callers → Falls (goes_back fs vs m)
+  falls_back [] vs e = tt
+  falls_back (f ∷ fs) vs e =
+      let long : suc (length fs) ≡ length m.callers = ap (λ xs. length xs) e in
+      record { lower = λ g. fewer_frames refl (omega (arith, long)); pending = λ k. refl }
+
+  -- an instruction further, in the same frame
+  further : (new : Machine) → new.turns ≡ m.turns → length new.callers ≡ length m.callers → new.at ≡ m.at + 1 → forward → Descends L m new
+  further new t c e f = let here : m.at < L = in_code f in nearer_end t c (omega (arith, here, e))
+
+  ahead : (new : Machine) → new.turns ≡ m.turns → length new.callers ≡ length m.callers → new.at ≡ m.at + 1 → new.pending ≡ m.pending → Leaves forward kept L m new
+  ahead new t c e p = record { lower = further new t c e; pending = λ k. p }
+
+  changed : (new : Machine) → new.turns ≡ m.turns → length new.callers ≡ length m.callers → new.at ≡ m.at + 1 → (kept → ⊥) → Leaves forward kept L m new
+  changed new t c e none = record { lower = further new t c e; pending = λ k. absurd (none k) }
+
+  landed : (new : Machine) (b : ℕ) → (forward → m.at < b) → new.turns ≡ m.turns → length new.callers ≡ length m.callers → new.at ≡ b → new.pending ≡ m.pending → Leaves forward kept L m new
+  landed new b on t c e p = record {
+    lower = λ f. let here : m.at < L = in_code f in let past : m.at < b = on f in nearer_end t c (omega (arith, here, past, e));
+    pending = λ k. p;
+  }
+
+  turned : (new : Machine) → new.turns < m.turns → length new.callers ≤ length m.callers + 1 → new.pending ≡ m.pending → Leaves forward kept L m new
+  turned new t c p = record { lower = λ f. fewer_turns t c; pending = λ k. p }
+
+  falls_answer : (place : ℕ) (r : Answer) (vs : List Value) → Falls (answer_step place r vs m)
+  falls_answer place (gives v) vs = ahead _ refl refl refl refl
+  falls_answer place (refuses name) vs = tt
+
+  falls_fail : (name : TrapName) (place : ℕ) (v : Value) (go : Delta → Step) → ((d : Delta) → Falls (go d)) → Falls (unless_fail rels name place v go)
+  falls_fail name place v go h = falls_needs (as_delta v) _ (λ d. falls_if (is_fail d) _ _ tt (falls_that (is_delta_of rels d) (go d) (h d)))
+
+  falls_leaves : (own : ℕ) (ds : List Delta) → Falls (leaves_layer own ds m)
+  falls_leaves zero ds = tt
+  falls_leaves (suc n) [] = tt
+  falls_leaves (suc n) (d ∷ ds) = ahead _ refl refl refl refl
+
+  falls_next : (i b : ℕ) (rows : List Row) (w : Walk) (ws : List Walk) → (forward → m.at < b) → Falls (next_row i b rows w ws m)
+  falls_next i b [] w ws f = landed _ b f refl refl refl refl
+  falls_next i b (x ∷ xs) w ws f = ahead _ refl refl refl refl
+
+  sinks_by : (i : Instr) (s : State) → (forward → GoesForward m.at i) → (kept → KeepsPending i) → Sinks forward kept L m (act code rels hosts (Some i) s m)
+  sinks_by (Push c) s f g = ahead _ refl refl refl refl
+  sinks_by (Load i) s f g = falls_needs (slice_get m.locals i) _ (λ v. ahead _ refl refl refl refl)
+  sinks_by (Store i) s f g = falls_top m.operands _ (λ v vs. falls_needs (slice_get m.locals i) _ (λ u. ahead _ refl refl refl refl))
+  sinks_by (Rel r) s f g = falls_needs (rows_value (slice_get (current_state s m) r.0)) _ (λ v. ahead _ refl refl refl refl)
+  sinks_by (Prim op place) s f g = falls_needs (taken (arity op) [] m.operands) _ (λ t. falls_that (fits_of op t.args) _ (falls_answer place (given op t.args) t.rest))
+  sinks_by (Host h) s f g = falls_top m.operands _ (λ v vs. falls_needs (host_at hosts h) _ (λ spec. falls_needs (as_scalar v) _ (λ q. falls_that (is_kind (host_takes spec) q) _ (ahead _ refl refl refl refl))))
+  sinks_by (Jump b) s f g = falls_that (nat_lt b L) _ (landed _ b f refl refl refl refl)
+  sinks_by (Unless b) s f g = falls_top m.operands _ (λ v vs. falls_that (nat_lt b L) _ (falls_needs (as_bool v) _ (λ c. falls_if c _ _ (ahead _ refl refl refl refl) (landed _ b f refl refl refl refl))))
+  sinks_by (Back b) s f g = falls_that (nat_lt b L) _ (falls_spends m.turns _ refl (λ n less. turned _ less (omega arith) refl))
+  sinks_by (Enter place) s f g = falls_top m.operands _ (λ v vs. falls_fail WhenFail place v _ (λ d. ahead _ refl refl refl refl))
+  sinks_by Leave s f g = falls_leaves m.own m.layers
+  sinks_by walk_instr s f g = falls_top m.operands _ (λ v vs. falls_needs (as_table v) _ (λ rows. ahead _ refl refl refl refl))
+  sinks_by (Next i b) s f g = falls_walk m.walks _ (λ w ws. falls_needs (slice_get m.locals i) _ (λ v. falls_that (nat_lt b L) _ (falls_next i b w.rows w ws f)))
+  sinks_by Keep s f g = falls_walk m.walks _ (λ w ws. falls_top m.operands _ (λ v vs. falls_needs (as_bool v) _ (λ c. falls_if c _ _ (ahead _ refl refl refl refl) (ahead _ refl refl refl refl))))
+  sinks_by Gather s f g = falls_walk m.walks _ (λ w ws. falls_top m.operands _ (λ v vs. falls_needs (as_tuple v) _ (λ x. ahead _ refl refl refl refl)))
+  sinks_by Yield s f g = falls_walk m.walks _ (λ w ws. ahead _ refl refl refl refl)
+  sinks_by Drop s f g = falls_walk m.walks _ (λ w ws. ahead _ refl refl refl refl)
+  sinks_by (Call k) s f g =
+      falls_needs (slice_get code.bodies k) _ (λ b. falls_that (nat_le b.params b.slots) _ (falls_needs (taken b.params [] m.operands) _ (λ t.
+      falls_spends m.turns _ refl (λ n less. turned _ less (omega arith) refl))))
+  sinks_by Ret s f g = falls_back m.callers [] refl
+  sinks_by RetVal s f g = falls_top m.operands _ (λ v vs. falls_back m.callers (v ∷ []) refl)
+  sinks_by (Print shape) s f g = falls_top m.operands _ (λ v vs. falls_that (has_shape rels shape v) _ (ahead _ refl refl refl refl))
+  sinks_by (Apply place) s f g = falls_top m.operands _ (λ v vs. falls_fail ApplyFail place v _ (λ d. changed _ refl refl refl g))
+  sinks_by Commit s f g = (refl, refl, further _ refl refl refl)
+  sinks_by Rollback s f g = changed _ refl refl refl g
+  sinks_by (Assert place) s f g = falls_top m.operands _ (λ v vs. falls_needs (as_bool v) _ (λ c. falls_if c _ _ (ahead _ refl refl refl refl) tt))
+  sinks_by Halt s f g = tt
+
+-- where the code goes forward at the instruction at hand
+abbrev pub IsForward : ℕ → Machine → Instr → Type 0
+IsForward l m i = (m.at < l) × GoesForward m.at i
+
+pub sinks_act : (code : Code) (rels : List RelDecl) (hosts : Hosts) (i : Instr) (s : State) (m : Machine) → Sinks (IsForward (length code.instrs) m i) (KeepsPending i) (length code.instrs) m (act code rels hosts (Some i) s m)
+sinks_act code rels hosts i s m = sinks_by code rels hosts m (IsForward (length code.instrs) m i) (KeepsPending i) (λ f. f.0) i s (λ f. f.1) (λ k. k)
 
 -- what descends is less as a number, from an address of the code
 pub descends_left : (l : ℕ) (old new : Machine) → old.at < l → Descends l old new → left l new < left l old
@@ -136,14 +168,17 @@ Lowers l old (says bs m) = IsLower l old m
 Lowers l old (commits d m) = IsLower l old m
 Lowers l old (ends stop) = Unit {0}
 
-lowers_by : (l : ℕ) (old : Machine) (t : Step) → old.at < l → Sinks l old t → Lowers l old t
-lowers_by l old (quiet m) lt h = record { descends = h; less_left = descends_left l old m lt h }
-lowers_by l old (says bs m) lt h = record { descends = h; less_left = descends_left l old m lt h }
-lowers_by l old (commits d m) lt h = record { descends = h; less_left = descends_left l old m lt h }
-lowers_by l old (ends stop) lt h = tt
+lower_by : (l : ℕ) (old new : Machine) → old.at < l → Descends l old new → IsLower l old new
+lower_by l old new lt h = record { descends = h; less_left = descends_left l old new lt h }
+
+lowers_by : (f k : Type 0) (l : ℕ) (old : Machine) (t : Step) → old.at < l → f → Sinks f k l old t → Lowers l old t
+lowers_by f k l old (quiet m) lt p h = lower_by l old m lt (h.lower p)
+lowers_by f k l old (says bs m) lt p h = lower_by l old m lt (h.lower p)
+lowers_by f k l old (commits d m) lt p h = lower_by l old m lt (h.2 p)
+lowers_by f k l old (ends stop) lt p h = tt
 
 pub step_lowers : (code : Code) (rels : List RelDecl) (hosts : Hosts) → Forward code → (o : Option Instr) (s : State) (m : Machine) → slice_get code.instrs m.at ≡ o → Lowers (length code.instrs) m (act code rels hosts o s m)
 step_lowers code rels hosts forward None s m e = tt
 step_lowers code rels hosts forward (Some i) s m e =
     let lt : m.at < length code.instrs = slice_get_within code.instrs m.at i e in
-    lowers_by (length code.instrs) m (act code rels hosts (Some i) s m) lt (sinks_act code rels hosts i s m lt (forward m.at i e))
+    lowers_by (IsForward (length code.instrs) m i) (KeepsPending i) (length code.instrs) m (act code rels hosts (Some i) s m) lt (lt, forward m.at i e) (sinks_act code rels hosts i s m)

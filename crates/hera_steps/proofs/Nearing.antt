@@ -1,5 +1,5 @@
--- A step that was taken, over forward code.
-use Rattle.std.proofs.Common.{◌≡◌, ℕ, ◌+◌, ◌-◌, ◌*◌, ◌<◌, length, sym, ap, ◌∙◌, subst, refl, List, [], arith}
+-- A step that was taken.
+use Rattle.std.proofs.Common.{◌≡◌, ℕ, ◌+◌, ◌-◌, ◌*◌, ◌<◌, true, length, sym, ap, ◌∙◌, subst, refl, List, [], arith}
 use Rattle.std.proofs.lemmas.List.{length-map}
 use Rattle.std.specs.Prelude.{slice_get, Option, None, Some, Result, Ok, Err, IfOk}
 use Rattle.std.specs.declared.alloc.AllocError.{AllocError}
@@ -7,17 +7,19 @@ use Rattle.std.proofs.lemmas.Option.{slice_get_within}
 use Rattle.hera_meaning.specs.declared.schemas.RelDecl.{RelDecl}
 use Rattle.hera_meaning.specs.Deltas.{State, apply_of}
 use Rattle.hera_meaning.specs.Hosts.{Hosts}
+use Rattle.hera_meaning.specs.Fits.{is_delta_of}
 use Rattle.hera_code.specs.declared.instrs.Instr.{Instr}
 use Rattle.hera_code.specs.declared.instrs.Code.{Code}
 use Rattle.hera_code.specs.Forward.{Forward}
 use Rattle.hera_code.specs.Machine.{Machine, stuck, ends, act, code_step}
 use Rattle.hera_steps.specs.declared.events.Told.{Told}
 use Rattle.hera_steps.specs.declared.events.Told.TheVariants.{Quiet, Out, Commit, Ended}
+use Rattle.hera_reads.specs.Branched.{pending_of}
 use Rattle.hera_frames.specs.Waiting.{frame_at}
 use Rattle.hera_steps.specs.Descends.{Descends, fewer_turns, fewer_frames, nearer_end, left, IsLower}
 use Rattle.hera_steps.specs.Working.{Work, machine_at}
-use Rattle.hera_steps.specs.Telling.{step_at, TellsNearer}
-use Rattle.hera_steps.proofs.Lowered.{Lowers, step_lowers}
+use Rattle.hera_steps.specs.Telling.{step_at, TellsNearer, TellsKnown}
+use Rattle.hera_steps.proofs.Lowered.{Lowers, step_lowers, Sinks, IsForward, KeepsPending, sinks_act}
 
 -- ---- the committed state does not tell what is lowered
 
@@ -87,3 +89,20 @@ here_taken code rels hosts s old new r i e h =
 
 pub here_none : (code : Code) (rels : List RelDecl) (hosts : Hosts) (s : State) (old : Work) → None ≡ slice_get code.instrs old.at → ends stuck ≡ code_step code rels hosts s (machine_at s old)
 here_none code rels hosts s old e = ap (λ o. act code rels hosts o s (machine_at s old)) e
+
+-- ---- a delta that is stored
+
+known_by : (f k : Type 0) (rels : List RelDecl) (s : State) (l : ℕ) (t : Told) (old new : Work) → Sinks f k l (machine_at s old) (step_at s t new) → is_delta_of rels (pending_of old.layers) ≡ true → TellsKnown rels t
+known_by f k rels s l Quiet old new h known = tt
+known_by f k rels s l (Out line) old new h known = tt
+known_by f k rels s l (Commit d) old new h known = ap (is_delta_of rels) h.0 ∙ known
+known_by f k rels s l (Ended end) old new h known = tt
+
+-- what a step tells is of the machine's relations
+pub result_known : (code : Code) (rels : List RelDecl) (hosts : Hosts) (i : Instr) (s : State) (r : Result Told AllocError) (old new : Work) →
+    IfOk r (λ t. step_at s t new ≡ act code rels hosts (Some i) s (machine_at s old)) → is_delta_of rels (pending_of old.layers) ≡ true → IfOk r (TellsKnown rels)
+result_known code rels hosts i s (Ok t) old new h known =
+    let m : Machine = machine_at s old in
+    known_by (IsForward (length code.instrs) m i) (KeepsPending i) rels s (length code.instrs) t old new
+    (subst (λ x. Sinks (IsForward (length code.instrs) m i) (KeepsPending i) (length code.instrs) m x) (sym h) (sinks_act code rels hosts i s m)) known
+result_known code rels hosts i s (Err e) old new h known = tt

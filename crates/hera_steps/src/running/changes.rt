@@ -1,11 +1,11 @@
 //! Deltas: layers under which the machine reads, and the pending delta. What names a relation is given its
 //! rows before the pending delta is changed.
-ghost use Rattle.std.specs.Prelude.{true, ◌≡◌, ◌+◌, ◌<◌, ◌^◌, false, suc, [], ◌∷◌, IfOk, OnOk};
+ghost use Rattle.std.specs.Prelude.{true, ◌≡◌, ◌+◌, ◌<◌, ◌^◌, false, suc, [], ◌∷◌, map, IfOk, OnOk, OnErr};
 ghost use Rattle.hera_meaning.specs.Deltas.{State, atoms, is_fail, apply_of, smash_of};
 ghost use Rattle.hera_meaning.specs.Fits.{is_delta_of};
 ghost use Rattle.hera_code.specs.Machine.{quiet, commits, on_top, enters, leaves_layer, applies};
 ghost use Rattle.hera_reads.specs.Branched.{pending_of};
-ghost use Rattle.hera_frames.specs.Items.{AreHeld};
+ghost use Rattle.hera_frames.specs.Items.{AreHeld, collected};
 ghost use Rattle.hera_reads.specs.Walking.{AreGiven};
 ghost use Rattle.hera_steps.specs.Telling.{step_at};
 ghost use Rattle.hera_steps.specs.Working.{machine_at, NameNone, NamesNothing};
@@ -16,12 +16,28 @@ use delta_atoms::Delta;
 use hera_fits::is_delta_of;
 use hera_frames::{Callers, Operands, any_named, settle_frames, settle_walks};
 use hera_meaning::{RelDecl, TrapName};
-use hera_reads::Stack;
+use hera_reads::{Changes, Stack};
 use hera_values::let_go;
 use smash_merge::smash_into;
-use std::alloc::AllocError;
+use std::alloc::{AllocError, Global};
 use std::mem::replace;
 use when_overlay::Stored;
+
+/// Collects the operands that name a relation. Without memory they are lost.
+fn collect(
+    alloc: Global,
+    operands: &mut Operands,
+    changes: &Changes,
+    stored: &Stored<'_>,
+) -> Result<(), AllocError>
+    ensures done { let s = stored.now.state in OnOk result (operands.new.items ≡ map (collected s changes.now.layers) operands.old.items) }
+    ensures err { OnErr result (operands.new.items ≡ []) }
+{
+    let named = replace(operands, Operands::new(alloc));
+    let settled = named.settle(alloc, changes, stored)?;
+    let_go(replace(operands, settled));
+    Ok(())
+}
 
 impl Running<'_> {
     pub(super) fn enter(&mut self, at: u32) -> Result<Told, AllocError>
@@ -84,9 +100,7 @@ impl Running<'_> {
         ensures relations { self.new.relations ≡ self.old.relations }
     {
         if self.operands.has_names() {
-            let operands = replace(&mut self.operands, Operands::new(self.alloc));
-            let settled = operands.settle(self.alloc, &self.changes, stored)?;
-            let_go(replace(&mut self.operands, settled));
+            collect(self.alloc, &mut self.operands, &self.changes, stored)?;
         }
         Ok(())
     }

@@ -89,7 +89,7 @@ impl Running<'_> {
         }
     }
 
-    /// Goes on to the next tuple, where a slot has one whose buffer has the room.
+    /// Goes on to the next tuple, where the walk has it, and a slot has one whose buffer has the room.
     #[inline(always)]
     pub(super) fn try_next(&mut self, code: &Code, stored: &Stored<'_>, i: u32, a: u32) -> bool
         requires { self.old.at + 1 < 2 ^ 64 }
@@ -98,38 +98,18 @@ impl Running<'_> {
         ensures layers { self.new.layers ≡ self.old.layers }
         ensures relations { self.new.relations ≡ self.old.relations }
     {
+        // named for the contract alone: the walk has the row
+        let _stored = stored;
         if (a as usize) >= code.instrs.len() {
             return false;
         }
         let Some(row) = self.walks.coming() else {
-            return self.hop(code, stored, i, a);
+            return false;
         };
         if !self.locals.fit_tuple(i as usize, row) {
             return false;
         }
         self.walks.pass();
-        self.at += 1;
-        true
-    }
-
-    /// Goes on to the next row of a relation that a walk names.
-    #[inline(never)]
-    fn hop(&mut self, code: &Code, stored: &Stored<'_>, i: u32, a: u32) -> bool
-        requires next { self.old.at + 1 < 2 ^ 64 }
-        requires address { a < length code.now.instrs }
-        ensures done { let s = stored.now.state in result ≡ true → quiet (machine_at s self.new) ≡ on_walk (machine_at s self.old).walks (λ w ws. needs_slot i (machine_at s self.old) (needs_address code.now a (next_row i a w.rows w ws (machine_at s self.old)))) }
-        ensures kept { result ≡ false → self.new ≡ self.old }
-        ensures layers { self.new.layers ≡ self.old.layers }
-        ensures relations { self.new.relations ≡ self.old.relations }
-    {
-        // named for the contract alone: a row is left here
-        let _end = a;
-        if !self
-            .walks
-            .hop(&mut self.locals, i as usize, &self.changes, stored)
-        {
-            return false;
-        }
         self.at += 1;
         true
     }

@@ -1,12 +1,11 @@
 use Rattle.std.proofs.Common.{◌≡◌, true, ◌<◌, ◌∙◌, sym, ap, subst, Some, length, arith}
 use Rattle.hera_meaning.specs.Fits.{is_delta_of}
 use Rattle.hera_reads.specs.Branched.{pending_of}
-use Rattle.hera_steps.proofs.Storing.{result_known}
 use Rattle.std.specs.Prelude.{slice_get}
 use Rattle.std.specs.Option.{option_copied}
 use Rattle.hera_host.specs.Tables.{specs_of}
 use Rattle.hera_steps.specs.Working.{Work}
-use Rattle.hera_steps.proofs.Nearing.{result_nearer, here_taken, here_none, here_within}
+use Rattle.hera_steps.proofs.Nearing.{result_nearer, result_known, here_taken, here_none, here_within}
 use Rattle.hera_steps.proofs.running.Running.one.Goals as goal
 
 pub execute-requires : goal.execute-requires
@@ -33,5 +32,5 @@ returns-in-Some-clause-nearer g c =
 
 pub returns-in-Some-clause-known : goal.returns-in-Some-clause-known
 returns-in-Some-clause-known g c =
-    result_known c.args.code.now c.args.self.now.relations (specs_of c.args.hosts.now.names) (Some c.in-Some.instr.now) c.args.stored.now.state c.execute.result c.args.self.now c.execute.new.self c.execute.ensures.act
+    result_known c.args.code.now c.args.self.now.relations (specs_of c.args.hosts.now.names) c.in-Some.instr.now c.args.stored.now.state c.execute.result c.args.self.now c.execute.new.self c.execute.ensures.act
     (subst (λ (w : Work). is_delta_of w.relations (pending_of w.layers) ≡ true) c.self.view_is c.len-count.ensures.of)
