@@ -5,6 +5,7 @@ pub mod Moving
 pub mod Walking
 pub mod Operating
 pub mod Effecting
+pub mod Calling
 pub mod Cutting
 pub mod Declared
 pub mod Stepping

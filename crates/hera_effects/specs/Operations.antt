@@ -1,5 +1,5 @@
 -- What operations make of operands that are known by their flat forms.
-use Rattle.std.specs.Prelude.{◌≡◌, ℕ, Bool, true, false, ◌&&◌, ◌||◌, List, [], ◌∷◌, map, length, replicate, Option, Some, None, nat_lt, nat_eq}
+use Rattle.std.specs.Prelude.{◌≡◌, ℕ, Bool, true, false, ◌&&◌, ◌||◌, List, [], ◌∷◌, map, take, length, replicate, Option, Some, None, nat_lt, nat_eq}
 use Rattle.std.specs.List.{list_all}
 use Rattle.hera_meaning.specs.declared.schemas.RelDecl.{RelDecl}
 use Rattle.hera_meaning.specs.declared.trees.Op.{Op}
@@ -8,7 +8,7 @@ use Rattle.hera_meaning.specs.Scalars.{is_same_kind}
 use Rattle.hera_meaning.specs.Schemas.{names_of}
 use Rattle.hera_meaning.specs.Deltas.{schema_of}
 use Rattle.hera_meaning.specs.Forms.{Form, of_scalar, of_tuple, of_table, of_delta, kinds_of, int_form, bool_form, text_form, both, kind_at, project_kinds, group_kinds, join_kinds}
-use Rattle.hera_typed.specs.Points.{Seen, with, when, Cut}
+use Rattle.hera_typed.specs.Points.{Seen, with, when, Cut, cut, all_agree}
 use Rattle.hera_typed.specs.Effects.{is_width, is_apart}
 use Rattle.hera_effects.specs.declared.forms.FlatForm.{FlatForm}
 use Rattle.hera_effects.specs.declared.forms.FlatForm.TheVariants as flat
@@ -23,6 +23,10 @@ use Rattle.hera_effects.specs.Stacked.{AreOperands}
 pub record IsCut (nodes : List Node) (c : FlatCut) (d : Cut) : Type 0 where
   pub args : c.args.items ≡ map flat_seen d.args
   pub rest : AreOperands nodes c.rest d.rest
+
+-- the operands without a body's arguments, of which each agrees with the form of its own slot
+abbrev pub called_off : ℕ → List Form → List Seen → Option (List Seen)
+called_off n forms ss = with (cut n [] ss) (λ c. when (all_agree c.args (take n forms)) (Some c.rest))
 
 abbrev pub same_flat : FlatForm → FlatForm → Bool
 same_flat (flat.Scalar k) (flat.Scalar l) = is_same_kind k l

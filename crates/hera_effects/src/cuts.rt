@@ -1,17 +1,16 @@
 //! Operands of operations and calls, as lists.
-ghost use Rattle.std.specs.Prelude.{◌≡◌, ◌≤◌, ◌∷◌, [], List, IfOk, map, take, length};
+ghost use Rattle.std.specs.Prelude.{◌≡◌, ◌∷◌, [], List, IfOk, map};
 ghost use Rattle.hera_meaning.specs.Forms.{kinds_of, of_scalar};
 ghost use Rattle.hera_typed.specs.Points.{Seen, cut};
 ghost use Rattle.hera_typed.specs.Effects.{slot_forms};
 ghost use Rattle.hera_typed.specs.Notes.{body_note};
-ghost use Rattle.hera_effects.specs.declared.forms.FlatForm.{FlatForm};
 ghost use Rattle.hera_effects.specs.Flat.{flat_form};
 ghost use Rattle.hera_effects.specs.Stacked.{AreOperands};
 ghost use Rattle.hera_effects.specs.Ways.{Both};
-ghost use Rattle.hera_effects.specs.Operations.{IsCut, flat_agrees, flat_all_agree, flat_tuples, one_of, two_of};
+ghost use Rattle.hera_effects.specs.Operations.{IsCut, called_off, flat_agrees, flat_all_agree, flat_tuples, one_of, two_of};
 
 use crate::forms::{FlatForm, FlatSeen, form_of};
-use crate::moves::agrees;
+use crate::moves::{agrees, take};
 use crate::stacks::Stacks;
 use hera_meaning::Schema;
 use hera_typed::BodyNote;
@@ -97,25 +96,26 @@ pub(crate) fn attr_forms(alloc: Global, schema: &Schema) -> Result<Vec<FlatForm>
     Ok(forms)
 }
 
-/// The lesser of two counts.
-fn fewer(a: usize, b: usize) -> usize
-    ensures below { result ≤ b }
-    ensures taken { (xs : List FlatForm) → length xs ≡ b → take result xs ≡ take a xs }
-{
-    if a < b { a } else { b }
-}
-
-/// The forms of a body's first slots.
-pub(crate) fn first_forms(
-    alloc: Global,
+/// The operands without a body's arguments, of which the newest is the last, where each agrees with the form of its own
+/// slot. It takes no memory.
+pub(crate) fn call_off(
+    stacks: &Stacks,
     note: &BodyNote,
+    operands: u32,
     count: usize,
-) -> Result<Vec<FlatForm>, AllocError>
-    ensures { IfOk result (λ forms. forms.items ≡ take count (map flat_form (slot_forms (body_note note.now).slots))) }
+) -> Result<Option<u32>, AllocError>
+    ensures { (ss : List Seen) → AreOperands stacks.now operands ss → IfOk result (λ r. Both (AreOperands stacks.now) r (called_off count (slot_forms (body_note note.now).slots) ss)) }
 {
-    let mut forms = Vec::new(alloc);
-    for i in 0..fewer(count, note.slots.len()) {
-        forms.push(form_of(&note.slots[i].shape)?)?;
+    if note.slots.len() < count {
+        return Ok(None);
     }
-    Ok(forms)
+    let mut rest = operands;
+    for i in 0..count {
+        let form = form_of(&note.slots[count - 1 - i].shape)?;
+        let Some(below) = take(stacks, rest, form) else {
+            return Ok(None);
+        };
+        rest = below;
+    }
+    Ok(Some(rest))
 }

@@ -14,7 +14,7 @@ ghost use Rattle.hera_effects.specs.Ways.{Both, AreWays};
 ghost use Rattle.hera_effects.specs.Plain.{is_plain};
 ghost use Rattle.hera_effects.specs.Operations.{IsCut};
 
-use crate::cuts::{Cut, all_agree, cut_off, first_forms};
+use crate::cuts::{Cut, call_off, cut_off};
 use crate::forms::{FlatForm, FlatSeen, Kinds, form_of, kinds_of, no_kinds};
 use crate::moves::{move_on, push_if};
 use crate::plain::{Around, plain_of, slot_of};
@@ -96,30 +96,8 @@ fn result_form(note: &BodyNote) -> Result<Option<FlatForm>, AllocError>
     }
 }
 
-/// A call on operands that were taken.
-fn call_on(
-    alloc: Global,
-    stacks: &mut Stacks,
-    note: &BodyNote,
-    params: usize,
-    spot: Spot,
-    next: u32,
-    taken: &Cut,
-) -> Result<Option<Ways>, AllocError>
-    ensures grows { Grows stacks.old stacks.new }
-    ensures goes { (p : Point) → (c : PlainCut) → IsSpot stacks.old spot p → IsCut stacks.old taken.now c → IfOk result (λ r. Both (AreWays stacks.new) r (when (plain_all_agree c.args (take params (slot_forms (body_note note.now).slots))) (goes next (plain_with_operands (pushed_result (body_note note.now).result c.rest) p)))) }
-{
-    let forms = first_forms(alloc, note, params)?;
-    if !all_agree(&taken.args, &forms) {
-        return Ok(None);
-    }
-    let operands = push_if(stacks, taken.rest, result_form(note)?)?;
-    Ok(Some(on(next, with_operands(spot, operands))))
-}
-
 /// A call of a body that is not main, with as many parameters as there are operands.
 fn call_with(
-    alloc: Global,
     stacks: &mut Stacks,
     note: &BodyNote,
     params: usize,
@@ -129,15 +107,15 @@ fn call_with(
     ensures grows { Grows stacks.old stacks.new }
     ensures goes { (p : Point) → IsSpot stacks.old spot p → IfOk result (λ r. Both (AreWays stacks.new) r (with (plain_cut params [] p.operands) (λ c. when (plain_all_agree c.args (take params (slot_forms (body_note note.now).slots))) (goes next (plain_with_operands (pushed_result (body_note note.now).result c.rest) p))))) }
 {
-    let Some(taken) = cut_off(alloc, stacks, spot.operands, params)? else {
+    let Some(rest) = call_off(stacks, note, spot.operands, params)? else {
         return Ok(None);
     };
-    call_on(alloc, stacks, note, params, spot, next, &taken)
+    let operands = push_if(stacks, rest, result_form(note)?)?;
+    Ok(Some(on(next, with_operands(spot, operands))))
 }
 
 /// A call.
 fn call(
-    alloc: Global,
     around: &Around,
     stacks: &mut Stacks,
     j: u32,
@@ -154,7 +132,7 @@ fn call(
         return Ok(None);
     };
     match around.notes.bodies.get(j as usize) {
-        Some(note) => call_with(alloc, stacks, note, body.params as usize, spot, next),
+        Some(note) => call_with(stacks, note, body.params as usize, spot, next),
         None => Ok(None),
     }
 }
@@ -282,7 +260,7 @@ pub fn effect(
     let next = a as u32 + 1;
     match instr {
         Instr::Prim(op, _) => prim(alloc, around, stacks, op, spot, next),
-        Instr::Call(j) => call(alloc, around, stacks, *j, spot, next),
+        Instr::Call(j) => call(around, stacks, *j, spot, next),
         Instr::Walk => walk(around, stacks, k, a, spot, next),
         Instr::Next(i, to) => next_of(around, stacks, k, *i, *to, spot, next),
         Instr::Enter(_) => enter(stacks, spot, next),

@@ -1,5 +1,5 @@
 -- The pass over the addresses of code, one after another.
-use Rattle.std.proofs.Common.{◌≡◌, ◌≢◌, ◌<◌, ◌≤◌, ℕ, zero, suc, ◌+◌, Bool, true, false, cond, not, ◌&&◌, ◌||◌, List, [], ◌∷◌, ◌++◌, drop, take, length, Option, None, Some, refl, sym, ap, subst, ◌∙◌, add-one, arith}
+use Rattle.std.proofs.Common.{◌≡◌, ◌≢◌, ◌<◌, ◌≤◌, ℕ, zero, suc, ◌+◌, Bool, true, false, cond, not, ◌&&◌, ◌||◌, List, [], ◌∷◌, drop, take, length, Option, None, Some, refl, sym, ap, subst, ◌∙◌, add-one, arith}
 use Rattle.std.specs.Prelude.{slice_get, slice_set, nat_lt, nat_eq, replicate, Result, IfOk}
 use Rattle.std.proofs.lemmas.Bool.{ltb-true, ltb-false, lt-ltb, eqb-true, eq-eqb, ne_eqb, false≢true}
 use Rattle.std.proofs.lemmas.Option.{none-some, same_Some}
@@ -9,9 +9,8 @@ use Rattle.hera_code.specs.declared.instrs.Instr.{Instr}
 use Rattle.hera_code.specs.declared.instrs.BodyInfo.{BodyInfo}
 use Rattle.hera_code.specs.declared.instrs.Code.{Code}
 use Rattle.hera_typed.specs.Points.{Point, nothing}
-use Rattle.hera_typed.specs.Typed.{Points, IsFlowTo}
 use Rattle.hera_typed.specs.Effects.{Body_note, Goal, home, effect, is_placed}
-use Rattle.hera_typed.specs.Pass.{Found, Passed, stopped, through, from_point, follow_ways, follow_all, gathers_behind, behind_walk, step_at, step, starts_at, begun_with, passed_on, pass_from, pass, broken_behind, IsLeast, PassIsExact}
+use Rattle.hera_typed.specs.Pass.{Found, stopped, through, from_point, follow_ways, follow_all, gathers_behind, behind_walk, step, starts_at, begun_with, passed_on, pass_from, pass, broken_behind, IsLeast, PassIsExact}
 use Rattle.hera_effects.specs.declared.stacks.Node.{Node}
 use Rattle.hera_effects.specs.declared.spots.Spot.{Spot}
 use Rattle.hera_effects.specs.declared.spots.Ways.{Ways}
@@ -19,10 +18,9 @@ use Rattle.hera_effects.specs.Stacked.{IsSpot}
 use Rattle.hera_effects.specs.Ways.{Both, AreWays}
 use Rattle.hera_effects.proofs.Flattened.{drop_at}
 use Rattle.hera_verify.specs.declared.tables.Table.{Table}
-use Rattle.hera_verify.specs.declared.flow.Place.{Place}
 use Rattle.hera_verify.specs.declared.flow.Walker.{Walker}
-use Rattle.hera_verify.specs.Looks.{FlowsTo, Finds, FindsFlow}
-use Rattle.hera_verify.specs.Slots.{IsReach}
+use Rattle.hera_verify.specs.Looks.{FindsFlow}
+use Rattle.hera_verify.specs.Calls.{AreCalls}
 use Rattle.hera_verify.specs.Tables.{IsNearest, IsTable, Keeps, IsPlaced, IsWalked, HasPassed, fresh, begun_at, begins_at, AreStarts, if_behind}
 use Rattle.hera_verify.proofs.Spanning.{set_same, set_other, set_long, there}
 
@@ -163,6 +161,14 @@ module _ (code : Code) (rels : List RelDecl) (hosts : Hosts) (notes : List Body_
         by None k = absurd k
         by (Some p) k = is p k
 
+    pub keeps_known : {E : Type 0} (r : Result Bool E) (before : List Node) (old : Table) (spot : Spot) (a : ℕ) (f : Found) (T : Type 0) → slice_get old.spots.items a ≡ Some (Some spot) → IsTable before (length code.instrs) old f
+        → ((p : Point) → IsSpot before spot p → IfOk r (λ ok. T)) → IfOk r (λ ok. T)
+    keeps_known r before old spot a f T get h is = by (f.points a) (h.points a (Some spot) get)
+      where
+        by : (o : Option Point) → Both (IsSpot before) (Some spot) o → IfOk r (λ ok. T)
+        by None k = absurd k
+        by (Some p) k = is p k
+
     -- the instruction does not find what it needs
     pub follows_none : (t : Table) (a : ℕ) (i : Instr) (p : Point) (f : Found) → Both (AreWays nodes) None (effect code rels hosts notes (home code a) a i p) → Keeps nodes (length code.instrs) t false (from_point code rels hosts notes a i (Some p) f)
     follows_none t a i p f h = by (effect code rels hosts notes (home code a) a i p) h
@@ -186,8 +192,8 @@ module _ (code : Code) (rels : List RelDecl) (hosts : Hosts) (notes : List Body_
   passed_next a i f here h = sym (ap (λ is. pass_from code rels hosts notes a is f) (drop_at code.instrs a i here)) ∙ h
 
   pub passes : (a : ℕ) (i : Instr) (f : Found) (nodes : List Node) (t : Table) (w : Walker) (on : Bool) → slice_get code.instrs a ≡ Some i → pass_from code rels hosts notes a (drop a code.instrs) f ≡ pass code rels hosts notes
-      → w.table ≡ t → IsPlaced code a w.place → w.behind ≡ gathers_behind code rels hosts notes a (Some i) → Keeps nodes (length code.instrs) t on (step code rels hosts notes a i f) → HasPassed code rels hosts notes nodes w a on
-  passes a i f nodes t w on here h table place behind keeps = by on (step code rels hosts notes a i f) refl keeps
+      → w.table ≡ t → IsPlaced code a w.place → w.behind ≡ gathers_behind code rels hosts notes a (Some i) → AreCalls code rels hosts notes nodes w.calls.left → Keeps nodes (length code.instrs) t on (step code rels hosts notes a i f) → HasPassed code rels hosts notes nodes w a on
+  passes a i f nodes t w on here h table place behind calls keeps = by on (step code rels hosts notes a i f) refl keeps
     where
       here_on : w.behind ≡ behind_walk code rels hosts notes (a + 1)
       here_on = behind ∙ ap (gathers_behind code rels hosts notes a) (sym here) ∙ ap (behind_walk code rels hosts notes) (sym (add-one a))
@@ -200,6 +206,7 @@ module _ (code : Code) (rels : List RelDecl) (hosts : Hosts) (notes : List Body_
           table = subst (λ x. IsTable nodes (length code.instrs) x g) (sym table) k;
           place = record { there = place.there; reach = place.reach; begun = let begun = place.begun in omega (arith, begun) };
           behind = here_on;
+          calls = calls;
           passes = ap (λ n. pass_from code rels hosts notes n (drop (a + 1) code.instrs) g) (add-one a) ∙ sym (ap (passed_on code rels hosts notes a (λ f. pass_from code rels hosts notes (suc a) (drop (a + 1) code.instrs) f)) e) ∙ passed_next a i f here h;
         },
       )

@@ -4,5 +4,6 @@ pub mod Spanning
 pub mod Reaching
 pub mod Slot_looks
 pub mod Tabling
+pub mod Calling
 pub mod Flowing
 pub mod Verifying

@@ -1,5 +1,5 @@
 -- Notes that were read fit the code; and what the answer says of a run.
-use Rattle.std.proofs.Common.{◌≡◌, ◌<◌, ◌≤◌, ℕ, zero, suc, true, List, [], ◌∷◌, map, length, Some, None, refl, sym, ap, subst, ◌∙◌, arith}
+use Rattle.std.proofs.Common.{◌≡◌, ◌<◌, ℕ, zero, suc, true, List, [], ◌∷◌, map, length, Some, refl, sym, ap, ◌∙◌, arith}
 use Rattle.std.specs.Prelude.{slice_get, slice_index_or, All}
 use Rattle.std.proofs.lemmas.Option.{none-some, same_Some}
 use Rattle.hera_meaning.specs.declared.schemas.RelDecl.{RelDecl}
@@ -9,7 +9,6 @@ use Rattle.hera_meaning.specs.Sound.{is_spec}
 use Rattle.hera_host.specs.Tables.{Host, specs_of, AreHosts}
 use Rattle.hera_code.specs.declared.instrs.BodyInfo.{BodyInfo}
 use Rattle.hera_code.specs.declared.instrs.Code.{Code}
-use Rattle.hera_typed.specs.declared.notes.SlotNote.{SlotNote}
 use Rattle.hera_typed.specs.declared.notes.BodyNote.{BodyNote}
 use Rattle.hera_typed.specs.declared.notes.Notes.{Notes}
 use Rattle.hera_typed.specs.Effects.{Body_note}

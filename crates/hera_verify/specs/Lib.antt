@@ -3,3 +3,4 @@ pub mod Looks
 pub mod Spans
 pub mod Slots
 pub mod Tables
+pub mod Calls

@@ -14,6 +14,7 @@ use Rattle.hera_verify.specs.declared.tables.Table.{Table}
 use Rattle.hera_verify.specs.declared.flow.Place.{Place}
 use Rattle.hera_verify.specs.declared.flow.Walker.{Walker}
 use Rattle.hera_verify.specs.Slots.{IsReach}
+use Rattle.hera_verify.specs.Calls.{AreCalls}
 
 -- the least broken address behind the code
 abbrev pub IsNearest : ℕ → (ℕ → Bool) → Option ℕ → Type 0
@@ -46,6 +47,7 @@ module _ (code : Code) (rels : List RelDecl) (hosts : Hosts) (notes : List Body_
     pub table : IsTable nodes (length code.instrs) w.table f
     pub place : IsPlaced code a w.place
     pub behind : w.behind ≡ behind_walk code rels hosts notes a
+    pub calls : AreCalls code rels hosts notes nodes w.calls.left
     pub passes : pass_from code rels hosts notes a (drop a code.instrs) f ≡ pass code rels hosts notes
 
   -- with one address more, or the pass stops there

@@ -6,14 +6,16 @@ ghost use Rattle.hera_typed.specs.Effects.{home};
 ghost use Rattle.hera_typed.specs.Pass.{Found, behind_walk, from_point, step, begun_with};
 ghost use Rattle.hera_host.specs.Tables.{specs_of};
 ghost use Rattle.hera_effects.specs.Stacked.{IsSpot, Grows};
+ghost use Rattle.hera_verify.specs.Calls.{AreCalls};
 ghost use Rattle.hera_verify.specs.Looks.{FindsFlow};
 ghost use Rattle.hera_verify.specs.Slots.{IsReach};
 ghost use Rattle.hera_verify.specs.Tables.{IsTable, Keeps, IsPlaced, IsWalked, HasPassed, begun_at, AreStarts, if_behind};
 
+use crate::calls::{Calls, effect_once, no_calls};
 use crate::reaches::{Reach, first_reach};
 use crate::tables::Table;
 use hera_code::{Bodies, Code, Instr};
-use hera_effects::{Around, Spot, Stacks, effect, gathers_behind, is_placed};
+use hera_effects::{Around, Spot, Stacks, gathers_behind, is_placed};
 use hera_typed::pass_is_exact;
 use std::alloc::{AllocError, Global};
 
@@ -24,11 +26,12 @@ pub(crate) struct Place {
     pub reach: Reach,
 }
 
-/// What is kept of the addresses that were passed: what was found, the body of the last one, and whether what stands
+/// What is kept of the addresses that were passed: what was found, what calls leave, the body of the last one, and whether what stands
 /// behind it may stand behind a walk, if it is one.
 #[derive(Drop)]
 pub(crate) struct Walker {
     pub table: Table,
+    pub calls: Calls,
     pub place: Place,
     pub behind: bool,
 }
@@ -108,6 +111,7 @@ fn first(alloc: Global, around: &Around) -> Result<Walker, AllocError>
             broken,
             far: None,
         },
+        calls: no_calls(alloc),
         place: Place {
             body: 0,
             reach: first_reach(around.code),
@@ -122,6 +126,7 @@ fn from_spot(
     around: &Around,
     stacks: &mut Stacks,
     table: &mut Table,
+    calls: &mut Calls,
     place: Place,
     a: usize,
     instr: &Instr,
@@ -131,10 +136,12 @@ fn from_spot(
     requires there { place.body < length around.now.code.now.bodies }
     requires reach { IsReach around.now.code.now place.body place.reach }
     requires home { home around.now.code.now a ≡ place.body }
+    requires calls { AreCalls around.now.code.now around.now.relations.now (specs_of around.now.hosts.now.names) (notes_of around.now.notes.now) stacks.old calls.old.left }
     ensures grows { Grows stacks.old stacks.new }
     ensures follows { (f : Found) → (p : Point) → IsTable stacks.old (length around.now.code.now.instrs) table.old f → IsSpot stacks.old spot p → IfOk result (λ ok. Keeps stacks.new (length around.now.code.now.instrs) table.new ok (from_point around.now.code.now around.now.relations.now (specs_of around.now.hosts.now.names) (notes_of around.now.notes.now) a instr.now (Some p) f)) }
+    ensures kept { (p : Point) → IsSpot stacks.old spot p → IfOk result (λ ok. AreCalls around.now.code.now around.now.relations.now (specs_of around.now.hosts.now.names) (notes_of around.now.notes.now) stacks.new calls.new.left) }
 {
-    let ways = effect(alloc, around, stacks, place.body, a, instr, spot)?;
+    let ways = effect_once(alloc, around, stacks, calls, place.body, a, instr, spot)?;
     match ways {
         Some(ways) => {
             stacks.tell_shared();
@@ -157,6 +164,7 @@ fn step(
     around: &Around,
     stacks: &mut Stacks,
     table: &mut Table,
+    calls: &mut Calls,
     place: Place,
     a: usize,
     instr: &Instr,
@@ -169,8 +177,10 @@ fn step(
     requires reach { IsReach around.now.code.now place.body place.reach }
     requires home { home around.now.code.now a ≡ place.body }
     requires behind { behind ≡ behind_walk around.now.code.now around.now.relations.now (specs_of around.now.hosts.now.names) (notes_of around.now.notes.now) a }
+    requires calls { AreCalls around.now.code.now around.now.relations.now (specs_of around.now.hosts.now.names) (notes_of around.now.notes.now) stacks.old calls.old.left }
     ensures grows { Grows stacks.old stacks.new }
     ensures steps { (f : Found) → IsTable stacks.old (length around.now.code.now.instrs) table.old f → IfOk result (λ ok. Keeps stacks.new (length around.now.code.now.instrs) table.new ok (step around.now.code.now around.now.relations.now (specs_of around.now.hosts.now.names) (notes_of around.now.notes.now) a instr.now f)) }
+    ensures kept { (f : Found) → IsTable stacks.old (length around.now.code.now.instrs) table.old f → IfOk result (λ ok. AreCalls around.now.code.now around.now.relations.now (specs_of around.now.hosts.now.names) (notes_of around.now.notes.now) stacks.new calls.new.left) }
 {
     let broken = table.is_broken(a);
     let placed = is_placed(around, place.body, a, instr);
@@ -178,7 +188,7 @@ fn step(
         return Ok(false);
     }
     match table.spot_at(a) {
-        Some(spot) => from_spot(alloc, around, stacks, table, place, a, instr, spot),
+        Some(spot) => from_spot(alloc, around, stacks, table, calls, place, a, instr, spot),
         None => Ok(true),
     }
 }
@@ -204,6 +214,7 @@ fn pass_one(
         around,
         stacks,
         &mut walker.table,
+        &mut walker.calls,
         place,
         a,
         instr,

@@ -3,6 +3,7 @@
 #![tactic(auto)]
 
 mod bodies;
+mod calls;
 mod flow;
 mod laws;
 mod reaches;

@@ -51,7 +51,8 @@ fn answer(alloc: Global, file: &CodeFile, hosts: &HostTable) -> Result<Option<u3
 }
 
 /// Whether code with its notes is typed code over its relations and these hosts. It takes one pass over the
-/// instructions, bodies and slots, and one for each doubling of a slot's range.
+/// instructions, bodies and slots, and one for each doubling of a slot's range. A call takes a step for each parameter,
+/// once for each body and list of operands, and an operation one for each operand.
 pub fn verify(alloc: Global, file: &CodeFile, hosts: &HostTable) -> Result<(), VerifyFault>
     requires short { length file.now.code.instrs < 2 ^ 32 }
     requires noted { AreNoted file.now.code.bodies file.now.notes.bodies.items }

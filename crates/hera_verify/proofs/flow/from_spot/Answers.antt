@@ -10,7 +10,7 @@ use Rattle.hera_verify.proofs.flow.from_spot.Goals as goal
 
 pub returns-in-Some-clause-follows : goal.returns-in-Some-clause-follows
 returns-in-Some-clause-follows g c f p is spot =
-    let nodes = c.effect.new.stacks in
+    let nodes = c.effect_once.new.stacks in
     let home = sym c.requires.home in
     let own = c.in_ok-ways.ensures.effect p spot in
     follows_some c.args.around.now.code.now c.args.around.now.relations.now (specs_of c.args.around.now.hosts.now.names) (notes_of c.args.around.now.notes.now) nodes c.follow_all.new.self c.follow_all.result c.in-Some.ways c.args.a c.args.instr.now p f

@@ -1,4 +1,4 @@
-use Rattle.std.proofs.Common.{sym, subst, refl, ap, ◌∙◌, arith}
+use Rattle.std.proofs.Common.{sym, subst, ap, ◌∙◌, arith}
 use Rattle.hera_host.specs.Tables.{specs_of}
 use Rattle.hera_typed.specs.Notes.{notes_of}
 use Rattle.hera_typed.specs.Pass.{begun_with}

@@ -1,4 +1,4 @@
-use Rattle.std.proofs.Common.{◌<◌, ◌≤◌, ◌+◌, length, ap, ◌∙◌, arith}
+use Rattle.std.proofs.Common.{◌<◌, ◌+◌, length, ap, ◌∙◌, arith}
 use Rattle.hera_verify.proofs.Spanning.{set_long, at_index, widen_on, widen_ends}
 use Rattle.hera_verify.proofs.spans.widen.Goals as goal
 

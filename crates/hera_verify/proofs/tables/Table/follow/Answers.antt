@@ -1,4 +1,4 @@
-use Rattle.std.proofs.Common.{length, refl, arith}
+use Rattle.std.proofs.Common.{length, arith}
 use Rattle.std.proofs.lemmas.Bool.{false≢true}
 use Rattle.hera_typed.specs.Effects.{home}
 use Rattle.hera_verify.proofs.Tabling.{follows_out}

@@ -1,4 +1,4 @@
-use Rattle.std.proofs.Common.{refl, sym}
+use Rattle.std.proofs.Common.{refl}
 use Rattle.std.proofs.lemmas.Bool.{false≢true}
 use Rattle.hera_verify.proofs.Tabling.{meets_same, meets_other}
 use Rattle.hera_verify.proofs.tables.Table.meet.Goals as goal

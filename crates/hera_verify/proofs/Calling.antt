@@ -1,0 +1,112 @@
+-- A call that was looked at does the same again.
+use Rattle.std.proofs.Common.{◌≡◌, ℕ, ◌+◌, Bool, true, false, cond, ◌&&◌, List, [], ◌∷◌, take, length, Option, None, Some, refl, sym, ap, subst, ◌∙◌, arith}
+use Rattle.std.specs.Prelude.{slice_get, nat_lt}
+use Rattle.std.specs.BTreeMap.{BTreeMap, is_at, get, Updates}
+use Rattle.std.specs.declared.cmp.Ordering.{Ordering}
+use Rattle.std.specs.declared.cmp.Ordering.TheVariants.{Less, Equal, Greater}
+use Rattle.std.specs.Ordering.{nat_cmp, is_eq}
+use Rattle.std.proofs.lemmas.Bool.{both_ways}
+use Rattle.std.proofs.lemmas.Map.Lookups.{exact_pairs, exact_unsigned}
+use Rattle.std.proofs.lemmas.Option.{same_Some}
+use Rattle.hera_meaning.specs.declared.schemas.RelDecl.{RelDecl}
+use Rattle.hera_meaning.specs.Hosts.{Hosts}
+use Rattle.hera_code.specs.declared.instrs.Code.{Code}
+use Rattle.hera_code.specs.declared.instrs.BodyInfo.{BodyInfo}
+use Rattle.hera_code.specs.declared.instrs.Instr.TheVariants.{Call}
+use Rattle.hera_typed.specs.Points.{Seen, Point, Cut, cut, with, when, all_agree}
+use Rattle.hera_typed.specs.Effects.{Body_note, Goal, goal, goes, with_operands, pushed_result, slot_forms, effect}
+use Rattle.hera_effects.specs.declared.stacks.Node.{Node}
+use Rattle.hera_effects.specs.declared.spots.Spot.{Spot}
+use Rattle.hera_effects.specs.declared.spots.Ways.{Ways}
+use Rattle.hera_effects.specs.Stacked.{AreOperands, AreWalks, IsSpot, Grows}
+use Rattle.hera_effects.specs.Ways.{Both, AreWays, listed, all_to}
+use Rattle.hera_effects.proofs.Stacking.{operands_grow, operands_one}
+use Rattle.hera_effects.proofs.Walking.{one_way}
+use Rattle.hera_verify.specs.Calls.{order, Leaves, AreCalls}
+
+-- ---- what a call makes of operands
+
+abbrev head_point : List Goal → Option Point
+head_point [] = None
+head_point (g ∷ gs) = g.point
+
+point_of : (ways : List ℕ) (g : Goal) (o : Option Point) → g ∷ [] ≡ all_to ways o → g.point ≡ o
+point_of [] g o e = absurd (omega (arith, ap length e))
+point_of (b ∷ ways) g o e = ap head_point e
+
+spot_of : (nodes : List Node) (ways : Option Spot) (s : Spot) (o : Option Point) (q : Point) → ways ≡ Some s → Some q ≡ o → Both (IsSpot nodes) ways o → IsSpot nodes s q
+spot_of nodes ways s o q e is h = subst (λ x. Both (IsSpot nodes) x (Some q)) e (subst (λ x. Both (IsSpot nodes) ways x) (sym is) h)
+
+exact : (x y : ℕ × ℕ) → order x y ≡ Equal → x ≡ y
+exact x y e = exact_pairs nat_cmp nat_cmp exact_unsigned exact_unsigned x y e
+
+is_equal : (o : Ordering) → is_eq o ≡ true → o ≡ Equal
+is_equal Less e = absurd (both_ways (is_eq Less) refl e)
+is_equal Equal e = refl
+is_equal Greater e = absurd (both_ways (is_eq Greater) refl e)
+
+module _ (code : Code) (rels : List RelDecl) (hosts : Hosts) (notes : List Body_note) where
+  abbrev leaves_of : ℕ → List Seen → Option (List Seen)
+  leaves_of j ss =
+      with (slice_get code.bodies j) (λ b. with (slice_get notes j) (λ n. with (cut b.params [] ss) (λ c. when (nat_lt 0 j && all_agree c.args (take b.params (slot_forms n.slots))) (Some (pushed_result n.result c.rest)))))
+
+  call_is : (k a j : ℕ) (p : Point) → effect code rels hosts notes k a (Call j) p ≡ with (leaves_of j p.operands) (λ ss. goes (a + 1) (with_operands ss p))
+  call_is k a j p = by (slice_get code.bodies j) (slice_get notes j)
+    where
+      last : (v : Bool) (ss : List Seen) → when v (goes (a + 1) (with_operands ss p)) ≡ with (when v (Some ss)) (λ ss. goes (a + 1) (with_operands ss p))
+      last true ss = refl
+      last false ss = refl
+
+      inner : (b : BodyInfo) (n : Body_note) (o : Option Cut) → with o (λ c. when (nat_lt 0 j && all_agree c.args (take b.params (slot_forms n.slots))) (goes (a + 1) (with_operands (pushed_result n.result c.rest) p)))
+          ≡ with (with o (λ c. when (nat_lt 0 j && all_agree c.args (take b.params (slot_forms n.slots))) (Some (pushed_result n.result c.rest)))) (λ ss. goes (a + 1) (with_operands ss p))
+      inner b n None = refl
+      inner b n (Some c) = last (nat_lt 0 j && all_agree c.args (take b.params (slot_forms n.slots))) (pushed_result n.result c.rest)
+
+      by : (ob : Option BodyInfo) (on : Option Body_note) → with ob (λ b. with on (λ n. with (cut b.params [] p.operands) (λ c. when (nat_lt 0 j && all_agree c.args (take b.params (slot_forms n.slots))) (goes (a + 1) (with_operands (pushed_result n.result c.rest) p)))))
+          ≡ with (with ob (λ b. with on (λ n. with (cut b.params [] p.operands) (λ c. when (nat_lt 0 j && all_agree c.args (take b.params (slot_forms n.slots))) (Some (pushed_result n.result c.rest)))))) (λ ss. goes (a + 1) (with_operands ss p))
+      by None on = refl
+      by (Some b) None = refl
+      by (Some b) (Some n) = inner b n (cut b.params [] p.operands)
+
+  module _ (nodes : List Node) where
+    pub leaves_so : (k a j id : ℕ) (p : Point) (w : Ways) (s : Spot) → AreOperands nodes id p.operands → w.point ≡ Some s → Both (AreWays nodes) (Some w) (effect code rels hosts notes k a (Call j) p) → Leaves code rels hosts notes nodes j id s.operands
+    leaves_so k a j id p w s own point h = by (leaves_of j p.operands) refl (subst (λ o. Both (AreWays nodes) (Some w) o) (call_is k a j p) h)
+      where
+        by : (o : Option (List Seen)) → leaves_of j p.operands ≡ o → Both (AreWays nodes) (Some w) (with o (λ ss. goes (a + 1) (with_operands ss p))) → Leaves code rels hosts notes nodes j id s.operands
+        by None e h = absurd h
+        by (Some ss) e h =
+            let spot = spot_of nodes w.point s h.point (with_operands ss p) point (point_of (listed w.first w.second) (goal (a + 1) (with_operands ss p)) h.point h.goals) h.point_is in
+            record {
+              before = p.operands;
+              after = ss;
+              operands_are = own;
+              left_are = spot.operands;
+              does = λ k b q is. call_is k b j q ∙ ap (λ o. with o (λ ts. goes (b + 1) (with_operands ts q))) (ap (leaves_of j) is ∙ e);
+            }
+
+    pub known_so : (calls : BTreeMap (ℕ × ℕ) ℕ) (k a j left : ℕ) (p : Point) (spot s : Spot) (w : Ways) → AreCalls code rels hosts notes nodes calls → get order calls (j, spot.operands) ≡ Some left → IsSpot nodes spot p
+        → w.first ≡ Some (a + 1) → w.second ≡ None → w.point ≡ Some s → s.operands ≡ left → s.walks ≡ spot.walks → s.layers ≡ spot.layers → Both (AreWays nodes) (Some w) (effect code rels hosts notes k a (Call j) p)
+    known_so calls k a j left p spot s w h at is first-is second-is point-is operands walks layers =
+        let x = h j spot.operands left at in
+        let same : p.operands ≡ x.before = operands_one nodes p.operands x.before spot.operands is.operands x.operands_are in
+        subst (λ o. Both (AreWays nodes) (Some w) o) (sym (x.does k a p same))
+        (one_way nodes w s (a + 1) (with_operands x.after p) first-is second-is point-is (record {
+          operands = subst (λ (n : ℕ). AreOperands nodes n x.after) (sym operands) x.left_are;
+          walks = subst (λ (n : ℕ). AreWalks nodes n p.walks) (sym walks) is.walks;
+          layers = layers ∙ is.layers;
+        }))
+
+    pub calls_more : (before after : BTreeMap (ℕ × ℕ) ℕ) (j id left : ℕ) → AreCalls code rels hosts notes nodes before → Leaves code rels hosts notes nodes j id left → Updates order before after (j, id) (Some left) → AreCalls code rels hosts notes nodes after
+    calls_more before after j id left h own put i operands gone at = by (is_at (order (j, id)) (i, operands)) refl
+      where
+        by : (v : Bool) → is_at (order (j, id)) (i, operands) ≡ v → Leaves code rels hosts notes nodes i operands gone
+        by true e =
+            let same : (j, id) ≡ (i, operands) = exact (j, id) (i, operands) (is_equal (order (j, id) (i, operands)) e) in
+            let value : left ≡ gone = same_Some left gone (sym put.1 ∙ ap (get order after) same ∙ at) in
+            subst (λ (x : ℕ × ℕ). Leaves code rels hosts notes nodes x.0 x.1 gone) same (subst (λ (n : ℕ). Leaves code rels hosts notes nodes j id n) value own)
+        by false e = h i operands gone (sym (put.0 (i, operands) ∙ ap (λ b. cond b (Some left) (get order before (i, operands))) e) ∙ at)
+
+  pub calls_grow : (a b : List Node) (calls : BTreeMap (ℕ × ℕ) ℕ) → Grows a b → AreCalls code rels hosts notes a calls → AreCalls code rels hosts notes b calls
+  calls_grow a b calls grows h j operands left at =
+      let x = h j operands left at in
+      record { before = x.before; after = x.after; operands_are = operands_grow a b x.before operands grows x.operands_are; left_are = operands_grow a b x.after left grows x.left_are; does = x.does }
