@@ -4,7 +4,7 @@ use Rattle.std.specs.List.{flat_map}
 use Rattle.std.proofs.lemmas.Bool.{both_ways, and_parts, and_from, false≢true, false_from_ne_true, or_cases}
 use Rattle.std.proofs.lemmas.List.{drop_at}
 use Rattle.std.proofs.lemmas.List.Elements.{All-head, All-tail}
-use Rattle.hera_sets.specs.Rows.{Row, is_below, is_same, IsBelowAll, IsAscending, holds, normal}
+use Rattle.hera_sets.specs.Rows.{Row, is_same, IsAscending, holds, normal}
 use Rattle.hera_sets.proofs.Order.{same_true, same_itself}
 use Rattle.hera_sets.proofs.Lists.{ascending_filter}
 use Rattle.hera_sets.proofs.Members.{same_rows, ascending_normal, holds-normal, holds-filter}
@@ -16,7 +16,7 @@ use Rattle.hera_meaning.specs.Relations.{piece_at, at_places, project_of}
 use Rattle.hera_meaning.specs.Aggregates.{rows_of_key}
 use Rattle.hera_row.proofs.FieldLemmas.{first_piece-field_bytes}
 use Rattle.hera_row.proofs.RowLemmas.{first_field}
-use Rattle.rel_algebra.specs.Fronts.{begins, begun_of, rows_behind}
+use Rattle.rel_algebra.specs.Fronts.{begun_of, rows_behind}
 use Rattle.rel_algebra.proofs.FrontLemmas.{ascending_behind, holds-behind}
 use Rattle.hera_aggregate.specs.Groups.{keyed_row}
 

@@ -3,3 +3,4 @@ pub mod Bests
 pub mod KeyLemmas
 pub mod GroupLemmas
 pub mod KeySteps
+pub mod PartLemmas

@@ -6,7 +6,7 @@ use crate::ends::AggEnd;
 use hera_rows::{RowMark, Sorted};
 
 /// The most rows that an int counts: 2^63 - 1.
-const ROWS_LIMIT: u64 = 9_223_372_036_854_775_807;
+pub const ROWS_LIMIT: u64 = 9_223_372_036_854_775_807;
 
 /// How many rows there are, and Overflow for more than 2^63 - 1. It takes no memory.
 pub fn count<A: Sorted>(a: &A) -> Result<i64, AggEnd>

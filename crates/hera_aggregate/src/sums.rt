@@ -6,7 +6,7 @@ ghost use Rattle.hera_meaning.specs.Aggregates.{is_few, int_of, sum_of};
 ghost use Rattle.rel_algebra.specs.Fronts.{rows_behind};
 
 use crate::behind::behind;
-use crate::counting::count;
+use crate::counting::ROWS_LIMIT;
 use crate::ends::AggEnd;
 use hera_meaning::{ScalarRef, Schema};
 use hera_row::field;
@@ -21,25 +21,31 @@ pub fn sum<A: Sorted>(schema: &Schema, i: usize, a: &A) -> Result<i64, AggEnd>
     ensures fits { OnOk result ((is_few (A.rows a.now) && fits_int (sum_of schema.now i (A.rows a.now))) ≡ true) }
     ensures overflow { IfErr result (λ end. (end ≡ AggEnd.Overflow) × ((is_few (A.rows a.now) && fits_int (sum_of schema.now i (A.rows a.now))) ≡ false)) }
 {
-    count(a)?;
-    narrowed(total(schema, i, 0, a))
+    narrowed(total(schema, i, 0, a)?)
 }
 
-/// The sum of at most 2^63 - 1 rows without their first `skip` bytes, which 128 bits hold.
-pub fn total<A: Sorted>(schema: &Schema, i: usize, skip: usize, a: &A) -> i128
+/// The sum of the rows without their first `skip` bytes, and Overflow for more than 2^63 - 1 rows: 128 bits hold the
+/// sum of so many.
+pub fn total<A: Sorted>(schema: &Schema, i: usize, skip: usize, a: &A) -> Result<i128, AggEnd>
     requires rows { All (IsRow schema.now) (rows_behind skip (A.rows a.now)) }
     requires within { i < length schema.now }
-    requires few { is_few (A.rows a.now) ≡ true }
-    ensures { result ≡ sum_of schema.now i (rows_behind skip (A.rows a.now)) }
+    ensures sum { IfOk result (λ total. total ≡ sum_of schema.now i (rows_behind skip (A.rows a.now))) }
+    ensures few { OnOk result (is_few (A.rows a.now) ≡ true) }
+    ensures overflow { IfErr result (λ end. (end ≡ AggEnd.Overflow) × (is_few (A.rows a.now) ≡ false)) }
 {
+    let mut n: u64 = 0;
     let mut total: i128 = 0;
     let mut last: Option<&[u8]> = None;
     let mut mark = RowMark::start();
     while let Some(row) = a.above_from(last, &mut mark) {
+        if n == ROWS_LIMIT {
+            return Err(AggEnd::Overflow);
+        }
+        n += 1;
         total += i128::from(int_at(schema, behind(row, skip), i));
         last = Some(row);
     }
-    total
+    Ok(total)
 }
 
 /// The int at place `i` of a row, and 0 where another scalar stands there.

@@ -1,21 +1,21 @@
 -- A left row and a right row, attribute by attribute of the right schema.
-use Rattle.std.proofs.Common.{◌≡◌, ℕ, suc, ◌+◌, ◌≤◌, Bool, true, false, cond, not, ◌||◌, ◌&&◌, List, [], ◌∷◌, ◌++◌, Some, None, is_some, length, take, drop, refl, sym, ap, ◌∙◌, subst, arith, append_assoc, length-append}
+use Rattle.std.proofs.Common.{◌≡◌, ℕ, zero, suc, Option, ◌+◌, ◌≤◌, Bool, true, false, cond, not, ◌||◌, ◌&&◌, List, [], ◌∷◌, ◌++◌, Some, None, is_some, length, take, drop, refl, sym, ap, ◌∙◌, subst, arith, append_assoc, length-append}
 use Rattle.std.specs.List.{filter, list_any, list_all, flat_map, position_from, slice_get}
 use Rattle.std.proofs.Math.Seq.{take-add}
-use Rattle.std.proofs.lemmas.Bool.{both_ways, and_parts, or_parts}
+use Rattle.std.proofs.lemmas.Bool.{both_ways, and_parts, or_parts, false≢true}
 use Rattle.std.proofs.lemmas.Option.{none-some, same_Some}
 use Rattle.std.proofs.lemmas.List.{append-nil, drop_all}
 use Rattle.hera_sets.specs.Rows.{Row, is_same, holds}
 use Rattle.hera_sets.proofs.Order.{same_true, same_itself, before, level, behind, stands}
 use Rattle.hera_meaning.specs.declared.schemas.Attr.{Attr}
-use Rattle.hera_meaning.specs.Schemas.{AreDistinct, names_of}
+use Rattle.hera_meaning.specs.Schemas.{AreDistinct, names_of, place_named}
 use Rattle.hera_meaning.specs.Rows.{first_piece, pieces}
 use Rattle.hera_meaning.specs.Relations.{piece_at, has_name, piece_named, common, agree}
 use Rattle.hera_row.proofs.RowLemmas.{drop_attr}
 use Rattle.rel_algebra.specs.Fronts.{begins}
 use Rattle.rel_algebra.proofs.PieceLemmas.{first_piece_front}
 use Rattle.rel_algebra.proofs.FrontLemmas.{begins_from}
-use Rattle.join_exec.specs.Leading.{leading_of, shared_of}
+use Rattle.join_exec.specs.Leading.{places_in, ArePlaces, leading_of, shared_of}
 
 -- ---- a name's place
 
@@ -57,6 +57,44 @@ piece_named-nowhere name (a ∷ attrs) row i h = by (piece_named-nowhere name at
     by : (position_from (λ a. is_same name a.name) (i + 1) attrs ≡ None → [] ≡ piece_named name attrs (pieces attrs rest)) → (v : Bool) → is_same name a.name ≡ v → cond v (Some i) (position_from (λ a. is_same name a.name) (i + 1) attrs) ≡ None → [] ≡ piece_named name (a ∷ attrs) (pieces (a ∷ attrs) row)
     by more true e g = absurd (none-some i (sym g))
     by more false e g = rw e (more g)
+
+-- ---- places found once
+
+-- a place found is that of an attribute of the right schema
+found_of : (left right : List Attr) (place : ℕ) (o : Option ℕ) → slice_get (places_in left right) place ≡ Some o → (a : Attr) × (slice_get right place ≡ Some a) × (place_named a.name left ≡ o)
+found_of left [] place o h = absurd (none-some o h)
+found_of left (a ∷ attrs) zero o h = (a, refl, same_Some (place_named a.name left) o h)
+found_of left (a ∷ attrs) (suc n) o h = found_of left attrs n o h
+
+found_at : (left right : List Attr) (places : List (Option ℕ)) (place : ℕ) (o : Option ℕ) → ArePlaces left right places → slice_get places place ≡ Some o → (a : Attr) × (slice_get right place ≡ Some a) × (place_named a.name left ≡ o)
+found_at left right places place o p h = found_of left right place o (ap (λ t. slice_get t place) (sym p.each) ∙ h)
+
+name_found : (left : List Attr) (name : List ℕ) (n : ℕ) → place_named name left ≡ Some n → true ≡ has_name left name
+name_found left name n h = sym (sym (is_some-position (λ a. is_same name a.name) 0 left) ∙ ap is_some h)
+
+name_missing : (left : List Attr) (name : List ℕ) → place_named name left ≡ None → false ≡ has_name left name
+name_missing left name h = sym (sym (is_some-position (λ a. is_same name a.name) 0 left) ∙ ap is_some h)
+
+length_places : (left right : List Attr) → length (places_in left right) ≡ length right
+length_places left [] = refl
+length_places left (a ∷ attrs) = omega (arith, length_places left attrs)
+
+-- behind the last place no attribute is left
+pub none_left : (left right : List Attr) (places : List (Option ℕ)) (place : ℕ) → ArePlaces left right places → length places ≤ place → drop place right ≡ []
+none_left left right places place p h = drop_all place right (omega (arith, h, ap length p.each, length_places left right))
+
+-- one place more
+pub place_push : (left right : List Attr) (done after : List (Option ℕ)) (place : ℕ) (a : Attr) (name : List ℕ) (o : Option ℕ) → slice_get right place ≡ Some a → name ≡ a.name → o ≡ place_named name left → after ≡ done ++ o ∷ [] → after ++ places_in left (drop (place + 1) right) ≡ done ++ places_in left (drop place right)
+place_push left right done after place a name o at e h g =
+    ap (λ t. t ++ places_in left (drop (place + 1) right)) (g ∙ ap (λ v. done ++ v ∷ []) (h ∙ ap (λ n. place_named n left) e))
+    ∙ append_assoc done (place_named a.name left ∷ []) (places_in left (drop (place + 1) right))
+    ∙ ap (λ attrs. done ++ places_in left attrs) (sym (drop_attr right place a at))
+
+-- an attribute at a place has another name than one whose name is not among them
+other_name : (b a : Attr) (attrs : List Attr) (n : ℕ) → holds (names_of attrs) b.name ≡ false → slice_get attrs n ≡ Some a → is_same b.name a.name ≡ false
+other_name b a [] n h g = absurd (none-some a g)
+other_name b a (c ∷ attrs) zero h g = subst (λ z. is_same b.name z.name ≡ false) (same_Some c a g) (or_parts (is_same b.name c.name) (holds (names_of attrs) b.name) h).0
+other_name b a (c ∷ attrs) (suc n) h g = other_name b a attrs n (or_parts (is_same b.name c.name) (holds (names_of attrs) b.name) h).1 g
 
 -- ---- whether the rows agree, from an attribute on
 
@@ -132,6 +170,16 @@ same_turned a b h = elim (stands b a) [
   | behind _ _ s ↦ s
 ]
 
+-- the field at an attribute's own place is the field of its name
+own_place : (attrs : List Attr) (row : Row) (place : ℕ) (a : Attr) → AreDistinct (names_of attrs) → slice_get attrs place ≡ Some a → piece_at (pieces attrs row) place ≡ piece_named a.name attrs (pieces attrs row)
+own_place [] row place a apart h = absurd (none-some a h)
+own_place (b ∷ attrs) row zero a apart h =
+    let same : is_same a.name b.name ≡ true = ap (λ z. is_same a.name z.name) (same_Some b a h) ∙ same_itself a.name in
+    rw same refl
+own_place (b ∷ attrs) row (suc n) a apart h =
+    let other : is_same a.name b.name ≡ false = same_turned b.name a.name (other_name b a attrs n apart.0 h) in
+    rw other (own_place attrs (drop (length (first_piece b.kind row)) row) n a apart.1 h)
+
 -- attributes of other names are equal in what is behind the first field too
 agree_on-behind : (left : List Attr) (x : Row) (a : Attr) (attrs : List Attr) (y : Row) (rest : List Attr) → holds (names_of rest) a.name ≡ false → agree_on left (a ∷ attrs) x y rest ≡ agree_on left attrs x (drop (length (first_piece a.kind y)) y) rest
 agree_on-behind left x a attrs y [] h = refl
@@ -196,3 +244,71 @@ same_fields p q (a ∷ attrs) h =
 
 pub agree_shared : (left right : List Attr) (x y : Row) → agree left right (x, y) ≡ true → shared_of left right left x ≡ shared_of left right right y
 agree_shared left right x y h = same_fields (λ a. piece_named a.name left (pieces left x)) (λ a. piece_named a.name right (pieces right y)) (common left right) h
+
+-- ---- the same, by the places found
+
+none_at : (o : Option ℕ) → is_some o ≡ false → o ≡ None
+none_at None h = refl
+none_at (Some n) h = absurd (false≢true (sym h))
+
+some_at : (o : Option ℕ) → is_some o ≡ true → (n : ℕ) × (o ≡ Some n)
+some_at None h = absurd (false≢true h)
+some_at (Some n) h = (n, refl)
+
+pub leading_more : (left right : List Attr) (places : List (Option ℕ)) (x done piece after : Row) (place n : ℕ) → ArePlaces left right places → slice_get places place ≡ Some (Some n) → piece ≡ piece_at (pieces left x) n → after ≡ done ++ piece → after ++ leading_of left x (drop (place + 1) right) ≡ done ++ leading_of left x (drop place right)
+leading_more left right places x done piece after place n p h e g =
+    let r = found_at left right places place (Some n) p h in
+    leading_of-take left x right done piece after place r.0 r.0.name r.1 refl (name_found left r.0.name n r.2) (e ∙ piece_named-place r.0.name left x n r.2) g
+
+pub leading_stops : (left right : List Attr) (places : List (Option ℕ)) (x done : Row) (place : ℕ) → ArePlaces left right places → slice_get places place ≡ Some None → done ≡ done ++ leading_of left x (drop place right)
+leading_stops left right places x done place p h =
+    let r = found_at left right places place None p h in
+    leading_of-stop left x right done place r.0 r.0.name r.1 refl (name_missing left r.0.name r.2)
+
+pub leading_ends : (left right : List Attr) (places : List (Option ℕ)) (x done : Row) (place : ℕ) → ArePlaces left right places → length places ≤ place → done ≡ done ++ leading_of left x (drop place right)
+leading_ends left right places x done place p h = sym (ap (λ attrs. done ++ leading_of left x attrs) (none_left left right places place p h) ∙ append-nil done)
+
+-- where one attribute alone leads, its field is all that leads
+pub leading_alone : (left right : List Attr) (places : List (Option ℕ)) (x : Row) (n : ℕ) → ArePlaces left right places → slice_get places 0 ≡ Some (Some n) → leading_of left x (drop 1 right) ≡ [] → piece_at (pieces left x) n ≡ leading_of left x right
+leading_alone left right places x n p h alone =
+    sym (append-nil (piece_at (pieces left x) n))
+    ∙ ap (λ t. piece_at (pieces left x) n ++ t) (sym alone)
+    ∙ leading_more left right places x [] (piece_at (pieces left x) n) (piece_at (pieces left x) n) 0 n p h refl refl
+
+pub leading_short : (left right : List Attr) (places : List (Option ℕ)) (x : Row) → ArePlaces left right places → length places ≤ 1 → leading_of left x (drop 1 right) ≡ []
+leading_short left right places x p h = sym (leading_ends left right places x [] 1 p h)
+
+pub leading_stopped : (left right : List Attr) (places : List (Option ℕ)) (x : Row) (o : Option ℕ) → ArePlaces left right places → slice_get places 1 ≡ Some o → is_some o ≡ false → leading_of left x (drop 1 right) ≡ []
+leading_stopped left right places x o p h n = sym (leading_stops left right places x [] 1 p (h ∙ ap Some (none_at o n)))
+
+pub agree_skips : (left right : List Attr) (places : List (Option ℕ)) (x y : Row) (place : ℕ) → ArePlaces left right places → slice_get places place ≡ Some None → agree_on left right x y (drop (place + 1) right) ≡ agree_on left right x y (drop place right)
+agree_skips left right places x y place p h =
+    let r = found_at left right places place None p h in
+    agree_on-skip left right x y place r.0 r.0.name r.1 refl (name_missing left r.0.name r.2)
+
+pub agree_goes_on : (left right : List Attr) (places : List (Option ℕ)) (x y ours theirs : Row) (place n : ℕ) → ArePlaces left right places → slice_get places place ≡ Some (Some n) → ours ≡ piece_at (pieces left x) n → theirs ≡ piece_at (pieces right y) place → true ≡ is_same ours theirs → agree_on left right x y (drop (place + 1) right) ≡ agree_on left right x y (drop place right)
+agree_goes_on left right places x y ours theirs place n p h o t s =
+    let r = found_at left right places place (Some n) p h in
+    agree_on-same left right x y place r.0 r.0.name ours theirs r.1 refl (name_found left r.0.name n r.2) (o ∙ piece_named-place r.0.name left x n r.2) (t ∙ own_place right y place r.0 p.distinct r.1) s
+
+pub agree_fails : (left right : List Attr) (places : List (Option ℕ)) (x y ours theirs : Row) (place n : ℕ) → ArePlaces left right places → slice_get places place ≡ Some (Some n) → ours ≡ piece_at (pieces left x) n → theirs ≡ piece_at (pieces right y) place → false ≡ is_same ours theirs → false ≡ agree_on left right x y (drop place right)
+agree_fails left right places x y ours theirs place n p h o t s =
+    let r = found_at left right places place (Some n) p h in
+    agree_on-differ left right x y place r.0 r.0.name ours theirs r.1 refl (name_found left r.0.name n r.2) (o ∙ piece_named-place r.0.name left x n r.2) (t ∙ own_place right y place r.0 p.distinct r.1) s
+
+pub agree_ends : (left right : List Attr) (places : List (Option ℕ)) (x y : Row) (place : ℕ) → ArePlaces left right places → length places ≤ place → true ≡ agree_on left right x y (drop place right)
+agree_ends left right places x y place p h = sym (ap (agree_on left right x y) (none_left left right places place p h))
+
+pub rest_more : (left right : List Attr) (places : List (Option ℕ)) (y done piece after : Row) (place : ℕ) (o : Option ℕ) → ArePlaces left right places → slice_get places place ≡ Some o → is_some o ≡ false → piece ≡ piece_at (pieces right y) place → after ≡ done ++ piece → after ++ rest_at left right y (drop (place + 1) right) ≡ done ++ rest_at left right y (drop place right)
+rest_more left right places y done piece after place o p h n e g =
+    let r = found_at left right places place None p (h ∙ ap Some (none_at o n)) in
+    rest_at-take left right y done piece after place r.0 r.0.name r.1 refl (name_missing left r.0.name r.2) (e ∙ own_place right y place r.0 p.distinct r.1) g
+
+pub rest_skips : (left right : List Attr) (places : List (Option ℕ)) (y done : Row) (place : ℕ) (o : Option ℕ) → ArePlaces left right places → slice_get places place ≡ Some o → is_some o ≡ true → done ++ rest_at left right y (drop (place + 1) right) ≡ done ++ rest_at left right y (drop place right)
+rest_skips left right places y done place o p h n =
+    let at = some_at o n in
+    let r = found_at left right places place (Some at.0) p (h ∙ ap Some at.1) in
+    rest_at-skip left right y done place r.0 r.0.name r.1 refl (name_found left r.0.name at.0 r.2)
+
+pub rest_ends : (left right : List Attr) (places : List (Option ℕ)) (y done : Row) (place : ℕ) → ArePlaces left right places → length places ≤ place → done ≡ done ++ rest_at left right y (drop place right)
+rest_ends left right places y done place p h = sym (ap (λ attrs. done ++ rest_at left right y attrs) (none_left left right places place p h) ∙ append-nil done)

@@ -3,9 +3,10 @@ ghost use Rattle.std.specs.Prelude.{◌≡◌, ◌++◌, List, ℕ, cond, drop, 
 ghost use Rattle.hera_sets.specs.Rows.{IsAscending, holds, normal, put};
 ghost use Rattle.hera_meaning.specs.Relations.{agree, joined, join_of};
 ghost use Rattle.rel_algebra.specs.Fronts.{rows_behind};
-ghost use Rattle.join_exec.specs.Leading.{keyed_of};
+ghost use Rattle.join_exec.specs.Leading.{ArePlaces, keyed_of};
 
-use crate::pairing::{agree, joined, leading, leads, shared};
+use crate::beside::join_beside;
+use crate::pairing::{agree, joined, leading, leads, one_leading, places_of, shared};
 use hera_meaning::Schema;
 use hera_rows::{RowMark, RowSet, Sorted};
 use rel_algebra::Begun;
@@ -19,8 +20,8 @@ const FEW: usize = 4;
 /// a common attribute these are all pairs.
 ///
 /// Where the common attributes are the right schema's leading ones, the right rows of each left row
-/// are sought, beside those of the left row before. Else the right rows are put in the order of the
-/// common attributes first, unless the left rows are few.
+/// are sought, beside those of the left row before, unless these lead to them. Else the right rows are
+/// put in the order of the common attributes first, unless the left rows are few.
 pub fn join<A: Sorted, B: Sorted>(
     alloc: Global,
     left: &Schema,
@@ -30,10 +31,14 @@ pub fn join<A: Sorted, B: Sorted>(
 ) -> Result<RowSet, AllocError>
     ensures { IfOk result (λ set. set ≡ join_of left.now right.now (A.rows a.now) (B.rows b.now)) }
 {
-    if leads(left, right) || has_few(a) {
-        return join_sought(alloc, left, right, a, b);
+    let places = places_of(alloc, left, right)?;
+    if !leads(&places) && !has_few(a) {
+        return join_keyed(alloc, left, right, &places, a, b);
     }
-    join_keyed(alloc, left, right, a, b)
+    match one_leading(left, right, &places) {
+        Some(place) => join_beside(alloc, left, right, &places, place, a, b),
+        None => join_sought(alloc, left, right, &places, a, b),
+    }
 }
 
 /// Whether there are few rows. It says how to join, and not what.
@@ -54,9 +59,11 @@ fn join_sought<A: Sorted, B: Sorted>(
     alloc: Global,
     left: &Schema,
     right: &Schema,
+    places: &[Option<usize>],
     a: &A,
     b: &B,
 ) -> Result<RowSet, AllocError>
+    requires places { ArePlaces left.now right.now places.now }
     ensures { IfOk result (λ set. set ≡ join_of left.now right.now (A.rows a.now) (B.rows b.now)) }
 {
     let mut set = RowSet::new(alloc);
@@ -64,12 +71,21 @@ fn join_sought<A: Sorted, B: Sorted>(
     let mut mark = RowMark::start();
     let mut beside = RowMark::start();
     while let Some(row) = a.above_from(last, &mut mark) {
-        let front = leading(alloc, left, right, row)?;
+        let front = leading(alloc, left, right, places, row)?;
         let others = Begun {
             a: b,
             front: front.bytes(),
         };
-        put_joined(alloc, left, right, row, &others, &mut beside, &mut set)?;
+        put_joined(
+            alloc,
+            left,
+            right,
+            places,
+            row,
+            &others,
+            &mut beside,
+            &mut set,
+        )?;
         last = Some(row);
     }
     Ok(set)
@@ -80,36 +96,40 @@ fn put_joined<B: Sorted>(
     alloc: Global,
     left: &Schema,
     right: &Schema,
+    places: &[Option<usize>],
     row: &[u8],
     b: &B,
     mark: &mut RowMark,
     set: &mut RowSet,
 ) -> Result<(), AllocError>
+    requires places { ArePlaces left.now right.now places.now }
     ensures { (xs : List (List ℕ)) → set.old ≡ normal xs → OnOk result (set.new ≡ normal (xs ++ map (joined left.now right.now) (filter (agree left.now right.now) (map (λ other. (row.now, other)) (B.rows b.now))))) }
 {
     let mut last: Option<&[u8]> = None;
     while let Some(other) = b.above_from(last, mark) {
-        put_pair(alloc, left, right, row, other, set)?;
+        put_pair(alloc, left, right, places, row, other, set)?;
         last = Some(other);
     }
     Ok(())
 }
 
 /// Puts a left row joined with a right row into the set, if they agree.
-fn put_pair(
+pub(crate) fn put_pair(
     alloc: Global,
     left: &Schema,
     right: &Schema,
+    places: &[Option<usize>],
     row: &[u8],
     other: &[u8],
     set: &mut RowSet,
 ) -> Result<(), AllocError>
+    requires places { ArePlaces left.now right.now places.now }
     ensures { OnOk result (set.new ≡ cond (agree left.now right.now (row.now, other.now)) (put (joined left.now right.now (row.now, other.now)) set.old) set.old) }
 {
-    if !agree(left, right, row, other) {
+    if !agree(left, right, places, row, other) {
         return Ok(());
     }
-    let both = joined(alloc, left, right, row, other)?;
+    let both = joined(alloc, left, right, places, row, other)?;
     set.insert(both.bytes())?;
     Ok(())
 }
@@ -119,9 +139,11 @@ fn join_keyed<A: Sorted, B: Sorted>(
     alloc: Global,
     left: &Schema,
     right: &Schema,
+    places: &[Option<usize>],
     a: &A,
     b: &B,
 ) -> Result<RowSet, AllocError>
+    requires places { ArePlaces left.now right.now places.now }
     ensures { IfOk result (λ set. set ≡ join_of left.now right.now (A.rows a.now) (B.rows b.now)) }
 {
     let keyed = keyed(alloc, left, right, b)?;
@@ -140,6 +162,7 @@ fn join_keyed<A: Sorted, B: Sorted>(
             alloc,
             left,
             right,
+            places,
             row,
             b,
             key.len(),
@@ -181,6 +204,7 @@ fn put_keyed<B: Sorted, C: Sorted>(
     alloc: Global,
     left: &Schema,
     right: &Schema,
+    places: &[Option<usize>],
     row: &[u8],
     b: &B,
     skip: usize,
@@ -188,11 +212,12 @@ fn put_keyed<B: Sorted, C: Sorted>(
     mark: &mut RowMark,
     set: &mut RowSet,
 ) -> Result<(), AllocError>
+    requires places { ArePlaces left.now right.now places.now }
     ensures { (xs : List (List ℕ)) → set.old ≡ normal xs → OnOk result (set.new ≡ normal (xs ++ map (joined left.now right.now) (filter (agree left.now right.now) (map (λ other. (row.now, other)) (filter (holds (B.rows b.now)) (rows_behind skip (C.rows others.now))))))) }
 {
     let mut last: Option<&[u8]> = None;
     while let Some(keyed) = others.above_from(last, mark) {
-        put_held(alloc, left, right, row, behind(keyed, skip), b, set)?;
+        put_held(alloc, left, right, places, row, behind(keyed, skip), b, set)?;
         last = Some(keyed);
     }
     Ok(())
@@ -203,17 +228,19 @@ fn put_held<B: Sorted>(
     alloc: Global,
     left: &Schema,
     right: &Schema,
+    places: &[Option<usize>],
     row: &[u8],
     other: &[u8],
     b: &B,
     set: &mut RowSet,
 ) -> Result<(), AllocError>
+    requires places { ArePlaces left.now right.now places.now }
     ensures { OnOk result (set.new ≡ cond (holds (B.rows b.now) other.now) (cond (agree left.now right.now (row.now, other.now)) (put (joined left.now right.now (row.now, other.now)) set.old) set.old) set.old) }
 {
     if !b.has(other) {
         return Ok(());
     }
-    put_pair(alloc, left, right, row, other, set)
+    put_pair(alloc, left, right, places, row, other, set)
 }
 
 /// The bytes behind the first `skip`.

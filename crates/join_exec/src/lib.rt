@@ -6,6 +6,7 @@
 //! that begin with them are tried.
 #![tactic(auto)]
 
+mod beside;
 mod joining;
 mod pairing;
 

@@ -1,7 +1,8 @@
-use Rattle.std.proofs.Common.{◌≡◌, ℕ, List, [], ◌∷◌, ◌++◌, sym, ap, ◌∙◌, subst, map}
+use Rattle.std.proofs.Common.{◌≡◌, ℕ, List, [], ◌∷◌, ◌++◌, sym, ap, ◌∙◌, map}
 use Rattle.std.specs.Option.{option_copied}
 use Rattle.hera_sets.specs.Rows.{normal}
 use Rattle.hera_sets.proofs.Lists.{filter_past_none, walk_step, walk_end, walk_falls}
+use Rattle.hera_meaning.specs.Relations.{at_places}
 use Rattle.rel_algebra.proofs.Gathered.{image_more}
 use Rattle.hera_aggregate.specs.Groups.{keyed_row}
 use Rattle.hera_aggregate.proofs.groups.keyed.Goals as goal
@@ -16,7 +17,9 @@ pub loop-row-preserved : goal.loop-row-preserved
 loop-row-preserved g c =
     let row = c.in-Some.row.now in
     let keyed = keyed_row c.args.schema.now c.args.by.now in
-    let bytes : c.deref.result.now ≡ keyed row = c.deref.ensures.value ∙ c.in_ok-extend_from_slice.ensures.items ∙ ap (λ t. t ++ row) (c.into_vec-bytes.ensures ∙ c.in_ok-key.ensures) in (
+    let cleared : c.clear.new.self.items ≡ [] = c.clear.ensures.items in
+    let key : c.put_places.new.bytes.items ≡ at_places c.args.schema.now c.args.by.now row = c.in_ok-put_places.ensures ∙ ap (λ t. t ++ at_places c.args.schema.now c.args.by.now row) cleared in
+    let bytes : c.deref.result.now ≡ keyed row = c.deref.ensures.value ∙ c.in_ok-extend_from_slice.ensures.items ∙ ap (λ t. t ++ row) key in (
       c.loop-row.invariant.0 ++ row ∷ [],
       walk_step c.loop-row.invariant.0 (g.A.Sorted.rows c.args.a.now) (option_copied c.loop-row.last) row c.in-Some.ensures.ordered (sym c.in-Some.ensures.next) c.loop-row.invariant.1,
       image_more keyed c.loop-row.invariant.0 row c.deref.result.now c.loop-row.set c.insert.new.self bytes c.loop-row.invariant.2 c.in_ok-insert.ensures.ok,

@@ -1,10 +1,8 @@
-use Rattle.std.proofs.Common.{◌≡◌, ℕ, true, List, [], ◌∷◌, ◌++◌, length, sym, ap, ◌∙◌, subst}
-use Rattle.std.specs.List.{filter}
+use Rattle.std.proofs.Common.{ℕ, List, [], ◌∷◌, ◌++◌, sym, ap, ◌∙◌}
 use Rattle.std.specs.Option.{option_copied}
-use Rattle.hera_sets.specs.Rows.{holds, normal}
+use Rattle.hera_sets.specs.Rows.{normal}
 use Rattle.hera_sets.proofs.Lists.{filter_past_none, walk_step, walk_end, walk_falls}
-use Rattle.rel_algebra.specs.Fronts.{begins, begun_of, rows_behind}
-use Rattle.join_exec.proofs.Matches.{all_matches, matches_of, matches_of-begun, matches_of-keyed, all_matches-push}
+use Rattle.join_exec.proofs.Matches.{all_matches, matches_of-keyed, all_matches-push}
 use Rattle.join_exec.proofs.joining.join_keyed.Goals as goal
 
 pub loop-row-init : goal.loop-row-init

@@ -1,18 +1,21 @@
 use Rattle.std.proofs.Common.{◌∙◌}
-use Rattle.join_exec.proofs.PairLemmas.{agree_on-skip, agree_on-same, agree_on-differ}
+use Rattle.join_exec.proofs.PairLemmas.{agree_skips, agree_goes_on, agree_fails, agree_ends}
 use Rattle.join_exec.proofs.pairing.agree.Goals as goal
-use Rattle.join_exec.proofs.pairing.agree.Goals.{then-has_name+else-not-is_same, else-has_name}
+use Rattle.join_exec.proofs.pairing.agree.Goals.{in-Some+else-not-is_same, in_default}
 
 pub returns-then-not-is_same : goal.returns-then-not-is_same
 returns-then-not-is_same c =
-    agree_on-differ c.args.left.now c.args.right.now c.args.row.now c.args.other.now c.loop-place.place c.attr.result.now c.bytes-name.result.now c.piece_named-ours.result.now c.piece_named-theirs.result.now c.attr.ensures.attr c.bytes-name.ensures.bytes c.if-has_name.ensures c.piece_named-ours.ensures c.piece_named-theirs.ensures c.if-not-is_same.ensures
+    agree_fails c.args.left.now c.args.right.now c.args.places.now c.args.row.now c.args.other.now c.piece.result.now c.piece-in-Some.result.now c.loop-place.place c.in-Some.ours c.requires.places c.in-Some.ensures c.piece.ensures c.piece-in-Some.ensures c.if-not-is_same.ensures
     ∙ c.loop-place.invariant
 
 pub loop-place-preserved : goal.loop-place-preserved
 loop-place-preserved c =
-    elim c.if-has_name.branch [
-      | then-has_name+else-not-is_same w ↦
-          agree_on-same c.args.left.now c.args.right.now c.args.row.now c.args.other.now c.loop-place.place c.attr.result.now c.bytes-name.result.now w.piece_named-ours.result.now w.piece_named-theirs.result.now c.attr.ensures.attr c.bytes-name.ensures.bytes w.if-has_name.ensures w.piece_named-ours.ensures w.piece_named-theirs.ensures w.if-not-is_same.ensures
+    elim c.match-place_at.branch [
+      | in-Some+else-not-is_same w ↦
+          agree_goes_on c.args.left.now c.args.right.now c.args.places.now c.args.row.now c.args.other.now w.piece.result.now w.piece-in-Some.result.now c.loop-place.place w.in-Some.ours c.requires.places w.in-Some.ensures w.piece.ensures w.piece-in-Some.ensures w.if-not-is_same.ensures
           ∙ c.loop-place.invariant
-      | else-has_name w ↦ agree_on-skip c.args.left.now c.args.right.now c.args.row.now c.args.other.now c.loop-place.place c.attr.result.now c.bytes-name.result.now c.attr.ensures.attr c.bytes-name.ensures.bytes w.if-has_name.ensures ∙ c.loop-place.invariant
+      | in_default w ↦ agree_skips c.args.left.now c.args.right.now c.args.places.now c.args.row.now c.args.other.now c.loop-place.place c.requires.places w.in_default.ensures ∙ c.loop-place.invariant
     ]
+
+pub returns : goal.returns
+returns c = agree_ends c.args.left.now c.args.right.now c.args.places.now c.args.row.now c.args.other.now c.loop-place.place c.requires.places c.loop-place-test.false ∙ c.loop-place.invariant

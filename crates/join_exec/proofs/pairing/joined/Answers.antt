@@ -1,16 +1,19 @@
-use Rattle.std.proofs.Common.{◌++◌, drop, ◌+◌, ap, ◌∙◌}
-use Rattle.join_exec.proofs.PairLemmas.{rest_at, rest_at-skip, rest_at-take}
+use Rattle.std.proofs.Common.{◌++◌, ◌+◌, drop, ap, ◌∙◌}
+use Rattle.join_exec.proofs.PairLemmas.{rest_at, rest_more, rest_skips, rest_ends}
 use Rattle.join_exec.proofs.pairing.joined.Goals as goal
-use Rattle.join_exec.proofs.pairing.joined.Goals.{then-not-has_name+in_ok-extend_from_slice, else-not-has_name}
+use Rattle.join_exec.proofs.pairing.joined.Goals.{then-is_none+in_ok-extend_from_slice-2, else-is_none}
 
 pub loop-place-preserved : goal.loop-place-preserved
 loop-place-preserved c =
-    elim c.if-not-has_name.branch [
-      | then-not-has_name+in_ok-extend_from_slice w ↦
-          rest_at-take c.args.left.now c.args.right.now c.args.other.now c.loop-place.both.items w.piece_named.result.now c.if-not-has_name.both.items c.loop-place.place c.attr.result.now c.bytes-name.result.now c.attr.ensures.attr c.bytes-name.ensures.bytes w.if-not-has_name.ensures w.piece_named.ensures ((λ i. (w.both-is i).items) ∙ w.in_ok-extend_from_slice.ensures.items)
+    elim c.if-is_none.branch [
+      | then-is_none+in_ok-extend_from_slice-2 w ↦
+          rest_more c.args.left.now c.args.right.now c.args.places.now c.args.other.now c.loop-place.both.items w.piece.result.now c.if-is_none.both.items c.loop-place.place c.place_at.result c.requires.places c.place_at.ensures w.if-is_none.ensures w.piece.ensures ((λ i. (w.both-is i).items) ∙ w.in_ok-extend_from_slice-2.ensures.items)
           ∙ c.loop-place.invariant
-      | else-not-has_name w ↦
+      | else-is_none w ↦
           ap (λ t. t ++ rest_at c.args.left.now c.args.right.now c.args.other.now (drop (c.loop-place.place + 1) c.args.right.now)) (λ i. (w.both-is i).items)
-          ∙ rest_at-skip c.args.left.now c.args.right.now c.args.other.now c.loop-place.both.items c.loop-place.place c.attr.result.now c.bytes-name.result.now c.attr.ensures.attr c.bytes-name.ensures.bytes w.if-not-has_name.ensures
+          ∙ rest_skips c.args.left.now c.args.right.now c.args.places.now c.args.other.now c.loop-place.both.items c.loop-place.place c.place_at.result c.requires.places c.place_at.ensures w.if-is_none.ensures
           ∙ c.loop-place.invariant
     ]
+
+pub returns : goal.returns
+returns c = c.from_vec.ensures ∙ rest_ends c.args.left.now c.args.right.now c.args.places.now c.args.other.now c.loop-place.both.items c.loop-place.place c.requires.places c.loop-place-test.false ∙ c.loop-place.invariant

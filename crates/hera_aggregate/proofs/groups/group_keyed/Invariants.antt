@@ -5,7 +5,7 @@ use Rattle.hera_sets.specs.Rows.{is_past, normal}
 use Rattle.hera_meaning.specs.Relations.{project_of}
 use Rattle.hera_meaning.specs.Aggregates.{group_row, rows_of_key}
 use Rattle.hera_aggregate.specs.Groups.{are_aggs_in_range}
-use Rattle.hera_aggregate.proofs.groups.group.Given as goal
+use Rattle.hera_aggregate.proofs.groups.group_keyed.Given as goal
 
 -- the keys done, their rows of the group, and that their sums are in range
 abbrev pub invariant-loop-key : goal.invariant-loop-key
