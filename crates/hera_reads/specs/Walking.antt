@@ -1,5 +1,5 @@
 -- Walks: what is left of them, over the state that a machine reads.
-use Rattle.std.specs.Prelude.{◌≡◌, ℕ, zero, suc, Bool, true, false, List, [], ◌∷◌, Option, None, Some, ◌++◌, drop, max, slice_get}
+use Rattle.std.specs.Prelude.{◌≡◌, ℕ, zero, suc, Bool, true, false, List, [], ◌∷◌, Option, None, Some, ◌++◌, drop, max, slice_get, IsSomeAnd, MatchBool}
 use Rattle.std.specs.List.{filter}
 use Rattle.hera_sets.specs.Rows.{Row, is_past, put}
 use Rattle.hera_meaning.specs.Deltas.{State, rows_at}
@@ -144,6 +144,10 @@ past_front ahead = past_left ahead.left ahead
 abbrev pub IsAhead : List Row → Row → List Row → Type 0
 IsAhead rows first [] = ⊥
 IsAhead rows first (x ∷ xs) = (x ≡ first) × (filter (is_past (Some first)) rows ≡ onward (Some first) xs rows)
+
+-- the first of the rows past a bound is passed, if there is one, and those that are left were read ahead behind it
+abbrev pub HasRead : List Row → Option Row → Front → Bool → Type 0
+HasRead rows bound ahead found = MatchBool found (IsSomeAnd ahead.passed (λ x. filter (is_past bound) rows ≡ x ∷ onward (Some x) ahead.left rows)) (filter (is_past bound) rows ≡ [])
 
 -- whether one of the walk's own rows is passed; its own rows that are left; and past the next of them
 abbrev pub has_passed : WalkSource → Bool

@@ -1,11 +1,12 @@
 //! Rows that a walk reads ahead of a relation that is named.
-ghost use Rattle.std.specs.Prelude.{◌≡◌, ◌<◌, ◌≤◌, [], ◌∷◌, ◌++◌, drop, None, Some, is_some, slice_get, IfOk, IsSomeAnd, MatchBool};
+ghost use Rattle.std.specs.Prelude.{◌≡◌, ◌<◌, ◌≤◌, ◌+◌, [], ◌∷◌, ◌++◌, drop, None, Some, is_some, length, take, slice_get, OnOk, IfOk, IfSome, IsSomeAnd};
 ghost use Rattle.std.specs.List.{filter, find};
 ghost use Rattle.std.specs.Option.{option_copied};
 ghost use Rattle.hera_sets.specs.Rows.{is_past, IsAscending};
-ghost use Rattle.hera_reads.specs.Walking.{last_or, onward, past_front, IsAhead};
+ghost use Rattle.hera_reads.specs.Walking.{last_or, onward, past_front, HasRead, IsAhead};
 
-use hera_rows::RowBuf;
+use hera_rows::{RowBuf, RowSet};
+use hera_sets::is_same;
 use hera_values::refill;
 use std::alloc::{AllocError, Global};
 use std::marker::Model;
@@ -25,6 +26,8 @@ pub(crate) struct Ahead {
     passed: usize,
     /// About where the last of the rows stands in the relation. It only saves time.
     mark: ViewMark,
+    /// Behind how many rows the last one was read from a set. It only saves time.
+    place: usize,
 }
 
 impl Model for Ahead {
@@ -47,16 +50,27 @@ fn bytes_at(rows: &[RowBuf], i: usize) -> Option<&[u8]>
     }
 }
 
-/// A copy of a row, in a buffer that is spare, if there is one.
-fn in_buffer(alloc: Global, spare: Option<RowBuf>, row: &[u8]) -> Result<RowBuf, AllocError>
-    ensures { IfOk result (λ copy. copy ≡ row.now) }
+/// Puts a row into a buffer, in the place of the one that was there.
+fn put_row(alloc: Global, buffer: &mut RowBuf, row: &[u8]) -> Result<(), AllocError>
+    ensures { OnOk result (buffer.new ≡ row.now) }
 {
-    let mut buffer = match spare {
-        None => Vec::new(alloc),
-        Some(old) => old.into_vec(),
-    };
-    refill(&mut buffer, row)?;
-    Ok(RowBuf::from_vec(buffer))
+    let mut bytes = replace(buffer, RowBuf::from_vec(Vec::new(alloc))).into_vec();
+    refill(&mut bytes, row)?;
+    *buffer = RowBuf::from_vec(bytes);
+    Ok(())
+}
+
+/// Puts a row at a place of these, into the buffer that is there, or behind all of them.
+fn put_at(alloc: Global, rows: &mut Vec<RowBuf>, i: usize, row: &[u8]) -> Result<(), AllocError>
+    requires { i ≤ length rows.old.items }
+    ensures put { OnOk result (take (i + 1) rows.new.items ≡ take i rows.old.items ++ row.now ∷ []) }
+    ensures there { OnOk result (i < length rows.new.items) }
+{
+    if i < rows.len() {
+        return put_row(alloc, &mut rows[i], row);
+    }
+    rows.push(RowBuf::new(alloc, row)?)?;
+    Ok(())
 }
 
 /// How many rows are read at once behind so many: few at first, and then twice as many.
@@ -64,8 +78,57 @@ fn next_count(count: usize) -> usize {
     if count >= MOST / 2 { MOST } else { 2 * count }
 }
 
-/// A row, and rows past it, so many in all at most, in buffers that are spare as long as there are some. A long row
-/// is the last one.
+/// The place of the first row past the bound, or a place behind all rows where there is none: where the row before the
+/// guess is the bound, it is the guess.
+fn place_past(rows: &RowSet, bound: Option<&[u8]>, guess: usize) -> Option<usize>
+    ensures place { IfSome result (λ i. slice_get rows.now i ≡ find (is_past (option_copied bound.entry)) rows.now) }
+    ensures ordered { IsAscending rows.now }
+{
+    let count = rows.len();
+    let Some(row) = bound else {
+        return Some(0);
+    };
+    if guess == 0 || guess > count {
+        return None;
+    }
+    if is_same(rows.row(guess - 1), row) {
+        Some(guess)
+    } else {
+        None
+    }
+}
+
+/// Reads the row at a place of a set, and those behind it, so many in all at most, into the buffers that are there, and
+/// answers how many it has read. A long row is the last one.
+#[tactic(auto, using(crate::proofs::Reading::runs))]
+fn read_run(
+    alloc: Global,
+    rows: &RowSet,
+    from: usize,
+    most: usize,
+    ahead: &mut Vec<RowBuf>,
+) -> Result<usize, AllocError>
+    requires { from < length rows.now }
+    ensures { IfOk result (λ n. IsSomeAnd (slice_get rows.now from) (λ first. IsAhead rows.now first (take n ahead.new.items))) }
+{
+    let mut last = rows.row(from);
+    put_at(alloc, ahead, 0, last)?;
+    let mut count = 1;
+    let end = from
+        .saturating_add(most.saturating_sub(1))
+        .min(rows.len() - 1);
+    for i in from..end {
+        if last.len() > SHORT {
+            return Ok(count);
+        }
+        last = rows.row(i + 1);
+        put_at(alloc, ahead, count, last)?;
+        count += 1;
+    }
+    Ok(count)
+}
+
+/// Reads a row, and rows past it, as `read_run` reads them.
 #[tactic(auto, using(crate::proofs::Reading::reads))]
 fn read_from(
     alloc: Global,
@@ -73,27 +136,27 @@ fn read_from(
     first: &[u8],
     mark: &mut ViewMark,
     most: usize,
-    spare: &mut Vec<RowBuf>,
-) -> Result<Vec<RowBuf>, AllocError>
-    ensures { IfOk result (λ ahead. IsAhead rows.now first.now ahead.items) }
+    ahead: &mut Vec<RowBuf>,
+) -> Result<usize, AllocError>
+    ensures { IfOk result (λ n. IsAhead rows.now first.now (take n ahead.new.items)) }
 {
-    let mut ahead = Vec::new(alloc);
-    ahead.reserve(most)?;
-    ahead.push(in_buffer(alloc, spare.pop(), first)?)?;
+    put_at(alloc, ahead, 0, first)?;
     let mut last = first;
+    let mut count = 1;
     for _ in 1..most {
         if last.len() > SHORT {
-            return Ok(ahead);
+            return Ok(count);
         }
         let next = rows.above_near(Some(last), *mark);
         let Some(row) = next.row else {
-            return Ok(ahead);
+            return Ok(count);
         };
-        ahead.push(in_buffer(alloc, spare.pop(), row)?)?;
+        put_at(alloc, ahead, count, row)?;
+        count += 1;
         last = row;
         *mark = next.mark;
     }
-    Ok(ahead)
+    Ok(count)
 }
 
 impl Ahead {
@@ -105,6 +168,7 @@ impl Ahead {
             rows: Vec::new(alloc),
             passed: 0,
             mark: ViewMark::start(),
+            place: 0,
         }
     }
 
@@ -154,20 +218,51 @@ impl Ahead {
         }
     }
 
-    /// Passes the first row past the one that was passed last, if there is one among these, and reads rows behind
-    /// it ahead; answers whether there is one.
-    pub(crate) fn read(&mut self, alloc: Global, rows: &IndexedHyp<'_>) -> Result<bool, AllocError>
-        ensures { IfOk result (λ found. MatchBool found (IsSomeAnd self.new.passed (λ x. filter (is_past self.old.passed) rows.now ≡ x ∷ onward (Some x) self.new.left rows.now)) (filter (is_past self.old.passed) rows.now ≡ [])) }
+    /// Reads a set on from a place, at which the first row past the one that was passed last stands, and passes that
+    /// row; answers whether there is one.
+    fn read_on(&mut self, alloc: Global, rows: &RowSet, from: usize) -> Result<bool, AllocError>
+        requires { slice_get rows.now from ≡ find (is_past self.old.passed) rows.now }
+        ensures { IfOk result (HasRead rows.now self.old.passed self.new) }
+    {
+        if from >= rows.len() {
+            return Ok(false);
+        }
+        let most = next_count(self.rows.len());
+        let count = read_run(alloc, rows, from, most, &mut self.rows)?;
+        self.rows.truncate(count);
+        self.place = from.saturating_add(count);
+        self.passed = 1;
+        Ok(true)
+    }
+
+    /// Seeks the first row past the one that was passed last, and passes it, if there is one, and reads rows behind it
+    /// ahead; answers whether there is one.
+    fn seek(&mut self, alloc: Global, rows: &IndexedHyp<'_>) -> Result<bool, AllocError>
+        ensures { IfOk result (HasRead rows.now self.old.passed self.new) }
     {
         let next = rows.above_near(self.current(), self.mark);
         let Some(row) = next.row else {
             return Ok(false);
         };
         let most = next_count(self.rows.len());
-        let mut spare = replace(&mut self.rows, Vec::new(alloc));
         self.mark = next.mark;
-        self.rows = read_from(alloc, rows, row, &mut self.mark, most, &mut spare)?;
+        let count = read_from(alloc, rows, row, &mut self.mark, most, &mut self.rows)?;
+        self.rows.truncate(count);
         self.passed = 1;
         Ok(true)
+    }
+
+    /// Passes the first row past the one that was passed last, if there is one among these, and reads rows behind
+    /// it ahead; answers whether there is one. Where one delta has put all rows in, it reads on where it stopped.
+    pub(crate) fn read(&mut self, alloc: Global, rows: &IndexedHyp<'_>) -> Result<bool, AllocError>
+        ensures { IfOk result (HasRead rows.now self.old.passed self.new) }
+    {
+        let Some(set) = rows.alone() else {
+            return self.seek(alloc, rows);
+        };
+        match place_past(set, self.current(), self.place) {
+            Some(from) => self.read_on(alloc, set, from),
+            None => self.seek(alloc, rows),
+        }
     }
 }

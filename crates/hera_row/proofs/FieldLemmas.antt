@@ -16,7 +16,7 @@ use Rattle.hera_meaning.specs.Texts.{IsText, is_text, text_limit}
 use Rattle.hera_meaning.specs.Scalars.{is_kind, is_scalar}
 use Rattle.hera_meaning.specs.Rows.{field_bytes, first_piece, scalar_of, shifted, number_from}
 use Rattle.hera_row.specs.Reading.{field_len}
-use Rattle.hera_row.proofs.Zeros.{has_no_zero, zero_found, through_zero-behind, position-behind, no_zero-before, take_zero}
+use Rattle.hera_row.proofs.Zeros.{has_no_zero, zero_found, through_zero-found, through_zero-behind, position-behind, no_zero-before, take_zero}
 use Rattle.hera_row.proofs.Numbers.{shifted-below, shifted-back, lowered, lowered_fits, shifted-lowered, number_from-to_be_bytes, to_be_bytes-number_from, number_from-below, length-to_be_bytes}
 
 -- ---- texts
@@ -166,3 +166,18 @@ field_len_begins text_kind bytes n all h =
     let p = cond_some (nat_le m text_limit && is_utf8 (take m bytes)) (m + 1) n g in
     let q = and_parts (nat_le m text_limit) (is_utf8 (take m bytes)) p.0 in
     subst (Begins text_kind bytes) p.1 (begins_text bytes m at (leb-true m text_limit q.0) q.1))
+
+-- as long as the field is, so long is its piece
+pub field_len_piece : (k : Kind) (bytes : List ℕ) (n : ℕ) → field_len k bytes ≡ Some n → n ≡ length (first_piece k bytes)
+field_len_piece int_kind bytes n h = by (nat_lt (length bytes) 8) refl h
+  where
+    by : (v : Bool) → nat_lt (length bytes) 8 ≡ v → cond v None (Some 8) ≡ Some n → n ≡ length (take 8 bytes)
+    by true e g = absurd (none-some n g)
+    by false e g = sym (same_Some 8 n g) ∙ sym (length-take-le 8 bytes (ltb-false (length bytes) 8 e))
+field_len_piece bool_kind [] n h = absurd (none-some n h)
+field_len_piece bool_kind (b ∷ bytes) n h = sym (cond_some (nat_lt b 2) 1 n h).1
+field_len_piece text_kind bytes n h =
+    option_and_then_some (λ m. cond (nat_le m text_limit && is_utf8 (take m bytes)) (Some (m + 1)) None) (position (λ b. nat_eq b 0) bytes) n h (λ m at g.
+    let p = cond_some (nat_le m text_limit && is_utf8 (take m bytes)) (m + 1) n g in
+    let found = zero_found bytes m at in
+    sym p.1 ∙ sym (ap length (through_zero-found bytes m at) ∙ length-take-le (m + 1) bytes (omega (arith, found.1))))

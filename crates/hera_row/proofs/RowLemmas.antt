@@ -1,8 +1,8 @@
 -- Rows: which bytes are a row, and what a row is read as.
-use Rattle.std.proofs.Common.{◌≡◌, ℕ, zero, suc, ◌+◌, ◌-◌, ◌<◌, ◌≤◌, get_or, is_some, nat_eq, Bool, true, false, ◌&&◌, List, [], ◌∷◌, ◌++◌, Option, Some, None, length, take, drop, refl, sym, ap, subst, ◌∙◌, arith, append_assoc, length-append, length-drop}
+use Rattle.std.proofs.Common.{◌≡◌, ℕ, zero, suc, ◌+◌, ◌-◌, ◌<◌, ◌≤◌, get_or, is_some, nat_eq, Bool, true, false, ◌&&◌, List, [], ◌∷◌, ◌++◌, Option, Some, None, length, take, drop, refl, sym, ap, subst, ◌∙◌, arith, append_assoc, length-append, length-drop, cond, inl, inr}
 use Rattle.std.specs.List.{slice_get, list_all}
 use Rattle.std.specs.Option.{option_and_then, option_eq, IfSome, IfNone}
-use Rattle.std.proofs.lemmas.Bool.{and_parts, and_from, false≢true, eqb-true, eq-eqb}
+use Rattle.std.proofs.lemmas.Bool.{and_parts, and_from, false≢true, eqb-true, eq-eqb, ne_eqb, cases_lt}
 use Rattle.std.proofs.lemmas.Option.{none-some, same_Some, option_and_then_some}
 use Rattle.std.proofs.lemmas.List.{append-nil, drop_at, drop_more, take_all, take_more, take-append-drop}
 use Rattle.std.proofs.lemmas.List.Folds.{list_all-append}
@@ -13,7 +13,7 @@ use Rattle.hera_meaning.specs.Scalars.{is_kind, is_scalar, is_tuple}
 use Rattle.hera_meaning.specs.Rows.{field_bytes, row_of, IsRow, first_piece, scalar_of, fields_of, scalar_at, field_at}
 use Rattle.hera_row.specs.Fields.{have_kinds}
 use Rattle.hera_row.specs.Reading.{field_len, row_len_of, BeginsField}
-use Rattle.hera_row.proofs.FieldLemmas.{AreBytes, AreBytes-drop, Begins, field_len_begins, field_len-field_bytes, first_piece-field_bytes, scalar_of-field_bytes}
+use Rattle.hera_row.proofs.FieldLemmas.{AreBytes, AreBytes-drop, Begins, field_len_begins, field_len_piece, field_len-field_bytes, first_piece-field_bytes, scalar_of-field_bytes}
 
 -- the first field of a tuple, and the others
 pub record FirstField (a : Attr) (attrs : List Attr) (s : Scalar) (rest : List Scalar) : Type 0 where
@@ -172,6 +172,73 @@ at_end schema row i place a rest at here l =
           begins = ap (λ bytes. is_some (field_len a.kind bytes)) (sym left) ∙ ap is_some (field_len-field_bytes a.kind s (row_of ss) p.kind p.valid);
           same = ap (scalar_of a.kind) piece ∙ scalar_of-field_bytes a.kind s p.kind p.valid ∙ ap (scalar_at (s ∷ ss)) none ∙ same;
         }
+
+-- ---- a field of bytes that may be a row
+
+-- bytes that begin with no row are none
+pub none_read : {A : Type 0} → (schema : List Attr) (bytes : List ℕ) (i : ℕ) (o : Option A) → row_len_of schema bytes ≡ None → IfNone o (i < length schema → ¬ (IsRow schema bytes))
+none_read schema bytes i None h = λ _ row. none-some (length bytes) (sym h ∙ row_len_whole schema bytes row)
+none_read schema bytes i (Some x) h = tt
+
+-- all fields are gone through
+pub all_through : (schema : List Attr) (bytes rest : List ℕ) (place : ℕ) → length schema ≤ place → length_from (length bytes - length rest) (drop place schema) rest ≡ row_len_of schema bytes → row_len_of schema bytes ≡ Some (length bytes - length rest)
+all_through schema bytes rest place h e = sym e ∙ ap (λ attrs. length_from (length bytes - length rest) attrs rest) (drop_past schema place h) ∙ ap Some (omega arith)
+  where
+    drop_past : (attrs : List Attr) (n : ℕ) → length attrs ≤ n → drop n attrs ≡ []
+    drop_past [] zero g = refl
+    drop_past [] (suc n) g = refl
+    drop_past (a ∷ attrs) zero g = absurd (omega (arith, g))
+    drop_past (a ∷ attrs) (suc n) g = drop_past attrs n (omega (arith, g))
+
+pub all_there : (schema : List Attr) (bytes rest : List ℕ) → AreBytes bytes → row_len_of schema bytes ≡ Some (length bytes - length rest) → length rest ≡ 0 → IsRow schema bytes
+all_there schema bytes rest all h none = row_whole schema bytes all (h ∙ ap Some (omega (arith, none)))
+
+pub more_there : (schema : List Attr) (bytes rest : List ℕ) → length rest ≤ length bytes → row_len_of schema bytes ≡ Some (length bytes - length rest) → (length rest ≡ 0 → ⊥) → IsRow schema bytes → ⊥
+more_there schema bytes rest within h some row = some (omega (arith, within, same_Some (length bytes - length rest) (length bytes) (sym h ∙ row_len_whole schema bytes row)))
+
+-- gone through up to a place, field i is the same one of what is left up to its place, and from there on first in a piece
+-- that was kept
+pub record IsHeld (schema : List Attr) (bytes : List ℕ) (i place : ℕ) (at rest : List ℕ) : Type 0 where
+  pub before : place ≤ i → field_at (drop place schema) rest (i - place) ≡ field_at schema bytes i
+  pub behind : (a : Attr) → i < place → slice_get schema i ≡ Some a → IsFirst schema bytes i a.kind at
+
+pub held_start : (schema : List Attr) (bytes : List ℕ) (i : ℕ) (at : List ℕ) → IsHeld schema bytes i 0 at bytes
+held_start schema bytes i at = record { before = λ _. ap (field_at schema bytes) whole; behind = λ a h _. absurd (omega (arith, h)) }
+  where
+    whole : i - 0 ≡ i
+    whole = omega arith
+
+pub held_step : (schema : List Attr) (bytes : List ℕ) (i place n : ℕ) (a : Attr) (at rest next after : List ℕ) (here : Bool) → slice_get schema place ≡ Some a → field_len a.kind rest ≡ Some n →
+    here ≡ nat_eq place i → next ≡ cond here rest at → after ≡ drop n rest → IsHeld schema bytes i place at rest → IsHeld schema bytes i (place + 1) next after
+held_step schema bytes i place n a at rest next after here get len test chosen moved l =
+    record {
+      before = λ h. on h (i - (place + 1)) (omega (arith, h)) (l.before (omega (arith, h)));
+      behind = λ b h g. elim (cases_lt i place) [ inl p ↦ kept b p g | inr p ↦ found b (omega (arith, h, p)) g ];
+    }
+  where
+    piece : n ≡ length (first_piece a.kind rest)
+    piece = field_len_piece a.kind rest n len
+
+    on : place + 1 ≤ i → (j : ℕ) → i - place ≡ suc j → field_at (drop place schema) rest (i - place) ≡ field_at schema bytes i → field_at (drop (place + 1) schema) after j ≡ field_at schema bytes i
+    on h j turn same =
+        ap (λ t. field_at (drop (place + 1) schema) t j) (moved ∙ ap (λ k. drop k rest) piece)
+        ∙ sym (ap (λ attrs. field_at attrs rest (suc j)) (drop_attr schema place a get))
+        ∙ ap (field_at (drop place schema) rest) (sym turn) ∙ same
+
+    other : i < place → here ≡ false
+    other p = test ∙ ne_eqb place i (λ e. omega (arith, p, e))
+
+    kept : (b : Attr) → i < place → slice_get schema i ≡ Some b → IsFirst schema bytes i b.kind next
+    kept b p g = subst (IsFirst schema bytes i b.kind) (sym (chosen ∙ ap (λ v. cond v rest at) (other p))) (l.behind b p g)
+
+    first : (k : ℕ) → k ≡ 0 → field_at (drop place schema) rest k ≡ field_at schema bytes i → scalar_of a.kind (first_piece a.kind rest) ≡ field_at schema bytes i
+    first k none same = sym (ap (λ attrs. field_at attrs rest 0) (drop_attr schema place a get)) ∙ ap (field_at (drop place schema) rest) (sym none) ∙ same
+
+    found : (b : Attr) → place ≡ i → slice_get schema i ≡ Some b → IsFirst schema bytes i b.kind next
+    found b e g =
+        subst (λ (c : Attr). IsFirst schema bytes i c.kind next) (same_Some a b (sym get ∙ ap (slice_get schema) e ∙ g))
+        (subst (IsFirst schema bytes i a.kind) (sym (chosen ∙ ap (λ v. cond v rest at) (test ∙ eq-eqb place i e)))
+        (record { begins = ap is_some len; same = first (i - place) (omega (arith, e)) (l.before (omega (arith, e))) }))
 
 -- ---- the row of a tuple, field by field
 

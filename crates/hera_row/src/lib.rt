@@ -15,5 +15,5 @@ mod widening;
 pub use catalogue::{Catalogue, CatalogueFault};
 pub use encoding::{encode, have_kinds};
 pub use names::{has_names, is_name};
-pub use reading::{check_row, field, row_len};
+pub use reading::{check_row, field, field_of_row, row_len};
 pub use widening::{a_widened_relation_is_found_by_number, is_prefix, widen_row};

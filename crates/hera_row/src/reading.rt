@@ -1,5 +1,5 @@
 //! Rows read in place: no call takes memory or makes a tuple.
-ghost use Rattle.std.specs.Prelude.{◌≡◌, ◌↔◌, ◌≤◌, ◌<◌, ℕ, Some, true, IsTrue, IfSome, IfNone, length, take, nat_eq, pos, ◌-ℤ◌, ◌-◌, ◌^◌};
+ghost use Rattle.std.specs.Prelude.{cond, ◌≡◌, ◌↔◌, ◌≤◌, ◌<◌, ℕ, Some, true, IsTrue, IfSome, IfNone, length, take, nat_eq, pos, ◌-ℤ◌, ◌-◌, ◌^◌};
 ghost use Rattle.std.specs.List.{position};
 ghost use Rattle.std.specs.Str.{is_utf8};
 ghost use Rattle.hera_meaning.specs.Rows.{IsRow, field_at, first_piece, scalar_of, number_from, through_zero};
@@ -37,6 +37,37 @@ pub fn field<'a>(schema: &Schema, row: &'a [u8], i: usize) -> ScalarRef<'a>
         rest = rest.split_at(piece).1;
     }
     scalar(schema.attr(i).kind, rest)
+}
+
+/// The field at place `i`, counted from 0, where the bytes are a row of the schema and there is such a place. They are
+/// gone through once.
+pub fn field_of_row<'a>(schema: &Schema, bytes: &'a [u8], i: usize) -> Option<ScalarRef<'a>>
+    ensures there { IfSome result (λ field. (i < length schema.now) × IsRow schema.now bytes.entry.now × (told field ≡ field_at schema.now bytes.entry.now i)) }
+    ensures none { IfNone result (i < length schema.now → ¬ (IsRow schema.now bytes.entry.now)) }
+{
+    if i >= schema.len() {
+        return None;
+    }
+    let mut at = bytes;
+    let mut rest = bytes;
+    for place in 0..schema.len() {
+        at = either(place == i, rest, at);
+        let n = field_len(schema.attr(place).kind, rest)?;
+        rest = rest.split_at(n).1;
+    }
+    if rest.is_empty() {
+        Some(scalar(schema.attr(i).kind, at))
+    } else {
+        None
+    }
+}
+
+/// The first piece where it is the one that is meant, and else the second.
+#[inline]
+fn either<'a>(first: bool, x: &'a [u8], y: &'a [u8]) -> &'a [u8]
+    ensures { result.now ≡ cond first x.entry.now y.entry.now }
+{
+    if first { x } else { y }
 }
 
 /// The length of the row with which the bytes begin, by the lengths of its fields.

@@ -1,5 +1,5 @@
 //! A strictly ascending list of rows in blocks.
-ghost use Rattle.std.specs.Prelude.{◌≡◌, ◌↔◌, IsTrue, [], ◌∷◌, ◌++◌, ◌<◌, length, not, IfOk, OnOk, OnErr, slice_get, Some};
+ghost use Rattle.std.specs.Prelude.{◌≡◌, true, [], ◌∷◌, ◌++◌, ◌<◌, length, not, IfOk, OnOk, OnErr, slice_get, Some};
 ghost use Rattle.std.specs.List.{find};
 ghost use Rattle.std.specs.Option.{option_copied};
 ghost use Rattle.hera_rows.specs.Froms.{is_from};
@@ -7,7 +7,7 @@ ghost use Rattle.hera_sets.specs.Rows.{is_past, IsAscending, put, holds, without
 
 use super::packing::Packing;
 use super::stacks::Near;
-use super::{RowMark, Sorted, Spot, same_rows, stacks};
+use super::{Spot, stacks};
 use std::alloc::{AllocError, Global};
 use std::marker::Model;
 
@@ -78,6 +78,7 @@ impl Blocks {
     }
 
     /// Takes the row in, and answers whether it is new. Without memory all is as before.
+    #[inline]
     pub(crate) fn insert(&mut self, row: &[u8]) -> Result<bool, AllocError>
         ensures new { IfOk result (λ new. new ≡ not (holds self.old row.now)) }
         ensures ok { OnOk result (self.new ≡ put row.now self.old) }
@@ -117,31 +118,18 @@ impl Blocks {
         })
     }
 
-    /// Whether both have the same rows. It takes no memory.
+    /// Whether both have the same rows in the same blocks. It takes no memory.
     pub(crate) fn equal(&self, other: &Blocks) -> bool
-        ensures { IsTrue result ↔ (self.now ≡ other.now) }
+        ensures { result ≡ true → self.now ≡ other.now }
     {
-        if stacks::equal(&self.blocks, &other.blocks) {
-            return true;
-        }
-        same_rows(self, other)
-    }
-}
-
-impl Sorted for Blocks {
-    ghost rows = { λ set. set };
-
-    fn above<'s>(&'s self, bound: Option<&[u8]>) -> Option<&'s [u8]> {
-        stacks::above(&self.blocks, bound)
+        stacks::equal(&self.blocks, &other.blocks)
     }
 
-    fn above_from<'s>(&'s self, bound: Option<&[u8]>, mark: &mut RowMark) -> Option<&'s [u8]> {
-        let near = self.above_near(bound, mark.first.kept);
-        mark.first.kept = near.spot;
-        near.row
-    }
-
-    fn has(&self, row: &[u8]) -> bool {
+    /// Whether the row is one of them.
+    pub(crate) fn has(&self, row: &[u8]) -> bool
+        ensures found { result ≡ holds self.now row.now }
+        ensures ordered { IsAscending self.now }
+    {
         stacks::has(&self.blocks, row)
     }
 }

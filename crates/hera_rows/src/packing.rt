@@ -1,13 +1,11 @@
 //! Rows in one buffer.
 ghost use Rattle.std.specs.Prelude.{◌≡◌, ◌↔◌, IsTrue, true, false, ◌+◌, ◌^◌, List, [], ◌∷◌, ◌++◌, ℕ, ◌<◌, ◌≤◌, length, not, insert, IfOk, OnOk, OnErr, MatchResult, slice_get, slice_range, Some};
 ghost use Rattle.std.specs.List.{find};
-ghost use Rattle.std.specs.Option.{option_copied};
-ghost use Rattle.hera_sets.specs.Rows.{is_past, IsAscending, put, holds, without};
+ghost use Rattle.hera_sets.specs.Rows.{IsAscending, put, holds, without};
 ghost use Rattle.hera_rows.specs.Froms.{passes};
 ghost use Rattle.hera_rows.specs.Packed.{IsWithin, cut};
 ghost use Rattle.hera_rows.specs.Places.{IsPlace};
 
-use super::Sorted;
 use super::bounds::Bound;
 use hera_sets::{byte_order, is_same};
 use std::alloc::{AllocError, Global};
@@ -50,6 +48,7 @@ impl Model for Packing {
 }
 
 /// The bytes of a span.
+#[inline]
 fn cut(bytes: &[u8], span: Span) -> &[u8]
     requires { IsWithin (length bytes.now) span }
     ensures { result.now ≡ cut bytes.now span }
@@ -58,6 +57,7 @@ fn cut(bytes: &[u8], span: Span) -> &[u8]
 }
 
 /// The span of so many bytes behind so many. There are at most 2^32 - 1 of them.
+#[inline]
 fn span_behind(count: usize, more: usize) -> Result<Span, AllocError>
     ensures start { IfOk result (λ span. span.start ≡ count) }
     ensures end { IfOk result (λ span. span.end ≡ count + more) }
@@ -128,6 +128,7 @@ impl Packing {
 
     /// Puts a row behind all others, which is greater than the last. Without memory all is as
     /// before.
+    #[inline]
     pub(crate) fn push_last(&mut self, row: &[u8]) -> Result<(), AllocError>
         requires { IsAscending (self.old ++ row.now ∷ []) }
         ensures ok { OnOk result (self.new ≡ self.old ++ row.now ∷ []) }
@@ -148,6 +149,16 @@ impl Packing {
                 self.dead += (span.end - span.start) as usize;
                 true
             }
+            Err(_) => false,
+        }
+    }
+
+    /// Whether the row is one of them.
+    pub(crate) fn has(&self, row: &[u8]) -> bool
+        ensures found { result ≡ holds self.now row.now }
+    {
+        match self.search(row) {
+            Ok(_) => true,
             Err(_) => false,
         }
     }
@@ -232,19 +243,6 @@ impl Packing {
         Err(low)
     }
 
-    /// The place of the first row past the bound, or the number of rows where there is none.
-    pub(crate) fn start(&self, bound: Option<&[u8]>) -> usize
-        ensures { slice_get self.now result ≡ find (is_past (option_copied bound.entry)) self.now }
-    {
-        match bound {
-            None => 0,
-            Some(row) => match self.search(row) {
-                Ok(i) => i + 1,
-                Err(i) => i,
-            },
-        }
-    }
-
     /// The place of the first row that is looked for, or the number of rows where there is none.
     pub(crate) fn first(&self, bound: Bound<'_>) -> usize
         ensures { slice_get self.now result ≡ find (passes bound.entry) self.now }
@@ -274,6 +272,7 @@ impl Packing {
     }
 
     /// Puts a row behind all others.
+    #[inline]
     fn append(&mut self, row: &[u8]) -> Result<(), AllocError>
         requires { IsAscending (self.old ++ row.now ∷ []) }
         ensures ok { OnOk result (self.new ≡ self.old ++ row.now ∷ []) }
@@ -288,6 +287,7 @@ impl Packing {
     }
 
     /// Packs the rows anew where the bytes of no row pass half of all and 256 more.
+    #[inline]
     fn tighten(&mut self) -> Result<(), AllocError>
         ensures { self.new ≡ self.old }
     {
@@ -295,26 +295,6 @@ impl Packing {
             *self = self.packed()?;
         }
         Ok(())
-    }
-}
-
-impl Sorted for Packing {
-    ghost rows = { λ set. set };
-
-    fn above<'s>(&'s self, bound: Option<&[u8]>) -> Option<&'s [u8]> {
-        let i = self.start(bound);
-        if i < self.len() {
-            Some(self.row(i))
-        } else {
-            None
-        }
-    }
-
-    fn has(&self, row: &[u8]) -> bool {
-        match self.search(row) {
-            Ok(_) => true,
-            Err(_) => false,
-        }
     }
 }
 

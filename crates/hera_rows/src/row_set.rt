@@ -6,10 +6,17 @@ ghost use Rattle.hera_rows.specs.Froms.{is_from};
 ghost use Rattle.hera_sets.specs.Rows.{is_past, IsAscending, put, holds, without};
 
 use super::blocks::Blocks;
+use super::bounds::Bound;
 use super::stacks::Near;
 use super::{RowBuf, RowMark, Sorted, Spot, same_rows, single};
 use std::alloc::{AllocError, Global};
 use std::marker::Model;
+
+/// A spot for who has none to tell.
+const NOWHERE: Spot = Spot {
+    block: usize::MAX,
+    row: 0,
+};
 
 /// The rows of a set.
 #[derive(Drop)]
@@ -128,7 +135,7 @@ impl RowSet {
         match &self.kept {
             Kept::Many(rows) => rows.not_below_near(bound, spot),
             Kept::One(one) => Near {
-                row: single::not_below(one, bound),
+                row: single::sought(one, Bound::From(bound)),
                 spot,
             },
             Kept::Nothing => Near { row: None, spot },
@@ -213,7 +220,12 @@ impl RowSet {
         ensures { IsTrue result ↔ (self.now ≡ other.now) }
     {
         match (&self.kept, &other.kept) {
-            (Kept::Many(rows), Kept::Many(others)) => rows.equal(others),
+            (Kept::Many(rows), Kept::Many(others)) => {
+                if rows.equal(others) {
+                    return true;
+                }
+                same_rows(self, other)
+            }
             _ => same_rows(self, other),
         }
     }
@@ -223,11 +235,7 @@ impl Sorted for RowSet {
     ghost rows = { λ set. set };
 
     fn above<'s>(&'s self, bound: Option<&[u8]>) -> Option<&'s [u8]> {
-        match &self.kept {
-            Kept::Many(rows) => rows.above(bound),
-            Kept::One(one) => single::above(one, bound),
-            Kept::Nothing => None,
-        }
+        self.above_near(bound, NOWHERE).row
     }
 
     fn above_from<'s>(&'s self, bound: Option<&[u8]>, mark: &mut RowMark) -> Option<&'s [u8]> {

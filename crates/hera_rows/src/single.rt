@@ -2,7 +2,7 @@
 ghost use Rattle.std.specs.Prelude.{◌≡◌, ◌∷◌, [], IfOk};
 ghost use Rattle.std.specs.List.{find};
 ghost use Rattle.std.specs.Option.{option_copied};
-ghost use Rattle.hera_rows.specs.Froms.{is_from, passes};
+ghost use Rattle.hera_rows.specs.Froms.{passes};
 ghost use Rattle.hera_sets.specs.Rows.{is_past, is_same};
 
 use super::RowBuf;
@@ -13,7 +13,7 @@ use std::alloc::{AllocError, Global};
 
 /// The row, if it is one of those that are looked for.
 #[inline]
-fn sought<'s>(one: &'s RowBuf, bound: Bound<'_>) -> Option<&'s [u8]>
+pub(crate) fn sought<'s>(one: &'s RowBuf, bound: Bound<'_>) -> Option<&'s [u8]>
     ensures { option_copied result ≡ find (passes bound.entry) (one.now ∷ []) }
 {
     let row = one.bytes();
@@ -29,13 +29,6 @@ pub(crate) fn above<'s>(one: &'s RowBuf, bound: Option<&[u8]>) -> Option<&'s [u8
         Some(low) => sought(one, Bound::Past(low)),
         None => Some(one.bytes()),
     }
-}
-
-/// The row, if it does not stand before the bound.
-pub(crate) fn not_below<'s>(one: &'s RowBuf, bound: &[u8]) -> Option<&'s [u8]>
-    ensures { option_copied result ≡ find (is_from bound.now) (one.now ∷ []) }
-{
-    sought(one, Bound::From(bound))
 }
 
 /// Whether it is the row.

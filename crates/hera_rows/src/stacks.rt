@@ -6,9 +6,9 @@ ghost use Rattle.hera_sets.specs.Rows.{is_past, IsBelowAll, IsAscending, put, ho
 ghost use Rattle.hera_rows.specs.Blocks.{joined, ends_of, AreFilled, AreBelow, AreInOrder, AreStacked, IsHome, IsBlockOf, or_else, place_of};
 ghost use Rattle.hera_rows.specs.Froms.{is_from, passes, EndsOut};
 
+use super::Spot;
 use super::bounds::Bound;
 use super::packing::Packing;
-use super::{Sorted, Spot};
 use hera_sets::{is_below, is_same};
 use std::alloc::{AllocError, Global};
 
@@ -98,24 +98,6 @@ fn first_from(blocks: &[Packing], k: usize) -> Option<&[u8]>
         Some(blocks[k].row(0))
     } else {
         None
-    }
-}
-
-/// The first row past the bound.
-pub(crate) fn above<'s>(blocks: &'s [Packing], bound: Option<&[u8]>) -> Option<&'s [u8]>
-    requires { AreInOrder blocks.now }
-    ensures { option_copied result ≡ find (is_past (option_copied bound.entry)) (joined blocks.now) }
-{
-    let Some(low) = bound else {
-        return first_from(blocks, 0);
-    };
-    if blocks.is_empty() {
-        return None;
-    }
-    let k = home_of(blocks, low);
-    match blocks[k].above(Some(low)) {
-        Some(row) => Some(row),
-        None => first_from(blocks, k + 1),
     }
 }
 
@@ -292,6 +274,7 @@ pub(crate) fn has(blocks: &[Packing], row: &[u8]) -> bool
 }
 
 /// How many rows there are.
+#[inline]
 pub(crate) fn count(blocks: &[Packing], ends: &[usize]) -> usize
     requires { AreStacked blocks.now ends.now }
     ensures { result ≡ length (joined blocks.now) }
@@ -400,6 +383,7 @@ fn open(
 }
 
 /// Puts a row behind all others. Without memory all is as before.
+#[inline]
 pub(crate) fn push_last(
     blocks: &mut Vec<Packing>,
     ends: &mut Vec<usize>,
@@ -473,6 +457,7 @@ fn put_home(
 }
 
 /// Whether the row is above all others.
+#[inline]
 fn is_last(blocks: &[Packing], row: &[u8]) -> bool
     requires { AreInOrder blocks.now }
     ensures behind { result ≡ true → AreBelow (joined blocks.now) row.now }
@@ -484,13 +469,6 @@ fn is_last(blocks: &[Packing], row: &[u8]) -> bool
     }
     let block = &blocks[n - 1];
     is_below(block.row(block.len() - 1), row)
-}
-
-/// Whether the blocks are so many that most are less than a quarter full.
-fn are_thin(blocks: &[Packing], ends: &[usize]) -> bool
-    requires { AreStacked blocks.now ends.now }
-{
-    blocks.len() / 4 > count(blocks, ends) / ROOM + 1
 }
 
 /// Packs all rows into full blocks anew. Without memory all is as before.
@@ -509,7 +487,8 @@ fn pack(blocks: &mut Vec<Packing>, ends: &mut Vec<usize>, alloc: Global) -> Resu
     Ok(())
 }
 
-/// Packs all rows anew where the blocks are thin. Without memory all is as before.
+/// Packs all rows anew where the blocks are so many that most are less than a quarter full. Without memory all is as
+/// before.
 fn tighten(
     blocks: &mut Vec<Packing>,
     ends: &mut Vec<usize>,
@@ -519,7 +498,7 @@ fn tighten(
     ensures stacked { AreStacked blocks.new.items ends.new.items }
     ensures same { joined blocks.new.items ≡ joined blocks.old.items }
 {
-    if are_thin(blocks, ends) {
+    if blocks.len() / 4 > count(blocks, ends) / ROOM + 1 {
         return pack(blocks, ends, alloc);
     }
     Ok(())
@@ -545,6 +524,7 @@ fn put_in(blocks: &mut Vec<Packing>, ends: &mut Vec<usize>, row: &[u8]) -> Resul
 }
 
 /// Takes the row in, and answers whether it is new. Without memory all is as before.
+#[inline]
 pub(crate) fn insert(
     blocks: &mut Vec<Packing>,
     ends: &mut Vec<usize>,

@@ -11,7 +11,7 @@ use crate::Locals;
 use crate::values::{Datum, let_go};
 use hera_flat::Flat;
 use hera_meaning::{Op, ScalarRef, Schema};
-use hera_row::{check_row, field};
+use hera_row::field_of_row;
 use hera_rows::RowSet;
 use std::mem::replace;
 
@@ -28,13 +28,14 @@ fn flat_scalar(s: ScalarRef<'_>) -> Option<Flat>
 }
 
 /// The int or bool at a place of a row, where there is one and the row is of the schema.
+#[inline]
 fn row_field(schema: &Schema, i: usize, row: &[u8]) -> Option<Flat>
     ensures { IfSome result (IsGiven (Op.Field schema.now i) (tuple row.now ∷ [])) }
 {
-    if i >= schema.len() || !check_row(schema, row) {
-        return None;
+    match field_of_row(schema, row, i) {
+        Some(field) => flat_scalar(field),
+        None => None,
     }
-    flat_scalar(field(schema, row, i))
 }
 
 impl Datum {

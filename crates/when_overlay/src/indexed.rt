@@ -107,7 +107,7 @@ impl<'a> IndexedHyp<'a> {
 
     /// The rows as a set, where one delta has put all of them in.
     #[inline]
-    fn alone(&self) -> Option<&'a RowSet>
+    pub fn alone(&self) -> Option<&'a RowSet>
         ensures { IfSome result (λ rows. rows.now ≡ self.now) }
     {
         self.alone
