@@ -1,5 +1,5 @@
 -- What stands at a place of a table, and kinds by their number.
-use Rattle.std.proofs.Common.{◌≡◌, ◌<◌, ◌≤◌, ◌≢◌, ℕ, zero, suc, ◌+◌, ◌*◌, ◌-◌, Bool, true, not, ◌&&◌, List, [], ◌∷◌, ◌++◌, length, Option, None, Some, refl, sym, ap, subst, ◌∙◌, arith}
+use Rattle.std.proofs.Common.{◌≡◌, ◌<◌, ◌≤◌, ℕ, zero, suc, ◌+◌, ◌*◌, ◌-◌, true, not, List, [], ◌∷◌, ◌++◌, length, Option, None, Some, refl, sym, ap, ◌∙◌, arith}
 use Rattle.std.specs.Prelude.{slice_get, nat_lt}
 use Rattle.std.proofs.lemmas.Bool.{and_from, lt-ltb}
 use Rattle.std.proofs.lemmas.Option.{none-some, same_Some}
@@ -13,17 +13,17 @@ use Rattle.hera_meaning.specs.Hosts.{host_at, host_takes, host_gives}
 use Rattle.hera_meaning.specs.Forms.{of_scalar}
 use Rattle.hera_host.specs.Tables.{Host, specs_of, takes_at, gives_at}
 use Rattle.hera_typed.specs.Points.{Point, with, when}
-use Rattle.hera_typed.specs.Effects.{Goal, goes, left_layer, is_apart}
+use Rattle.hera_typed.specs.Effects.{goes, left_layer, is_apart}
 use Rattle.hera_effects.specs.declared.forms.Kinds.{Kinds}
 use Rattle.hera_effects.specs.declared.forms.FlatForm.TheVariants as flat
 use Rattle.hera_effects.specs.declared.plain.Plain.{Plain}
 use Rattle.hera_effects.specs.declared.stacks.Node.{Node}
 use Rattle.hera_effects.specs.declared.spots.Spot.{Spot}
 use Rattle.hera_effects.specs.declared.spots.Ways.{Ways}
-use Rattle.hera_effects.specs.Flat.{digit, numbered, flat_kinds, flat_form}
+use Rattle.hera_effects.specs.Flat.{digit, numbered}
 use Rattle.hera_effects.specs.Stacked.{IsSpot}
 use Rattle.hera_effects.specs.Ways.{Both, AreWays, listed}
-use Rattle.hera_effects.specs.Plain.{Plain_effect, IsPlain}
+use Rattle.hera_effects.specs.Plain.{IsPlain}
 use Rattle.hera_effects.proofs.Walking.{one_way}
 
 pub kinds_are : (x : Kinds) (n : ℕ) → x.digits ≡ n → x ≡ record { digits = n }

@@ -1,6 +1,6 @@
 -- Operations, calls and walks do what their effects say.
-use Rattle.std.proofs.Common.{◌≡◌, ℕ, zero, suc, ◌+◌, ◌-◌, Bool, true, false, ◌&&◌, List, [], ◌∷◌, ◌++◌, map, take, length, reverse, Option, None, Some, refl, sym, ap, subst, ◌∙◌, add-one, arith}
-use Rattle.std.specs.Prelude.{slice_get, nat_lt}
+use Rattle.std.proofs.Common.{◌≡◌, ℕ, zero, suc, Bool, true, false, ◌&&◌, List, [], ◌∷◌, ◌++◌, map, take, reverse, Option, None, Some, refl, sym, ap, subst, ◌∙◌, arith}
+use Rattle.std.specs.Prelude.{nat_lt}
 use Rattle.std.specs.Option.{option_map}
 use Rattle.std.proofs.lemmas.Bool.{lt-ltb}
 use Rattle.std.proofs.lemmas.Option.{none-some, same_Some}
@@ -8,10 +8,10 @@ use Rattle.std.proofs.lemmas.List.{reverse-append, reverse-reverse}
 use Rattle.hera_meaning.specs.declared.schemas.RelDecl.{RelDecl}
 use Rattle.hera_meaning.specs.declared.trees.Op.{Op}
 use Rattle.hera_meaning.specs.Forms.{Form}
-use Rattle.hera_meaning.specs.Fits.{arity, is_good_op}
+use Rattle.hera_meaning.specs.Fits.{is_good_op}
 use Rattle.hera_code.specs.declared.instrs.BodyInfo.{BodyInfo}
-use Rattle.hera_typed.specs.Points.{Seen, Walked, Point, Cut, cut, with, when, first, all_agree}
-use Rattle.hera_typed.specs.Effects.{Slot_note, Body_note, Goal, goal, goes, goes_or, with_operands, pushed_result, slot_forms, walks_into, seen_by}
+use Rattle.hera_typed.specs.Points.{Seen, Point, Cut, cut, with, when, first, all_agree}
+use Rattle.hera_typed.specs.Effects.{Slot_note, Body_note, Goal, goes, goes_or, with_operands, pushed_result, slot_forms, walks_into, seen_by}
 use Rattle.hera_effects.specs.declared.forms.FlatForm.{FlatForm}
 use Rattle.hera_effects.specs.declared.forms.FlatSeen.{FlatSeen}
 use Rattle.hera_effects.specs.declared.stacks.Node.{Node}
@@ -20,7 +20,7 @@ use Rattle.hera_effects.specs.declared.spots.Ways.{Ways}
 use Rattle.hera_effects.specs.declared.cuts.Cut.{Cut as FlatCut}
 use Rattle.hera_effects.specs.Flat.{flat_kinds, flat_form, flat_seen}
 use Rattle.hera_effects.specs.Stacked.{node_at, AreOperands, AreWalks, IsSpot, Grows}
-use Rattle.hera_effects.specs.Ways.{Both, AreWays, listed, all_to}
+use Rattle.hera_effects.specs.Ways.{Both, AreWays}
 use Rattle.hera_effects.specs.Operations.{IsCut, flat_all_agree, flat_seen_by}
 use Rattle.hera_effects.proofs.Stacking.{walks_grow, operands_grow}
 use Rattle.hera_effects.proofs.Moving.{none_first, some_first}

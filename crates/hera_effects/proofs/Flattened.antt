@@ -1,7 +1,7 @@
 -- Forms are told apart by their numbers.
-use Rattle.std.proofs.Common.{◌≡◌, ◌<◌, ◌≤◌, ℕ, zero, suc, ◌+◌, ◌*◌, Bool, true, false, cond, not, ◌||◌, List, [], ◌∷◌, ◌++◌, drop, map, length, Option, None, Some, refl, sym, ap, subst, ◌∙◌, add-one, append-nil, arith}
+use Rattle.std.proofs.Common.{◌≡◌, ◌≤◌, ℕ, zero, suc, ◌+◌, ◌*◌, Bool, true, false, cond, not, ◌||◌, List, [], ◌∷◌, ◌++◌, drop, map, length, Some, refl, sym, ap, ◌∙◌, add-one, append-nil, arith}
 use Rattle.std.specs.Prelude.{slice_get, is_some}
-use Rattle.std.specs.List.{filter, position_from}
+use Rattle.std.specs.List.{position_from}
 use Rattle.hera_sets.specs.Rows.{is_same}
 use Rattle.hera_meaning.specs.declared.schemas.Attr.{Attr}
 use Rattle.hera_meaning.specs.Schemas.{place_named}
@@ -11,12 +11,11 @@ use Rattle.hera_meaning.specs.declared.scalars.Kind.{Kind}
 use Rattle.hera_meaning.specs.declared.scalars.Kind.TheVariants.{Int as int_kind, Bool as bool_kind, Text as text_kind}
 use Rattle.hera_meaning.specs.Forms.{Form, of_scalar, of_tuple, of_table, of_delta, kinds_of, kind_at}
 use Rattle.hera_typed.specs.Points.{Seen, known, no_rows}
-use Rattle.hera_effects.specs.declared.forms.Kinds.{Kinds}
 use Rattle.hera_effects.specs.declared.forms.FlatForm.{FlatForm}
 use Rattle.hera_effects.specs.declared.forms.FlatForm.TheVariants as flat
 use Rattle.hera_effects.specs.declared.forms.FlatSeen.{FlatSeen}
 use Rattle.hera_effects.specs.declared.forms.FlatSeen.TheVariants as flat_seens
-use Rattle.hera_effects.specs.Flat.{digit, numbered, flat_kinds, flat_form, flat_seen}
+use Rattle.hera_effects.specs.Flat.{digit, numbered, flat_form, flat_seen}
 
 -- ---- one kind after another
 

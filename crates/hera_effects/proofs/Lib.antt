@@ -1,4 +1,5 @@
 pub mod Flattened
+pub mod Keeping
 pub mod Stacking
 pub mod Plainly
 pub mod Moving

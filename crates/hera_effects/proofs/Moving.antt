@@ -1,6 +1,5 @@
 -- Operands taken and pushed.
-use Rattle.std.proofs.Common.{◌≡◌, ℕ, zero, suc, Bool, true, false, List, [], ◌∷◌, Option, None, Some, refl, sym, ap, subst, ◌∙◌}
-use Rattle.std.specs.Option.{option_map}
+use Rattle.std.proofs.Common.{◌≡◌, ℕ, Bool, true, false, List, [], ◌∷◌, Option, None, Some, refl, sym, ap, subst, ◌∙◌}
 use Rattle.std.proofs.lemmas.Option.{none-some, same_Some}
 use Rattle.hera_meaning.specs.Forms.{Form}
 use Rattle.hera_typed.specs.Points.{Seen, Point, with, when, first, agrees}
@@ -12,10 +11,10 @@ use Rattle.hera_effects.specs.declared.spots.Spot.{Spot}
 use Rattle.hera_effects.specs.declared.spots.Ways.{Ways}
 use Rattle.hera_effects.specs.declared.plain.Plain.{Plain}
 use Rattle.hera_effects.specs.Flat.{flat_kinds, flat_form, flat_seen}
-use Rattle.hera_effects.specs.Stacked.{node_at, AreOperands, AreWalks, IsSpot, Grows}
+use Rattle.hera_effects.specs.Stacked.{node_at, AreOperands, IsSpot, Grows}
 use Rattle.hera_effects.specs.Ways.{Both, AreWays, listed, all_to}
 use Rattle.hera_effects.specs.Plain.{Plain_effect, IsPlain, taken, moved}
-use Rattle.hera_effects.proofs.Stacking.{walks_grow, operands_grow}
+use Rattle.hera_effects.proofs.Stacking.{walks_grow}
 
 module _ (nodes : List Node) where
   -- without a first item there is none

@@ -1,9 +1,8 @@
 -- Operations on operands whose kinds are numbers do what they do on the operands.
-use Rattle.std.proofs.Common.{◌≡◌, ℕ, suc, ◌+◌, ◌&&◌, ◌||◌, not, Bool, true, false, List, [], ◌∷◌, ◌++◌, map, length, replicate, reverse, Some, None, Option, refl, sym, ap, ◌∙◌, subst}
+use Rattle.std.proofs.Common.{◌≡◌, ◌&&◌, ◌||◌, Bool, true, false, List, [], ◌∷◌, map, length, replicate, Some, None, Option, refl, sym, ap, ◌∙◌}
 use Rattle.std.specs.Prelude.{nat_eq, nat_lt}
-use Rattle.std.specs.List.{list_all}
 use Rattle.std.specs.Option.{option_map}
-use Rattle.std.proofs.lemmas.Bool.{false≢true, and_parts, and_from, eqb-true, eq-eqb}
+use Rattle.std.proofs.lemmas.Bool.{eqb-true, eq-eqb}
 use Rattle.hera_meaning.specs.declared.scalars.Kind.{Kind}
 use Rattle.hera_meaning.specs.declared.schemas.RelDecl.{RelDecl}
 use Rattle.hera_meaning.specs.declared.trees.Op.{Op}
@@ -14,12 +13,10 @@ use Rattle.hera_meaning.specs.Forms.{Form, of_scalar, of_tuple, of_table, of_del
 use Rattle.hera_typed.specs.Points.{Seen, known, no_rows, same_kinds, same_form, is_table, agrees, all_agree, alike, with, when}
 use Rattle.hera_typed.specs.Effects.{takes, compares, orders, counts, finds, combines, gathers_all, is_width, is_apart, seen_by}
 use Rattle.hera_typed.proofs.Seen_values.{kinds_same as kinds_equal, kinds_itself}
-use Rattle.hera_effects.specs.declared.forms.FlatForm.{FlatForm}
-use Rattle.hera_effects.specs.declared.forms.FlatForm.TheVariants as flat
 use Rattle.hera_effects.specs.declared.forms.FlatSeen.{FlatSeen}
 use Rattle.hera_effects.specs.declared.forms.FlatSeen.TheVariants as flat_seens
-use Rattle.hera_effects.specs.Flat.{numbered, flat_kinds, flat_form, flat_seen}
-use Rattle.hera_effects.specs.Operations.{same_flat, is_flat_table, flat_agrees, flat_all_agree, flat_alike, flat_tuples, flat_one, flat_two, flat_int, flat_bool, flat_text, flat_compares, flat_orders, flat_ordered, flat_counted, flat_found, flat_combined, flat_gathers, flat_gathered, flat_takes, flat_seen_by, one_of, two_of}
+use Rattle.hera_effects.specs.Flat.{numbered, flat_form, flat_seen}
+use Rattle.hera_effects.specs.Operations.{same_flat, is_flat_table, flat_agrees, flat_all_agree, flat_alike, flat_tuples, flat_one, flat_two, flat_compares, flat_orders, flat_ordered, flat_counted, flat_found, flat_combined, flat_gathers, flat_takes, flat_seen_by, one_of, two_of}
 use Rattle.hera_effects.proofs.Flattened.{kinds_same}
 
 -- two truths that follow from one another are the same

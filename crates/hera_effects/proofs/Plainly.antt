@@ -1,5 +1,5 @@
 -- What plain instructions do is their effect.
-use Rattle.std.proofs.Common.{◌≡◌, ℕ, ◌+◌, Bool, true, false, not, ◌&&◌, List, [], ◌∷◌, length, Option, None, Some, is_some, refl, sym, ap, subst, ◌∙◌}
+use Rattle.std.proofs.Common.{◌≡◌, ℕ, ◌+◌, Bool, true, false, not, ◌&&◌, List, [], ◌∷◌, length, Option, None, Some, is_some, refl, sym, subst}
 use Rattle.std.specs.Prelude.{nat_lt, nat_eq, Result, IfOk}
 use Rattle.std.proofs.lemmas.Bool.{both_ways}
 use Rattle.hera_meaning.specs.declared.schemas.RelDecl.{RelDecl}
@@ -12,7 +12,7 @@ use Rattle.hera_code.specs.declared.instrs.Instr.{Instr}
 use Rattle.hera_code.specs.declared.instrs.Instr.TheVariants as instrs
 use Rattle.hera_code.specs.declared.instrs.Code.{Code}
 use Rattle.hera_typed.specs.Points.{Seen, Point, with, when, first, agrees}
-use Rattle.hera_typed.specs.Effects.{Body_note, Slot_note, Goal, with_operands, pushed_result, takes_one, goes, goes_or, slot, result, is_set_at, effect}
+use Rattle.hera_typed.specs.Effects.{Body_note, Slot_note, Goal, with_operands, pushed_result, takes_one, goes, slot, result, is_set_at, effect}
 use Rattle.hera_effects.specs.declared.plain.Plain.{Plain}
 use Rattle.hera_effects.specs.declared.stacks.Node.{Node}
 use Rattle.hera_effects.specs.declared.spots.Ways.{Ways}

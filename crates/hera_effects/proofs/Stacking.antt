@@ -1,22 +1,14 @@
 -- Lists that share their ends: they stay when others come, and equal lists have equal numbers.
-use Rattle.std.proofs.Common.{◌≡◌, ◌<◌, ◌≤◌, ◌⊎◌, inl, inr, Bool, true, false, cond, ℕ, zero, suc, ◌+◌, ◌-◌, List, [], ◌∷◌, ◌++◌, length, Option, None, Some, refl, sym, ap, subst, ◌∙◌, append-nil, append_assoc, add-one, arith}
+use Rattle.std.proofs.Common.{◌≡◌, ℕ, zero, suc, List, [], ◌∷◌, ◌++◌, Option, Some, refl, sym, ap, subst, ◌∙◌, append-nil, append_assoc}
 use Rattle.std.specs.Prelude.{slice_get}
-use Rattle.std.specs.BTreeMap.{BTreeMap, is_at, get, Updates}
-use Rattle.std.specs.declared.cmp.Ordering.{Ordering}
-use Rattle.std.specs.declared.cmp.Ordering.TheVariants.{Less, Equal, Greater}
-use Rattle.std.specs.Ordering.{nat_cmp, ordering_then, is_eq}
-use Rattle.std.proofs.lemmas.Bool.{both_ways}
-use Rattle.std.proofs.lemmas.Map.Lookups.{exact_pairs, exact_unsigned}
 use Rattle.std.proofs.lemmas.Option.{none-some, same_Some}
-use Rattle.hera_meaning.specs.declared.scalars.Kind.{Kind}
 use Rattle.hera_typed.specs.Points.{Seen, Walked, Point}
-use Rattle.hera_effects.specs.declared.forms.Kinds.{Kinds}
-use Rattle.hera_effects.specs.declared.forms.FlatSeen.{FlatSeen}
 use Rattle.hera_effects.specs.declared.stacks.Node.{Node}
 use Rattle.hera_effects.specs.declared.spots.Spot.{Spot}
-use Rattle.hera_effects.specs.Flat.{numbered, flat_kinds, flat_seen}
-use Rattle.hera_effects.specs.Stacked.{node_at, AreOperands, AreWalks, IsSpot, IsShared, Grows, key, order, AreFound}
+use Rattle.hera_effects.specs.Flat.{flat_kinds, flat_seen}
+use Rattle.hera_effects.specs.Stacked.{node_at, AreOperands, AreWalks, IsSpot, IsShared, Grows}
 use Rattle.hera_effects.proofs.Flattened.{kinds_same, seen_same}
+use Rattle.hera_effects.proofs.Keeping.{get_on}
 
 -- ---- growth
 
@@ -26,14 +18,9 @@ grows_not nodes = ([], sym (append-nil nodes))
 pub grows_twice : (a b c : List Node) → Grows a b → Grows b c → Grows a c
 grows_twice a b c h g = (h.0 ++ g.0, g.1 ∙ ap (λ xs. xs ++ g.0) h.1 ∙ append_assoc a h.0 g.0)
 
-get_grows : (nodes more : List Node) (i : ℕ) (n : Node) → slice_get nodes i ≡ Some n → slice_get (nodes ++ more) i ≡ Some n
-get_grows [] more i n h = absurd (none-some n h)
-get_grows (m ∷ nodes) more zero n h = h
-get_grows (m ∷ nodes) more (suc i) n h = get_grows nodes more i n h
-
 pub node_grows : (a b : List Node) (id : ℕ) (n : Node) → Grows a b → node_at a id ≡ Some n → node_at b id ≡ Some n
 node_grows a b zero n h at = absurd (none-some n at)
-node_grows a b (suc i) n h at = subst (λ xs. slice_get xs i ≡ Some n) (sym h.1) (get_grows a h.0 i n at)
+node_grows a b (suc i) n h at = subst (λ xs. slice_get xs i ≡ Some n) (sym h.1) (get_on a h.0 i n at)
 
 pub operands_grow : (a b : List Node) (ss : List Seen) (id : ℕ) → Grows a b → AreOperands a id ss → AreOperands b id ss
 operands_grow a b [] id h e = e
@@ -107,57 +94,3 @@ spots_same nodes a b p shared h g =
     let walks = walks_same nodes p.walks a.walks b.walks shared h.walks g.walks in
     let layers = h.layers ∙ sym g.layers in
     (λ i. record { operands = operands i; walks = walks i; layers = layers i })
-
--- ---- nodes found by their keys
-
-pub found_shared : (nodes : List Node) (places : BTreeMap ((ℕ × ℕ) × ℕ) ℕ) → AreFound nodes places → IsShared nodes
-found_shared nodes places h i j n e g = same_Some i j (sym (h i n e) ∙ h j n g)
-
--- ---- a node more
-
-exact : (x y : (ℕ × ℕ) × ℕ) → order x y ≡ Equal → x ≡ y
-exact x y e = exact_pairs (λ (a b : ℕ × ℕ). ordering_then (nat_cmp a.0 b.0) (nat_cmp a.1 b.1)) nat_cmp (exact_pairs nat_cmp nat_cmp exact_unsigned exact_unsigned) exact_unsigned x y e
-
-is_equal : (o : Ordering) → is_eq o ≡ true → o ≡ Equal
-is_equal Less e = absurd (both_ways (is_eq Less) refl e)
-is_equal Equal e = refl
-is_equal Greater e = absurd (both_ways (is_eq Greater) refl e)
-
-push_cases : (nodes : List Node) (m : Node) (i : ℕ) (n : Node) → slice_get (nodes ++ m ∷ []) i ≡ Some n → (slice_get nodes i ≡ Some n) ⊎ ((i ≡ length nodes) × (m ≡ n))
-push_cases [] m zero n h = inr (refl, same_Some m n h)
-push_cases [] m (suc i) n h = absurd (none-some n h)
-push_cases (x ∷ nodes) m zero n h = inl h
-push_cases (x ∷ nodes) m (suc i) n h = elim (push_cases nodes m i n h) [
-  | inl below ↦ inl below
-  | inr last ↦ inr (ap suc last.0, last.1)
-]
-
-pub get_last : (nodes : List Node) (m : Node) → slice_get (nodes ++ m ∷ []) (length nodes) ≡ Some m
-get_last [] m = refl
-get_last (x ∷ nodes) m = get_last nodes m
-
-pub found_put : (nodes : List Node) (before after : BTreeMap ((ℕ × ℕ) × ℕ) ℕ) (n : Node) → AreFound nodes before → get order before (key n) ≡ None → Updates order before after (key n) (Some (length nodes)) → AreFound nodes after
-found_put nodes before after n h none put i m at = by (is_at (order (key n)) (key m)) refl
-  where
-    by : (v : Bool) → is_at (order (key n)) (key m) ≡ v → get order after (key m) ≡ Some i
-    by true e =
-        let same : key n ≡ key m = exact (key n) (key m) (is_equal (order (key n) (key m)) e) in
-        absurd (none-some i (sym none ∙ ap (get order before) same ∙ h i m at))
-    by false e = put.0 (key m) ∙ ap (λ b. cond b (Some (length nodes)) (get order before (key m))) e ∙ h i m at
-
-pub found_push : (nodes : List Node) (before after : BTreeMap ((ℕ × ℕ) × ℕ) ℕ) (n : Node) → AreFound nodes before → get order before (key n) ≡ None → Updates order before after (key n) (Some (length nodes)) → AreFound (nodes ++ n ∷ []) after
-found_push nodes before after n h none put i m at = elim (push_cases nodes n i m at) [
-  | inl below ↦ found_put nodes before after n h none put i m below
-  | inr last ↦ subst (λ (x : Node). get order after (key x) ≡ Some i) last.1 (put.1 ∙ ap (λ (j : ℕ). Some j) (sym last.0))
-]
-
-pub node_before : (nodes : List Node) (id : ℕ) → (id ≡ 0 → ⊥) → slice_get nodes (id - 1) ≡ node_at nodes id
-node_before nodes zero some = absurd (some refl)
-node_before nodes (suc i) some = ap (slice_get nodes) (omega arith)
-
-pub grows_push : (nodes : List Node) (n : Node) → Grows nodes (nodes ++ n ∷ [])
-grows_push nodes n = (n ∷ [], refl)
-
--- the node behind the others
-pub pushed_at : (nodes : List Node) (n : Node) (place : ℕ) → place ≡ length nodes → node_at (nodes ++ n ∷ []) (place + 1) ≡ Some n
-pushed_at nodes n place e = ap (node_at (nodes ++ n ∷ [])) (add-one place ∙ ap suc e) ∙ get_last nodes n

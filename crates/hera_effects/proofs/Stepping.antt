@@ -1,13 +1,13 @@
 -- Walks, layers and pushed operands, over lists that grow.
-use Rattle.std.proofs.Common.{◌≡◌, ℕ, zero, suc, ◌+◌, Bool, true, false, List, [], ◌∷◌, Option, None, Some, refl, sym, ap, subst, ◌∙◌, arith}
+use Rattle.std.proofs.Common.{◌≡◌, ℕ, suc, ◌+◌, Bool, true, false, List, [], ◌∷◌, Option, None, Some, refl, sym, ap, ◌∙◌, arith}
 use Rattle.std.specs.Prelude.{Result, IfOk}
 use Rattle.std.specs.Option.{option_map}
 use Rattle.std.proofs.lemmas.Option.{none-some, same_Some}
 use Rattle.std.proofs.lemmas.Result.{IfOk-weaker}
 use Rattle.hera_meaning.specs.declared.scalars.Kind.{Kind}
 use Rattle.hera_meaning.specs.Forms.{Form, of_tuple, of_table, of_delta, bool_form}
-use Rattle.hera_typed.specs.Points.{Seen, known, Walked, Point, when, first, agrees}
-use Rattle.hera_typed.specs.Effects.{Goal, goes, takes_one, with_operands, pushed_result, is_relation, opened, opened_point}
+use Rattle.hera_typed.specs.Points.{Seen, known, Point, when, first, agrees}
+use Rattle.hera_typed.specs.Effects.{goes, takes_one, with_operands, pushed_result, is_relation, opened, opened_point}
 use Rattle.hera_effects.specs.declared.forms.FlatForm.{FlatForm}
 use Rattle.hera_effects.specs.declared.forms.FlatForm.TheVariants as flat
 use Rattle.hera_effects.specs.declared.forms.FlatSeen.{FlatSeen}
@@ -16,7 +16,7 @@ use Rattle.hera_effects.specs.declared.stacks.Node.{Node}
 use Rattle.hera_effects.specs.declared.spots.Spot.{Spot}
 use Rattle.hera_effects.specs.declared.spots.Ways.{Ways}
 use Rattle.hera_effects.specs.Flat.{flat_kinds, flat_form, flat_seen}
-use Rattle.hera_effects.specs.Stacked.{node_at, AreOperands, AreWalks, IsSpot, Grows}
+use Rattle.hera_effects.specs.Stacked.{node_at, AreOperands, IsSpot, Grows}
 use Rattle.hera_effects.specs.Ways.{Both, AreWays}
 use Rattle.hera_effects.specs.Plain.{taken}
 use Rattle.hera_effects.proofs.Stacking.{walks_grow, operands_grow}

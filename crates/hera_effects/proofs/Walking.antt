@@ -1,17 +1,14 @@
 -- Walks and layers.
-use Rattle.std.proofs.Common.{◌≡◌, ℕ, zero, suc, ◌+◌, ◌-◌, Bool, true, false, List, [], ◌∷◌, Option, None, Some, refl, sym, ap, subst, ◌∙◌, arith}
+use Rattle.std.proofs.Common.{◌≡◌, ℕ, suc, List, [], ◌∷◌, Option, None, Some, refl, sym, ap, subst, ◌∙◌}
 use Rattle.std.proofs.lemmas.Option.{none-some, same_Some}
-use Rattle.hera_meaning.specs.declared.scalars.Kind.{Kind}
-use Rattle.hera_typed.specs.Points.{Seen, Walked, Point, with, when, first, agrees}
-use Rattle.hera_typed.specs.Effects.{Goal, goal, goes, with_operands, left_layer}
-use Rattle.hera_meaning.specs.Forms.{Form, of_delta}
+use Rattle.hera_typed.specs.Points.{Walked, Point}
+use Rattle.hera_typed.specs.Effects.{Goal, goes, left_layer}
 use Rattle.hera_effects.specs.declared.stacks.Node.{Node}
 use Rattle.hera_effects.specs.declared.spots.Spot.{Spot}
 use Rattle.hera_effects.specs.declared.spots.Ways.{Ways}
 use Rattle.hera_effects.specs.Flat.{flat_kinds, flat_seen}
-use Rattle.hera_effects.specs.Stacked.{node_at, AreOperands, AreWalks, IsSpot}
+use Rattle.hera_effects.specs.Stacked.{node_at, AreWalks, IsSpot}
 use Rattle.hera_effects.specs.Ways.{Both, AreWays, listed, all_to}
-use Rattle.hera_effects.specs.Plain.{taken}
 
 module _ (nodes : List Node) where
   pub none_open : (id : ℕ) (ws : List Walked) → node_at nodes id ≡ None → AreWalks nodes id ws → ws ≡ []

@@ -1,5 +1,6 @@
 pub mod Flat
 pub mod Stacked
+pub mod Kept
 pub mod Ways
 pub mod Plain
 pub mod Operations

@@ -1,5 +1,5 @@
 -- What operations make of operands that are known by their flat forms.
-use Rattle.std.specs.Prelude.{◌≡◌, ℕ, Bool, true, false, ◌&&◌, ◌||◌, List, [], ◌∷◌, map, take, length, replicate, Option, Some, None, nat_lt, nat_eq}
+use Rattle.std.specs.Prelude.{◌≡◌, ℕ, Bool, true, false, ◌&&◌, ◌||◌, List, [], ◌∷◌, map, take, length, Option, Some, None, nat_lt, nat_eq}
 use Rattle.std.specs.List.{list_all}
 use Rattle.hera_meaning.specs.declared.schemas.RelDecl.{RelDecl}
 use Rattle.hera_meaning.specs.declared.trees.Op.{Op}
@@ -7,7 +7,7 @@ use Rattle.hera_meaning.specs.declared.trees.Op.TheVariants.{Neg, Not, Add, Sub,
 use Rattle.hera_meaning.specs.Scalars.{is_same_kind}
 use Rattle.hera_meaning.specs.Schemas.{names_of}
 use Rattle.hera_meaning.specs.Deltas.{schema_of}
-use Rattle.hera_meaning.specs.Forms.{Form, of_scalar, of_tuple, of_table, of_delta, kinds_of, int_form, bool_form, text_form, both, kind_at, project_kinds, group_kinds, join_kinds}
+use Rattle.hera_meaning.specs.Forms.{Form, of_scalar, of_tuple, of_table, kinds_of, int_form, bool_form, text_form, kind_at, project_kinds, group_kinds, join_kinds}
 use Rattle.hera_typed.specs.Points.{Seen, with, when, Cut, cut, all_agree}
 use Rattle.hera_typed.specs.Effects.{is_width, is_apart}
 use Rattle.hera_effects.specs.declared.forms.FlatForm.{FlatForm}

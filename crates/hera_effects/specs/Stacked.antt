@@ -1,16 +1,9 @@
 -- Lists that share their ends: each node has what stands first and the number of the rest.
-use Rattle.std.specs.Prelude.{◌≡◌, ℕ, zero, suc, ◌+◌, ◌*◌, ◌++◌, List, [], ◌∷◌, Option, None, Some, slice_get}
-use Rattle.std.specs.declared.cmp.Ordering.{Ordering}
-use Rattle.std.specs.Ordering.{nat_cmp, ordering_then}
-use Rattle.std.specs.BTreeMap.{BTreeMap, get}
-use Rattle.hera_meaning.specs.declared.scalars.Kind.{Kind}
+use Rattle.std.specs.Prelude.{◌≡◌, ℕ, zero, suc, ◌++◌, List, [], ◌∷◌, Option, None, Some, slice_get}
 use Rattle.hera_typed.specs.Points.{Seen, Walked, Point}
-use Rattle.hera_effects.specs.declared.forms.FlatForm.TheVariants as flat
-use Rattle.hera_effects.specs.declared.forms.FlatSeen.{FlatSeen}
-use Rattle.hera_effects.specs.declared.forms.FlatSeen.TheVariants as flat_seens
 use Rattle.hera_effects.specs.declared.stacks.Node.{Node}
 use Rattle.hera_effects.specs.declared.spots.Spot.{Spot}
-use Rattle.hera_effects.specs.Flat.{digit, flat_kinds, flat_seen}
+use Rattle.hera_effects.specs.Flat.{flat_kinds, flat_seen}
 
 -- the node of a number; the list without items has the number 0
 abbrev pub node_at : List Node → ℕ → Option Node
@@ -38,22 +31,3 @@ IsShared nodes = (i j : ℕ) (n : Node) → slice_get nodes i ≡ Some n → sli
 -- nodes stay, others come behind them
 abbrev pub Grows : List Node → List Node → Type 0
 Grows before after = (more : List Node) × (after ≡ before ++ more)
-
--- ---- under which key a node is found
-
-abbrev pub seen_number : FlatSeen → ℕ
-seen_number flat_seens.NoRows = 0
-seen_number (flat_seens.Known flat.Delta) = 4
-seen_number (flat_seens.Known (flat.Scalar k)) = 8 * digit k
-seen_number (flat_seens.Known (flat.Tuple ks)) = 8 * ks.digits + 1
-seen_number (flat_seens.Known (flat.Table ks)) = 8 * ks.digits + 2
-
-abbrev pub key : Node → (ℕ × ℕ) × ℕ
-key n = ((seen_number n.seen, n.gathers.digits), n.below)
-
-abbrev pub order : (ℕ × ℕ) × ℕ → (ℕ × ℕ) × ℕ → Ordering
-order x y = ordering_then (ordering_then (nat_cmp x.0.0 y.0.0) (nat_cmp x.0.1 y.0.1)) (nat_cmp x.1 y.1)
-
--- each node is found at its place
-abbrev pub AreFound : List Node → BTreeMap ((ℕ × ℕ) × ℕ) ℕ → Type 0
-AreFound nodes places = (i : ℕ) (n : Node) → slice_get nodes i ≡ Some n → get order places (key n) ≡ Some i

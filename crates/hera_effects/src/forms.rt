@@ -1,9 +1,10 @@
 //! Forms in which lists of kinds are numbers, so that they are copied and compared at once.
-ghost use Rattle.std.specs.Prelude.{◌≡◌, ◌+◌, ◌*◌, cond, is_some, map, IfOk};
+ghost use Rattle.std.specs.Prelude.{◌≡◌, ◌+◌, ◌*◌, ◌↔◌, cond, is_some, map, IsTrue, IfOk};
 ghost use Rattle.hera_meaning.specs.Schemas.{place_named};
 ghost use Rattle.hera_meaning.specs.Relations.{lacking};
 ghost use Rattle.hera_meaning.specs.Forms.{kinds_of, form_of, join_kinds, group_kinds, kind_at, agg_kind, project_kinds};
 ghost use Rattle.hera_effects.specs.Flat.{digit, numbered, flat_kinds, flat_form};
+ghost use Rattle.hera_effects.specs.Operations.{same_flat};
 
 use hera_meaning::{Agg, Attr, Kind, Schema, Shape};
 use std::alloc::AllocError;
@@ -28,6 +29,20 @@ pub enum FlatForm {
 pub enum FlatSeen {
     Known(FlatForm),
     NoRows,
+}
+
+/// Whether both are the same form.
+pub(crate) fn same_form(a: FlatForm, b: FlatForm) -> bool
+    ensures same { IsTrue result ↔ (a ≡ b) }
+    ensures flat { result ≡ same_flat a b }
+{
+    match (a, b) {
+        (FlatForm::Scalar(k), FlatForm::Scalar(l)) => k == l,
+        (FlatForm::Tuple(k), FlatForm::Tuple(l)) => k.digits == l.digits,
+        (FlatForm::Table(k), FlatForm::Table(l)) => k.digits == l.digits,
+        (FlatForm::Delta, FlatForm::Delta) => true,
+        _ => false,
+    }
 }
 
 /// The digit of a kind.

@@ -3,7 +3,9 @@
 
 mod cuts;
 mod effects;
+mod entries;
 mod forms;
+mod lists;
 mod moves;
 mod placing;
 mod plain;

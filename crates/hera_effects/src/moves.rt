@@ -10,10 +10,10 @@ ghost use Rattle.hera_effects.specs.Ways.{Both, AreWays};
 ghost use Rattle.hera_effects.specs.Plain.{Plain_effect, IsPlain, taken, moved};
 ghost use Rattle.hera_effects.specs.Operations.{is_flat_table, flat_agrees};
 
-use crate::forms::{FlatForm, FlatSeen, no_kinds};
+use crate::forms::{FlatForm, FlatSeen, no_kinds, same_form};
 use crate::plain::Plain;
 use crate::spots::{Spot, Ways};
-use crate::stacks::{Node, Stacks, same_form};
+use crate::stacks::{Node, Stacks};
 use std::alloc::AllocError;
 
 /// Whether the form is that of relations.

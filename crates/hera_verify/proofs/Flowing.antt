@@ -192,7 +192,7 @@ module _ (code : Code) (rels : List RelDecl) (hosts : Hosts) (notes : List Body_
   passed_next a i f here h = sym (ap (λ is. pass_from code rels hosts notes a is f) (drop_at code.instrs a i here)) ∙ h
 
   pub passes : (a : ℕ) (i : Instr) (f : Found) (nodes : List Node) (t : Table) (w : Walker) (on : Bool) → slice_get code.instrs a ≡ Some i → pass_from code rels hosts notes a (drop a code.instrs) f ≡ pass code rels hosts notes
-      → w.table ≡ t → IsPlaced code a w.place → w.behind ≡ gathers_behind code rels hosts notes a (Some i) → AreCalls code rels hosts notes nodes w.calls.left → Keeps nodes (length code.instrs) t on (step code rels hosts notes a i f) → HasPassed code rels hosts notes nodes w a on
+      → w.table ≡ t → IsPlaced code a w.place → w.behind ≡ gathers_behind code rels hosts notes a (Some i) → AreCalls code rels hosts notes nodes w.calls → Keeps nodes (length code.instrs) t on (step code rels hosts notes a i f) → HasPassed code rels hosts notes nodes w a on
   passes a i f nodes t w on here h table place behind calls keeps = by on (step code rels hosts notes a i f) refl keeps
     where
       here_on : w.behind ≡ behind_walk code rels hosts notes (a + 1)

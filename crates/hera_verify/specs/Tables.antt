@@ -47,7 +47,7 @@ module _ (code : Code) (rels : List RelDecl) (hosts : Hosts) (notes : List Body_
     pub table : IsTable nodes (length code.instrs) w.table f
     pub place : IsPlaced code a w.place
     pub behind : w.behind ≡ behind_walk code rels hosts notes a
-    pub calls : AreCalls code rels hosts notes nodes w.calls.left
+    pub calls : AreCalls code rels hosts notes nodes w.calls
     pub passes : pass_from code rels hosts notes a (drop a code.instrs) f ≡ pass code rels hosts notes
 
   -- with one address more, or the pass stops there

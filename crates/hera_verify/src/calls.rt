@@ -1,8 +1,9 @@
-//! Calls, each of which is looked at once for its body and its operands.
-ghost use Rattle.std.specs.Prelude.{◌≡◌, ◌<◌, ◌+◌, ◌^◌, ℕ, List, IfOk};
+//! Calls, and makings of relations, each of which is looked at once for what it names and its operands.
+ghost use Rattle.std.specs.Prelude.{◌≡◌, ◌<◌, ◌+◌, ◌^◌, ℕ, Some, List, IfOk};
 ghost use Rattle.hera_meaning.specs.declared.schemas.RelDecl.{RelDecl};
 ghost use Rattle.hera_meaning.specs.Hosts.{Hosts};
 ghost use Rattle.hera_code.specs.declared.instrs.Code.{Code as PlainCode};
+ghost use Rattle.hera_code.specs.declared.instrs.Instr.{Instr as PlainInstr};
 ghost use Rattle.hera_typed.specs.Points.{Point};
 ghost use Rattle.hera_typed.specs.Notes.{notes_of};
 ghost use Rattle.hera_typed.specs.Effects.{Body_note, effect};
@@ -10,25 +11,29 @@ ghost use Rattle.hera_host.specs.Tables.{specs_of};
 ghost use Rattle.hera_effects.specs.declared.stacks.Node.{Node};
 ghost use Rattle.hera_effects.specs.Stacked.{AreOperands, IsSpot, Grows};
 ghost use Rattle.hera_effects.specs.Ways.{Both, AreWays};
-ghost use Rattle.hera_verify.specs.Calls.{IsKnown, AreCalls};
+ghost use Rattle.hera_verify.specs.Calls.{IsKnown, call_of, making_of, Replaces, AreLeft, AreCalls};
 
 use hera_code::Instr;
 use hera_effects::{Around, Spot, Stacks, Ways, effect};
+use hera_meaning::Op;
 use std::alloc::{AllocError, Global};
 use std::collections::BTreeMap;
 
-/// What calls leave, by the number of the body and that of the operands.
+/// What calls leave, by the number of the body and that of the operands, and what makings of relations leave, by the
+/// count of tuples and the number of the operands.
 #[derive(Drop)]
 pub(crate) struct Calls {
     pub left: BTreeMap<(u32, u32), u32>,
+    pub made: BTreeMap<(u32, u32), u32>,
 }
 
 /// None was looked at.
 pub(crate) fn no_calls(alloc: Global) -> Calls
-    ensures { (code : PlainCode) → (rels : List RelDecl) → (hosts : Hosts) → (notes : List Body_note) → (nodes : List Node) → AreCalls code rels hosts notes nodes result.left }
+    ensures { (code : PlainCode) → (rels : List RelDecl) → (hosts : Hosts) → (notes : List Body_note) → (nodes : List Node) → AreCalls code rels hosts notes nodes result }
 {
     Calls {
         left: BTreeMap::new(alloc),
+        made: BTreeMap::new(alloc),
     }
 }
 
@@ -50,20 +55,25 @@ fn on(a: usize, spot: Spot, operands: u32) -> Ways
     }
 }
 
-/// Where a call goes on that was looked at.
-fn known(calls: &Calls, j: u32, a: usize, spot: Spot) -> Option<Ways>
+/// Where an instruction of a number goes on that was looked at.
+fn known(left: &BTreeMap<(u32, u32), u32>, number: u32, a: usize, spot: Spot) -> Option<Ways>
     requires { a + 1 < 2 ^ 32 }
-    ensures { (code : PlainCode) → (rels : List RelDecl) → (hosts : Hosts) → (notes : List Body_note) → (nodes : List Node) → (k : ℕ) → (p : Point) → AreCalls code rels hosts notes nodes calls.now.left → IsSpot nodes spot p → IsKnown nodes result (effect code rels hosts notes k a (Instr.Call j) p) }
+    ensures { (code : PlainCode) → (rels : List RelDecl) → (hosts : Hosts) → (notes : List Body_note) → (nodes : List Node) → (is : ℕ → ℕ → PlainInstr) → (k at : ℕ) → (p : Point) → AreLeft code rels hosts notes nodes is left.now → IsSpot nodes spot p → IsKnown nodes result (effect code rels hosts notes k a (is number at) p) }
 {
-    match calls.left.get(&(j, spot.operands)) {
-        Some(left) => Some(on(a, spot, *left)),
+    match left.get(&(number, spot.operands)) {
+        Some(operands) => Some(on(a, spot, *operands)),
         None => None,
     }
 }
 
-/// Takes down what a call leaves.
-fn remember(calls: &mut Calls, j: u32, operands: u32, ways: Option<Ways>) -> Result<(), AllocError>
-    ensures { (code : PlainCode) → (rels : List RelDecl) → (hosts : Hosts) → (notes : List Body_note) → (nodes : List Node) → (k a : ℕ) → (p : Point) → AreCalls code rels hosts notes nodes calls.old.left → AreOperands nodes operands p.operands → Both (AreWays nodes) ways (effect code rels hosts notes k a (Instr.Call j) p) → IfOk result (λ done. AreCalls code rels hosts notes nodes calls.new.left) }
+/// Takes down what an instruction of a number leaves.
+fn remember(
+    left: &mut BTreeMap<(u32, u32), u32>,
+    number: u32,
+    operands: u32,
+    ways: Option<Ways>,
+) -> Result<(), AllocError>
+    ensures { (code : PlainCode) → (rels : List RelDecl) → (hosts : Hosts) → (notes : List Body_note) → (nodes : List Node) → (is : ℕ → ℕ → PlainInstr) → (k a at : ℕ) → (p : Point) → Replaces code rels hosts notes (is number) → AreLeft code rels hosts notes nodes is left.old → AreOperands nodes operands p.operands → Both (AreWays nodes) ways (effect code rels hosts notes k a (is number at) p) → IfOk result (λ done. AreLeft code rels hosts notes nodes is left.new) }
 {
     let Some(ways) = ways else {
         return Ok(());
@@ -71,12 +81,57 @@ fn remember(calls: &mut Calls, j: u32, operands: u32, ways: Option<Ways>) -> Res
     let Some(spot) = ways.point else {
         return Ok(());
     };
-    calls.left.insert((j, operands), spot.operands)?;
+    left.insert((number, operands), spot.operands)?;
     Ok(())
 }
 
-/// A call that was not looked at.
+/// An instruction of a number that was not looked at.
 fn look_at(
+    alloc: Global,
+    around: &Around,
+    stacks: &mut Stacks,
+    left: &mut BTreeMap<(u32, u32), u32>,
+    k: usize,
+    a: usize,
+    instr: &Instr,
+    number: u32,
+    spot: Spot,
+) -> Result<Option<Ways>, AllocError>
+    requires small { a + 1 < 2 ^ 32 }
+    ensures grows { Grows stacks.old stacks.new }
+    ensures effect { (p : Point) → IsSpot stacks.old spot p → IfOk result (λ r. Both (AreWays stacks.new) r (effect around.now.code.now around.now.relations.now (specs_of around.now.hosts.now.names) (notes_of around.now.notes.now) k a instr.now p)) }
+    ensures kept { (is : ℕ → ℕ → PlainInstr) → (at : ℕ) → (p : Point) → instr.now ≡ is number at → Replaces around.now.code.now around.now.relations.now (specs_of around.now.hosts.now.names) (notes_of around.now.notes.now) (is number) → IsSpot stacks.old spot p → AreLeft around.now.code.now around.now.relations.now (specs_of around.now.hosts.now.names) (notes_of around.now.notes.now) stacks.old is left.old → IfOk result (λ r. AreLeft around.now.code.now around.now.relations.now (specs_of around.now.hosts.now.names) (notes_of around.now.notes.now) stacks.new is left.new) }
+{
+    let ways = effect(alloc, around, stacks, k, a, instr, spot)?;
+    remember(left, number, spot.operands, ways)?;
+    Ok(ways)
+}
+
+/// Where an instruction of a number goes on, looked at where that is not known.
+fn once(
+    alloc: Global,
+    around: &Around,
+    stacks: &mut Stacks,
+    left: &mut BTreeMap<(u32, u32), u32>,
+    k: usize,
+    a: usize,
+    instr: &Instr,
+    number: u32,
+    spot: Spot,
+) -> Result<Option<Ways>, AllocError>
+    requires small { a + 1 < 2 ^ 32 }
+    ensures grows { Grows stacks.old stacks.new }
+    ensures effect { (is : ℕ → ℕ → PlainInstr) → (at : ℕ) → (p : Point) → instr.now ≡ is number at → IsSpot stacks.old spot p → AreLeft around.now.code.now around.now.relations.now (specs_of around.now.hosts.now.names) (notes_of around.now.notes.now) stacks.old is left.old → IfOk result (λ r. Both (AreWays stacks.new) r (effect around.now.code.now around.now.relations.now (specs_of around.now.hosts.now.names) (notes_of around.now.notes.now) k a instr.now p)) }
+    ensures kept { (is : ℕ → ℕ → PlainInstr) → (at : ℕ) → (p : Point) → instr.now ≡ is number at → Replaces around.now.code.now around.now.relations.now (specs_of around.now.hosts.now.names) (notes_of around.now.notes.now) (is number) → IsSpot stacks.old spot p → AreLeft around.now.code.now around.now.relations.now (specs_of around.now.hosts.now.names) (notes_of around.now.notes.now) stacks.old is left.old → IfOk result (λ r. AreLeft around.now.code.now around.now.relations.now (specs_of around.now.hosts.now.names) (notes_of around.now.notes.now) stacks.new is left.new) }
+{
+    match known(left, number, a, spot) {
+        Some(ways) => Ok(Some(ways)),
+        None => look_at(alloc, around, stacks, left, k, a, instr, number, spot),
+    }
+}
+
+/// Where a call goes on.
+fn call_once(
     alloc: Global,
     around: &Around,
     stacks: &mut Stacks,
@@ -88,17 +143,62 @@ fn look_at(
     spot: Spot,
 ) -> Result<Option<Ways>, AllocError>
     requires small { a + 1 < 2 ^ 32 }
-    requires call { instr.now ≡ Instr.Call j }
+    requires call { instr.now ≡ call_of j 0 }
+    requires calls { AreCalls around.now.code.now around.now.relations.now (specs_of around.now.hosts.now.names) (notes_of around.now.notes.now) stacks.old calls.old }
     ensures grows { Grows stacks.old stacks.new }
     ensures effect { (p : Point) → IsSpot stacks.old spot p → IfOk result (λ r. Both (AreWays stacks.new) r (effect around.now.code.now around.now.relations.now (specs_of around.now.hosts.now.names) (notes_of around.now.notes.now) k a instr.now p)) }
-    ensures kept { (p : Point) → IsSpot stacks.old spot p → AreCalls around.now.code.now around.now.relations.now (specs_of around.now.hosts.now.names) (notes_of around.now.notes.now) stacks.old calls.old.left → IfOk result (λ r. AreCalls around.now.code.now around.now.relations.now (specs_of around.now.hosts.now.names) (notes_of around.now.notes.now) stacks.new calls.new.left) }
+    ensures kept { (p : Point) → IsSpot stacks.old spot p → IfOk result (λ r. AreCalls around.now.code.now around.now.relations.now (specs_of around.now.hosts.now.names) (notes_of around.now.notes.now) stacks.new calls.new) }
 {
-    let ways = effect(alloc, around, stacks, k, a, instr, spot)?;
-    remember(calls, j, spot.operands, ways)?;
-    Ok(ways)
+    once(alloc, around, stacks, &mut calls.left, k, a, instr, j, spot)
 }
 
-/// Where an instruction goes on, as `effect` says. A call is looked at once for its body and its operands.
+/// Where a making of a relation goes on.
+fn make_once(
+    alloc: Global,
+    around: &Around,
+    stacks: &mut Stacks,
+    calls: &mut Calls,
+    k: usize,
+    a: usize,
+    instr: &Instr,
+    count: u32,
+    spot: Spot,
+) -> Result<Option<Ways>, AllocError>
+    requires small { a + 1 < 2 ^ 32 }
+    requires making { (at : ℕ) × (instr.now ≡ making_of count at) }
+    requires calls { AreCalls around.now.code.now around.now.relations.now (specs_of around.now.hosts.now.names) (notes_of around.now.notes.now) stacks.old calls.old }
+    ensures grows { Grows stacks.old stacks.new }
+    ensures effect { (p : Point) → IsSpot stacks.old spot p → IfOk result (λ r. Both (AreWays stacks.new) r (effect around.now.code.now around.now.relations.now (specs_of around.now.hosts.now.names) (notes_of around.now.notes.now) k a instr.now p)) }
+    ensures kept { (p : Point) → IsSpot stacks.old spot p → IfOk result (λ r. AreCalls around.now.code.now around.now.relations.now (specs_of around.now.hosts.now.names) (notes_of around.now.notes.now) stacks.new calls.new) }
+{
+    once(
+        alloc,
+        around,
+        stacks,
+        &mut calls.made,
+        k,
+        a,
+        instr,
+        count,
+        spot,
+    )
+}
+
+/// How many tuples the instruction makes a relation of, if it makes one.
+fn made_of(instr: &Instr) -> Option<u32>
+    ensures { (count : ℕ) → result ≡ Some count → (at : ℕ) × (instr.now ≡ making_of count at) }
+{
+    let Instr::Prim(op, _) = instr else {
+        return None;
+    };
+    match op {
+        Op::MakeRel(count) => Some(*count),
+        _ => None,
+    }
+}
+
+/// Where an instruction goes on, as `effect` says. A call is looked at once for its body and its operands, and a making
+/// of a relation for its count and its operands.
 pub(crate) fn effect_once(
     alloc: Global,
     around: &Around,
@@ -110,16 +210,16 @@ pub(crate) fn effect_once(
     spot: Spot,
 ) -> Result<Option<Ways>, AllocError>
     requires small { a + 1 < 2 ^ 32 }
-    requires calls { AreCalls around.now.code.now around.now.relations.now (specs_of around.now.hosts.now.names) (notes_of around.now.notes.now) stacks.old calls.old.left }
+    requires calls { AreCalls around.now.code.now around.now.relations.now (specs_of around.now.hosts.now.names) (notes_of around.now.notes.now) stacks.old calls.old }
     ensures grows { Grows stacks.old stacks.new }
     ensures effect { (p : Point) → IsSpot stacks.old spot p → IfOk result (λ r. Both (AreWays stacks.new) r (effect around.now.code.now around.now.relations.now (specs_of around.now.hosts.now.names) (notes_of around.now.notes.now) k a instr.now p)) }
-    ensures kept { (p : Point) → IsSpot stacks.old spot p → IfOk result (λ r. AreCalls around.now.code.now around.now.relations.now (specs_of around.now.hosts.now.names) (notes_of around.now.notes.now) stacks.new calls.new.left) }
+    ensures kept { (p : Point) → IsSpot stacks.old spot p → IfOk result (λ r. AreCalls around.now.code.now around.now.relations.now (specs_of around.now.hosts.now.names) (notes_of around.now.notes.now) stacks.new calls.new) }
 {
-    let Instr::Call(j) = instr else {
-        return effect(alloc, around, stacks, k, a, instr, spot);
-    };
-    match known(calls, *j, a, spot) {
-        Some(ways) => Ok(Some(ways)),
-        None => look_at(alloc, around, stacks, calls, k, a, instr, *j, spot),
+    if let Instr::Call(j) = instr {
+        return call_once(alloc, around, stacks, calls, k, a, instr, *j, spot);
+    }
+    match made_of(instr) {
+        Some(count) => make_once(alloc, around, stacks, calls, k, a, instr, count, spot),
+        None => effect(alloc, around, stacks, k, a, instr, spot),
     }
 }

@@ -136,10 +136,10 @@ fn from_spot(
     requires there { place.body < length around.now.code.now.bodies }
     requires reach { IsReach around.now.code.now place.body place.reach }
     requires home { home around.now.code.now a ≡ place.body }
-    requires calls { AreCalls around.now.code.now around.now.relations.now (specs_of around.now.hosts.now.names) (notes_of around.now.notes.now) stacks.old calls.old.left }
+    requires calls { AreCalls around.now.code.now around.now.relations.now (specs_of around.now.hosts.now.names) (notes_of around.now.notes.now) stacks.old calls.old }
     ensures grows { Grows stacks.old stacks.new }
     ensures follows { (f : Found) → (p : Point) → IsTable stacks.old (length around.now.code.now.instrs) table.old f → IsSpot stacks.old spot p → IfOk result (λ ok. Keeps stacks.new (length around.now.code.now.instrs) table.new ok (from_point around.now.code.now around.now.relations.now (specs_of around.now.hosts.now.names) (notes_of around.now.notes.now) a instr.now (Some p) f)) }
-    ensures kept { (p : Point) → IsSpot stacks.old spot p → IfOk result (λ ok. AreCalls around.now.code.now around.now.relations.now (specs_of around.now.hosts.now.names) (notes_of around.now.notes.now) stacks.new calls.new.left) }
+    ensures kept { (p : Point) → IsSpot stacks.old spot p → IfOk result (λ ok. AreCalls around.now.code.now around.now.relations.now (specs_of around.now.hosts.now.names) (notes_of around.now.notes.now) stacks.new calls.new) }
 {
     let ways = effect_once(alloc, around, stacks, calls, place.body, a, instr, spot)?;
     match ways {
@@ -177,10 +177,10 @@ fn step(
     requires reach { IsReach around.now.code.now place.body place.reach }
     requires home { home around.now.code.now a ≡ place.body }
     requires behind { behind ≡ behind_walk around.now.code.now around.now.relations.now (specs_of around.now.hosts.now.names) (notes_of around.now.notes.now) a }
-    requires calls { AreCalls around.now.code.now around.now.relations.now (specs_of around.now.hosts.now.names) (notes_of around.now.notes.now) stacks.old calls.old.left }
+    requires calls { AreCalls around.now.code.now around.now.relations.now (specs_of around.now.hosts.now.names) (notes_of around.now.notes.now) stacks.old calls.old }
     ensures grows { Grows stacks.old stacks.new }
     ensures steps { (f : Found) → IsTable stacks.old (length around.now.code.now.instrs) table.old f → IfOk result (λ ok. Keeps stacks.new (length around.now.code.now.instrs) table.new ok (step around.now.code.now around.now.relations.now (specs_of around.now.hosts.now.names) (notes_of around.now.notes.now) a instr.now f)) }
-    ensures kept { (f : Found) → IsTable stacks.old (length around.now.code.now.instrs) table.old f → IfOk result (λ ok. AreCalls around.now.code.now around.now.relations.now (specs_of around.now.hosts.now.names) (notes_of around.now.notes.now) stacks.new calls.new.left) }
+    ensures kept { (f : Found) → IsTable stacks.old (length around.now.code.now.instrs) table.old f → IfOk result (λ ok. AreCalls around.now.code.now around.now.relations.now (specs_of around.now.hosts.now.names) (notes_of around.now.notes.now) stacks.new calls.new) }
 {
     let broken = table.is_broken(a);
     let placed = is_placed(around, place.body, a, instr);

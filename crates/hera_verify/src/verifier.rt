@@ -52,7 +52,8 @@ fn answer(alloc: Global, file: &CodeFile, hosts: &HostTable) -> Result<Option<u3
 
 /// Whether code with its notes is typed code over its relations and these hosts. It takes one pass over the
 /// instructions, bodies and slots, and one for each doubling of a slot's range. A call takes a step for each parameter,
-/// once for each body and list of operands, and an operation one for each operand.
+/// once for each body and list of operands, a relation made of tuples one for each tuple, once for each count and list
+/// of operands, and another operation one for each operand. Lists of operands share their ends.
 pub fn verify(alloc: Global, file: &CodeFile, hosts: &HostTable) -> Result<(), VerifyFault>
     requires short { length file.now.code.instrs < 2 ^ 32 }
     requires noted { AreNoted file.now.code.bodies file.now.notes.bodies.items }

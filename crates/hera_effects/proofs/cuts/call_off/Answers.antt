@@ -1,7 +1,7 @@
-use Rattle.std.proofs.Common.{◌≡◌, ◌-◌, ◌+◌, suc, subst, ap, refl, ◌∙◌, length, map, arith}
+use Rattle.std.proofs.Common.{◌≡◌, ◌-◌, ◌+◌, suc, subst, ap, refl, ◌∙◌, length, arith}
 use Rattle.std.proofs.lemmas.Option.{slice_get_read}
 use Rattle.hera_meaning.specs.Forms.{form_of}
-use Rattle.hera_typed.specs.Notes.{body_note, slot_note}
+use Rattle.hera_typed.specs.Notes.{body_note}
 use Rattle.hera_typed.specs.Effects.{slot_forms}
 use Rattle.std.specs.Prelude.{slice_get}
 use Rattle.hera_effects.proofs.Calling.{IsCalling, begins, goes_further, ends_early, too_few_slots, slots_many}

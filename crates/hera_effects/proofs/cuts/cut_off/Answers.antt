@@ -1,4 +1,4 @@
-use Rattle.std.proofs.Common.{◌≡◌, ◌-◌, ◌+◌, ◌++◌, ◌∷◌, suc, [], sym, subst, ◌∙◌, arith}
+use Rattle.std.proofs.Common.{◌≡◌, ◌-◌, ◌+◌, suc, [], sym, subst, ◌∙◌, arith}
 use Rattle.hera_effects.proofs.Effecting.{IsTaking, takes_first, takes_more, takes_none}
 use Rattle.hera_effects.proofs.cuts.cut_off.Goals as goal
 

@@ -1,5 +1,4 @@
 use Rattle.std.proofs.Common.{◌+◌, subst}
-use Rattle.hera_host.specs.Tables.{specs_of}
 use Rattle.hera_typed.specs.Notes.{notes_of}
 use Rattle.std.specs.Option.{option_map}
 use Rattle.hera_typed.specs.Points.{with, when, first}

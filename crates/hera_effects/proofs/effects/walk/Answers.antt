@@ -1,5 +1,4 @@
 use Rattle.std.proofs.Common.{ℕ, ◌∷◌, [], Some, subst}
-use Rattle.hera_host.specs.Tables.{specs_of}
 use Rattle.hera_typed.specs.Notes.{notes_of}
 use Rattle.std.specs.Prelude.{IfOk, slice_get}
 use Rattle.hera_typed.specs.Points.{when, first}

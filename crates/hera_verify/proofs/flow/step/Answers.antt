@@ -31,4 +31,4 @@ returns-in-None-clause-steps g c f is =
 pub returns-in-Some-clause-kept : goal.returns-in-Some-clause-kept
 returns-in-Some-clause-kept g c f is =
     keeps_known c.args.around.now.code.now c.args.around.now.relations.now (specs_of c.args.around.now.hosts.now.names) (notes_of c.args.around.now.notes.now) c.from_spot.new.stacks c.from_spot.result c.args.stacks.now c.args.table.now c.in-Some.spot c.args.a f
-    (AreCalls c.args.around.now.code.now c.args.around.now.relations.now (specs_of c.args.around.now.hosts.now.names) (notes_of c.args.around.now.notes.now) c.from_spot.new.stacks c.from_spot.new.calls.left) (c.spot_at.ensures ∙ ap (λ o. Some o) c.in-Some.is) is (λ p k. c.from_spot.ensures.kept p k)
+    (AreCalls c.args.around.now.code.now c.args.around.now.relations.now (specs_of c.args.around.now.hosts.now.names) (notes_of c.args.around.now.notes.now) c.from_spot.new.stacks c.from_spot.new.calls) (c.spot_at.ensures ∙ ap (λ o. Some o) c.in-Some.is) is (λ p k. c.from_spot.ensures.kept p k)
