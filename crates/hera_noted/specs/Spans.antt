@@ -19,11 +19,6 @@ is_writer (Store j) i = nat_eq j i
 is_writer (Next j b) i = nat_eq j i
 is_writer _ i = false
 
--- a range that is cut off at an address, where that lies in it
-abbrev pub cut_at : Option ℕ → (from to : ℕ) → ℕ
-cut_at None from to = to
-cut_at (Some b) from to = cond (nat_le from b && nat_lt b to) b to
-
 -- where a body ends, of which this is the next one: there, but not behind the code
 abbrev pub end_by : Option BodyInfo → ℕ → ℕ
 end_by None long = long
@@ -50,13 +45,6 @@ module _ (is : List Instr) (lo hi : ℕ) where
     pub here : slice_get is a ≡ Some instr
     pub writes : is_writer instr i ≡ true
     pub before : IsUnwritten a i
-
-  -- an end of a range that begins here: no way from below address a leads in, and all farther ends are ruled out
-  pub record IsEntered (a from to : ℕ) : Type 0 where
-    pub up : from ≤ to
-    pub within : to ≤ hi
-    pub entries : (c b : ℕ) (i : Instr) → lo ≤ c → c < a → slice_get is c ≡ Some i → target_of i ≡ Some b → from ≤ b → to ≤ b
-    pub farthest : (z : ℕ) → z ≤ hi → IsClosed from z → z ≤ to
 
   -- the farthest end of a range that begins here
   pub record IsFarthest (from to : ℕ) : Type 0 where
