@@ -1,2 +1,4 @@
 pub mod Starts
+pub mod Kept
+pub mod Lines
 mod Worked

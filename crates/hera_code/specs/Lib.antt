@@ -3,3 +3,4 @@ pub mod Machine
 pub mod Reached
 pub mod Forward
 pub mod Listing
+pub mod Numbered

@@ -206,9 +206,8 @@ fn put_lines(out: &mut Vec<u8>, code: &Code, start: usize, end: usize) -> Result
     requires end { end ≤ length code.now.instrs }
     ensures { OnOk result (out.new.items ≡ out.old.items ++ instr_lines start (slice_range code.now.instrs start end)) }
 {
-    let instrs = &code.instrs.as_slice()[start..end];
-    for (i, instr) in instrs.iter().enumerate() {
-        put_line(out, start + i, instr)?;
+    for at in start..end {
+        put_line(out, at, code.instrs.at(at))?;
     }
     Ok(())
 }

@@ -39,6 +39,7 @@ fn some_slots(alloc: Global, bytes: &[u8], count: u32) -> Result<(Vec<SlotNote>,
         slots.push(slot)?;
         rest = behind;
     }
+    slots.shrink_to_fit();
     Ok((slots, rest))
 }
 

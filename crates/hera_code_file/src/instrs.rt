@@ -173,10 +173,10 @@ fn instr(alloc: Global, bytes: &[u8]) -> Result<(Instr, &[u8]), Stop>
 }
 
 /// So many instructions.
-fn some_instrs(alloc: Global, bytes: &[u8], count: u32) -> Result<(Vec<Instr>, &[u8]), Stop>
-    ensures { Gives (λ x. (x.0.items, x.1.now)) result (many (λ before. instr_at) count [] bytes.now) }
+fn some_instrs(alloc: Global, bytes: &[u8], count: u32) -> Result<(Instrs, &[u8]), Stop>
+    ensures { Gives (λ x. (x.0, x.1.now)) result (many (λ before. instr_at) count [] bytes.now) }
 {
-    let mut instrs = Vec::new(alloc);
+    let mut instrs = Instrs::new(Vec::new(alloc));
     let mut rest = bytes;
     for _ in 0..count {
         let (instr, behind) = instr(alloc, rest)?;
@@ -192,6 +192,5 @@ pub(crate) fn instrs(alloc: Global, bytes: &[u8]) -> Result<(Instrs, &[u8]), Sto
     ensures { Gives (λ x. (x.0, x.1.now)) result (instrs_at bytes.now) }
 {
     let (count, rest) = word(bytes)?;
-    let (instrs, rest) = some_instrs(alloc, rest, count)?;
-    Ok((Instrs::new(instrs), rest))
+    some_instrs(alloc, rest, count)
 }

@@ -218,6 +218,7 @@ fn some_places(alloc: Global, bytes: &[u8], count: u32) -> Result<(Vec<usize>, &
         places.push(place as usize)?;
         rest = behind;
     }
+    places.shrink_to_fit();
     Ok((places, rest))
 }
 
@@ -242,6 +243,7 @@ fn some_aggs(alloc: Global, bytes: &[u8], count: u32) -> Result<(Vec<Agg>, &[u8]
         aggs.push(agg)?;
         rest = behind;
     }
+    aggs.shrink_to_fit();
     Ok((aggs, rest))
 }
 

@@ -90,6 +90,7 @@ fn attrs(alloc: Global, bytes: &[u8], count: u8) -> Result<(Vec<Attr>, &[u8]), S
         attrs.push(attr)?;
         rest = behind;
     }
+    attrs.shrink_to_fit();
     Ok((attrs, rest))
 }
 

@@ -9,7 +9,7 @@ ghost use Rattle.hera_code_file.specs.Files.{AreNoted, file_body, file_bodies, f
 use crate::putting::{
     put_byte, put_double, put_flag, put_half, put_relations, put_schema, put_word,
 };
-use hera_code::{Bodies, BodyInfo, Code, Instr};
+use hera_code::{Bodies, BodyInfo, Code, Instr, Instrs};
 use hera_meaning::writing::put;
 use hera_meaning::{Agg, Const, Line, Op, RelDecl, RelId, Scalar, Schema, Shape, Sign, Text};
 use hera_typed::{BodyNote, Notes, SlotNote};
@@ -310,14 +310,14 @@ fn put_instr(out: &mut Vec<u8>, instr: &Instr) -> Result<(), AllocError>
 }
 
 /// Instructions: how many there are, and each.
-fn put_instrs(out: &mut Vec<u8>, instrs: &[Instr]) -> Result<(), AllocError>
+fn put_instrs(out: &mut Vec<u8>, instrs: &Instrs) -> Result<(), AllocError>
     requires { Each InstrStands instrs.now }
     ensures text { OnOk result (out.new.items ≡ out.old.items ++ list_bytes instr_bytes instrs.now) }
     ensures fits { OnOk result (Each InstrFits instrs.now) }
 {
     put_place(out, instrs.len())?;
-    for instr in instrs {
-        put_instr(out, instr)?;
+    for at in 0..instrs.len() {
+        put_instr(out, instrs.at(at))?;
     }
     Ok(())
 }
@@ -446,6 +446,6 @@ pub fn write_code(
     let mut out = Vec::from_slice(alloc, b"HERACODE")?;
     put_relations(&mut out, relations)?;
     put_bodies(&mut out, &code.bodies, &notes.bodies)?;
-    put_instrs(&mut out, code.instrs.as_slice())?;
+    put_instrs(&mut out, &code.instrs)?;
     Ok(Line::new(out))
 }

@@ -117,10 +117,10 @@ fn compute_with(work: &mut Running<'_>, code: &Code, k: usize, v: Flat, n: i64) 
 {
     // for the proof alone: addresses of code are below 2^64 - 1
     let _len = code.instrs.len();
-    let Some(Instr::Prim(op, _)) = code.instrs.get(work.at + k + 1) else {
+    let Some(Instr::Prim(op, _)) = code.instrs.near(work.at + k + 1) else {
         return false;
     };
-    match code.instrs.get(work.at + k + 2) {
+    match code.instrs.near(work.at + k + 2) {
         Some(Instr::Unless(a)) => part_by_computed(work, code, k, v, n, op, *a),
         Some(Instr::Store(i)) => store_computed(work, k, v, n, op, *i),
         _ => put_computed(work, k, v, n, op),
@@ -136,7 +136,7 @@ pub(crate) fn go_on_with(work: &mut Running<'_>, code: &Code, k: usize, v: Flat)
     ensures layers { work.new.layers ≡ work.old.layers }
     ensures relations { work.new.relations ≡ work.old.relations }
 {
-    match code.instrs.get(work.at + k) {
+    match code.instrs.near(work.at + k) {
         Some(Instr::Push(Const::Scalar(Scalar::Int(n)))) => {
             compute_with(work, code, k, v, *n) || put_up(work, k, v)
         }

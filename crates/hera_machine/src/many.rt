@@ -40,8 +40,25 @@ fn try_some(work: &mut Running<'_>, code: &Code, stored: &Stored<'_>) -> bool
 {
     // for the proof alone: addresses of code are below 2^64 - 1
     let _len = code.instrs.len();
+    match code.instrs.near(work.at) {
+        None => try_far(work, code, stored),
+        Some(instr) => { try_fused(work, instr, code) || work.try_one(instr, code, stored) }
+    }
+}
+
+/// Executes the instruction at hand, wherever it stands, if that is a common one on ints, bools and tuples. Where memory for
+/// it is refused nothing has changed.
+#[inline(never)]
+fn try_far(work: &mut Running<'_>, code: &Code, stored: &Stored<'_>) -> bool
+    ensures goes { (rels : List PlainDecl) → (hosts : Hosts) → let s = stored.now.state in result ≡ true → GoesOn 1 code.now rels hosts s (machine_at s work.old) (machine_at s work.new) }
+    ensures kept { result ≡ false → work.new ≡ work.old }
+    ensures layers { work.new.layers ≡ work.old.layers }
+    ensures relations { work.new.relations ≡ work.old.relations }
+{
+    // for the proof alone: addresses of code are below 2^64 - 1
+    let _len = code.instrs.len();
     match code.instrs.get(work.at) {
         None => false,
-        Some(instr) => { try_fused(work, instr, code) || work.try_one(instr, code, stored) }
+        Some(instr) => work.try_one(instr, code, stored),
     }
 }

@@ -145,7 +145,7 @@ fn loaded_next(work: &mut Running<'_>, code: &Code, i: u32) -> bool
 {
     // for the proof alone: addresses of code are below 2^64 - 1
     let _len = code.instrs.len();
-    match code.instrs.get(work.at + 1) {
+    match code.instrs.near(work.at + 1) {
         Some(Instr::Prim(Op::Field(schema, field), at)) => {
             loaded_field(work, code, i, schema, *field, *at)
         }
@@ -165,7 +165,7 @@ fn pushed_next(work: &mut Running<'_>, code: &Code, n: i64) -> bool
 {
     // for the proof alone: addresses of code are below 2^64 - 1
     let _len = code.instrs.len();
-    match code.instrs.get(work.at + 1) {
+    match code.instrs.near(work.at + 1) {
         Some(Instr::Prim(op, _)) => computed_with(work, n, op),
         _ => false,
     }
@@ -183,10 +183,10 @@ fn parted_next(work: &mut Running<'_>, code: &Code, n: i64) -> bool
 {
     // for the proof alone: addresses of code are below 2^64 - 1
     let _len = code.instrs.len();
-    let Some(Instr::Prim(op, _)) = code.instrs.get(work.at + 1) else {
+    let Some(Instr::Prim(op, _)) = code.instrs.near(work.at + 1) else {
         return false;
     };
-    match code.instrs.get(work.at + 2) {
+    match code.instrs.near(work.at + 2) {
         Some(Instr::Unless(a)) => parted_with(work, code, n, op, *a),
         _ => false,
     }

@@ -8,7 +8,7 @@ use Rattle.hera_meaning.specs.declared.trees.Op.TheVariants.{Neg, Not, Add, Sub,
 use Rattle.hera_meaning.specs.Fits.{arity}
 use Rattle.hera_meaning.specs.Trees.{Expr, Exprs, no_more, then_expr, Links, Hypos}
 use Rattle.hera_meaning.specs.Addresses.{expr_end, exprs_end, links_end, every_last, some_end, hypos_end}
-use Rattle.hera_meaning.specs.Forms.{Form, of_scalar, of_tuple, of_table, of_delta, kinds_of, bool_form, OpForms}
+use Rattle.hera_meaning.specs.Forms.{Form, of_scalar, of_tuple, of_table, kinds_of, bool_form, OpForms}
 use Rattle.hera_codegen.proofs.Places.{expr_length, exprs_length, some_length, links_length, hypos_length}
 use Rattle.hera_typed.specs.Points.{Seen, known, Point, cut}
 use Rattle.hera_typed.specs.Effects.{with_operands, is_relation}
@@ -34,9 +34,6 @@ cut_all ss p =
 
 pub bool_seen : (s : Seen) → Below s bool_form → s ≡ known bool_form
 bool_seen _ is_known = refl
-
-delta_seen : (s : Seen) → Below s of_delta → s ≡ known of_delta
-delta_seen _ is_known = refl
 
 pub table_seen : (s : Seen) (ks : List Kind) → Below s (of_table ks) → is_relation s ≡ true
 table_seen _ ks is_known = refl

@@ -1,5 +1,5 @@
 -- What the notes of code tell, attribute names left out; and the law.
-use Rattle.std.proofs.Common.{◌≡◌, ℕ, zero, suc, List, [], ◌∷◌, ◌++◌, map, length, Some, refl, sym, ap, ◌∙◌, subst, arith}
+use Rattle.std.proofs.Common.{◌≡◌, ℕ, suc, List, [], ◌∷◌, map, length, Some, refl, sym, ap, ◌∙◌, subst, arith}
 use Rattle.std.specs.Prelude.{slice_get}
 use Rattle.std.proofs.lemmas.Option.{slice_get_within}
 use Rattle.hera_meaning.specs.declared.scalars.Kind.{Kind}
@@ -19,7 +19,7 @@ use Rattle.hera_typed.specs.Effects.{Slot_note, Body_note, slot_forms}
 use Rattle.hera_typed.specs.Notes.{slot_note, body_note, notes_of}
 use Rattle.hera_meaning.specs.Shapes.{Body_shapes, form_if, kinds_if, body_shapes, IsShaped}
 use Rattle.hera_typed.specs.Typed.{Points, IsTyped}
-use Rattle.hera_typed.proofs.Asking.{some_is, none_is}
+use Rattle.hera_typed.proofs.Asking.{some_is}
 use Rattle.hera_noted.specs.Spans.{end_of, IsRange}
 use Rattle.hera_noted.specs.Given.{HasBodies, AreGiven}
 use Rattle.hera_noted.specs.Ranged.{IsBodyNoted, AreNoted}
@@ -118,9 +118,3 @@ slots_of bodies shapes has k s e =
     q.shapes ∙ sym q.gathers
 
 -- ---- lists that grow
-
-pub get_pushed : {A : Type 0} (xs : List A) (x : A) (j : ℕ) (y : A) (P : ℕ → A → Type 0) → slice_get (xs ++ x ∷ []) j ≡ Some y → ((j : ℕ) (y : A) → slice_get xs j ≡ Some y → P j y) → P (length xs) x → P j y
-get_pushed [] x zero y P e f h = subst (λ y. P 0 y) (some_is x y e) h
-get_pushed [] x (suc j) y P e f h = none_is _ y e
-get_pushed (z ∷ xs) x zero y P e f h = f 0 y e
-get_pushed (z ∷ xs) x (suc j) y P e f h = get_pushed xs x j y (λ j y. P (suc j) y) e (λ j y e. f (suc j) y e) h

@@ -8,7 +8,7 @@ ghost use Rattle.hera_noted.specs.Writes.{AreWrites, IsRangeIn};
 
 use crate::ends::farthest_ends;
 use crate::ways::sources_in;
-use hera_code::{Code, Instr};
+use hera_code::{Code, Instr, Instrs};
 use std::alloc::{AllocError, Global};
 
 /// The addresses of a body, or of a part of it: from `start` up to before `end`.
@@ -103,7 +103,7 @@ fn no_writes(alloc: Global, slots: usize) -> Result<Vec<Option<usize>>, AllocErr
 /// The first instruction of a body that writes each slot.
 fn first_writes(
     alloc: Global,
-    instrs: &[Instr],
+    instrs: &Instrs,
     body: Span,
     slots: usize,
 ) -> Result<Vec<Option<usize>>, AllocError>
@@ -113,7 +113,7 @@ fn first_writes(
 {
     let mut writes = no_writes(alloc, slots)?;
     for at in body.start..body.end {
-        note_write(&mut writes, &instrs[at], at);
+        note_write(&mut writes, instrs.at(at), at);
     }
     Ok(writes)
 }
@@ -139,7 +139,7 @@ fn range_behind(write: Option<usize>, body: Span, ends: &[usize]) -> Span
 /// from elsewhere. Empty where no instruction writes it.
 pub fn slot_ranges(
     alloc: Global,
-    instrs: &[Instr],
+    instrs: &Instrs,
     body: Span,
     slots: usize,
 ) -> Result<Vec<Span>, AllocError>
@@ -172,5 +172,5 @@ pub fn ranges_in_body(
         start: body_start(code, k),
         end: body_end(code, k),
     };
-    slot_ranges(alloc, code.instrs.as_slice(), body, slots)
+    slot_ranges(alloc, &code.instrs, body, slots)
 }

@@ -6,7 +6,7 @@ ghost use Rattle.hera_noted.specs.Spans.{target_of};
 ghost use Rattle.hera_noted.specs.Ways.{widened as wider, HaveSources};
 
 use crate::extents::Span;
-use hera_code::Instr;
+use hera_code::{Instr, Instrs};
 use std::alloc::{AllocError, Global};
 
 /// From where ways lead to a place of a body: the first and the last of these places, or its own where that comes
@@ -93,13 +93,13 @@ fn note_way(all: &mut Vec<Sources>, instr: &Instr, body: Span, at: usize)
 }
 
 /// The sources of the ways to each place of a body.
-pub fn sources_in(alloc: Global, instrs: &[Instr], body: Span) -> Result<Vec<Sources>, AllocError>
+pub fn sources_in(alloc: Global, instrs: &Instrs, body: Span) -> Result<Vec<Sources>, AllocError>
     requires { body.end ≤ length instrs.now }
     ensures { IfOk result (λ all. HaveSources instrs.now body.start body.end body.end all.items) }
 {
     let mut all = own_sources(alloc, body.end.saturating_sub(body.start))?;
     for at in body.start..body.end {
-        note_way(&mut all, &instrs[at], body, at);
+        note_way(&mut all, instrs.at(at), body, at);
     }
     Ok(all)
 }

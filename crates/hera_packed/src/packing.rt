@@ -35,7 +35,7 @@ fn write(
     requires noted { AreNoted code.now.bodies notes.now.bodies.items }
     ensures { IfOk result (λ line. IsFileOf line (file_of relations.now code.now notes.now)) }
 {
-    if instrs_stand(code.instrs.as_slice()) && notes_stand(&notes.bodies) {
+    if instrs_stand(&code.instrs) && notes_stand(&notes.bodies) {
         write_code(alloc, relations, code, notes)
     } else {
         Err(AllocError)

@@ -5,7 +5,7 @@ ghost use Rattle.hera_code_file.specs.Fitting.{IsWord, Each, AggFits};
 ghost use Rattle.hera_code_writer.specs.Writable.{AreNames, ShapeStands, OpStands, InstrStands, SlotStands};
 ghost use Rattle.hera_packed.specs.Writing.{NoteStands};
 
-use hera_code::Instr;
+use hera_code::{Instr, Instrs};
 use hera_meaning::{Agg, Op, Schema, Shape};
 use hera_row::has_names;
 use hera_typed::{BodyNote, SlotNote};
@@ -129,14 +129,14 @@ fn instr_stands(instr: &Instr) -> bool
 }
 
 /// Whether instructions can be written.
-pub(crate) fn instrs_stand(instrs: &[Instr]) -> bool
+pub(crate) fn instrs_stand(instrs: &Instrs) -> bool
     ensures { IsTrue result → Each InstrStands instrs.now }
 {
     if !is_word(instrs.len()) {
         return false;
     }
-    for instr in instrs {
-        if !instr_stands(instr) {
+    for at in 0..instrs.len() {
+        if !instr_stands(instrs.at(at)) {
             return false;
         }
     }

@@ -10,10 +10,9 @@ use Rattle.hera_meaning.specs.Deltas.{Atom, Delta, fail, atoms, State, apply_of,
 use Rattle.hera_meaning.specs.Fits.{is_atom_of, is_delta_of}
 use Rattle.hera_meaning.proofs.RowsRead.{is_row-from_IsRow}
 use Rattle.when_overlay.specs.Changed.{after_all}
-use Rattle.hera_machine.specs.Over.{state_over}
 use Rattle.rel_pages.specs.Stored.{Stored}
 use Rattle.hera_meaning.specs.Commits.{after_all as after_commits, IsCommitOf}
-use Rattle.hera_store.specs.Standing.{Standing, database_of}
+use Rattle.hera_store.specs.Standing.{Standing}
 use Rattle.hera_meaning.proofs.CommitLaws.{state_push}
 use Rattle.hera_run.specs.Keeping.{IsLevelled}
 use Rattle.hera_run.proofs.Images.{with_over}
@@ -47,7 +46,3 @@ levelled_more levels more old now d base longer h does own known = record {
       ∙ sym (ap (λ (b : Stored). after_commits b.state now.commits) base ∙ ap (after_commits old.base.state) longer);
   of = ap (λ (b : Stored). list_all (is_delta_of b.catalogue) more) base ∙ known h.of (delta_known old.base.catalogue d own);
 }
-
--- the state that a step reads is the one stored
-pub state_read : (levels : List Delta) (s : Standing) (ds : List Delta) → IsLevelled levels s → ds ≡ levels → state_over s.base.state ds ≡ (database_of s).state
-state_read levels s ds h given = ap (state_over s.base.state) given ∙ h.same

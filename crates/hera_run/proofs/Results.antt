@@ -35,19 +35,11 @@ pub err_is : {T : Type 0} (P : Stop → Type 0) (r : Result T Stop) (stop : Stop
 err_is P (Ok x) stop none p = tt
 err_is P (Err e) stop same p = subst P (sym same) p
 
-pub err_then : {T : Type 0} (A : Type 0) (r : Result T Stop) (stop : Stop) → r ≡ Err stop → OnErr r A → A
-err_then {T} A r stop is a = subst (λ (x : Result T Stop). OnErr x A) is a
-
 -- ---- stops of a call that only speaks
 
 pub output_is_spoken : {T : Type 0} (r : Result T Stop) → IfErr r (λ stop. stop ≡ Output) → IfErr r IsSpoken
 output_is_spoken (Ok x) fault = tt
 output_is_spoken (Err stop) fault = subst IsSpoken (sym fault) tt
-
--- such a stop, handed on, is no full half
-pub spoken_not_full : {T : Type 0} (r : Result T Stop) (stop : Stop) → IsErrAnd r (λ e. e ≡ stop) → IsSpoken stop → ◌≡◌ {A = Result T Stop} r (Err Full) → ⊥
-spoken_not_full (Ok x) stop none spoken is = none
-spoken_not_full {T} (Err e) stop same spoken is = subst IsSpoken (sym same ∙ same_error {A = T} e Full is) spoken
 
 -- ---- files that are kept
 

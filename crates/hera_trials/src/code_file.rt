@@ -1,4 +1,5 @@
 //! A small file, read, spoiled and written.
+use hera_code::{Instr, Instrs};
 use hera_code_file::{CodeFault, read_code};
 use hera_code_writer::write_code;
 use std::alloc::Global;
@@ -65,4 +66,40 @@ fn a_file_is_written_as_it_was_read(rt: HostRuntime) -> Result<(), Fail> {
         }
         Err(_) => Err("the bytes are a file".into()),
     }
+}
+
+/// A file of 144,000 instructions in one body: `leave`, the constant true and a load, again and again.
+fn long_file(alloc: Global) -> Result<Vec<u8>, Fail> {
+    let mut bytes = Vec::from_slice(alloc, &FILE[..28])?;
+    bytes.extend_from_slice(&144_000_u32.to_be_bytes())?;
+    for _ in 0..48_000 {
+        bytes.extend_from_slice(&[10, 0, 1, 1, 1, 0, 0, 0, 9])?;
+    }
+    Ok(bytes)
+}
+
+/// Whether these are the long file's instructions, where the row ends and behind it too.
+fn are_long(instrs: &Instrs) -> bool {
+    instrs.len() == 144_000
+        && matches!(instrs.get(0), Some(Instr::Leave))
+        && matches!(instrs.near(131_071), Some(Instr::Push(_)))
+        && instrs.near(131_072).is_none()
+        && matches!(instrs.get(131_071), Some(Instr::Push(_)))
+        && matches!(instrs.get(131_072), Some(Instr::Load(9)))
+        && matches!(instrs.get(131_073), Some(Instr::Leave))
+        && matches!(instrs.get(143_998), Some(Instr::Push(_)))
+        && matches!(instrs.get(143_999), Some(Instr::Load(9)))
+        && instrs.get(144_000).is_none()
+}
+
+#[test]
+fn far_instructions_are_read_as_the_first_ones(rt: HostRuntime) -> Result<(), Fail> {
+    let bytes = long_file(rt.alloc())?;
+    let Ok(file) = read_code(rt.alloc(), &bytes) else {
+        return Err("the bytes are a file".into());
+    };
+    let are = are_long(&file.code.instrs);
+    drop(file);
+    assert!(rt; are);
+    Ok(())
 }

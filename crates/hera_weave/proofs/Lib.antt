@@ -3,3 +3,4 @@ pub mod Sitting
 pub mod Looming
 pub mod Turning
 pub mod Moving
+mod Touching

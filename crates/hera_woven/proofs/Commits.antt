@@ -7,7 +7,7 @@ use Rattle.std.proofs.lemmas.List.{take_more}
 use Rattle.std.proofs.lemmas.List.Elements.{All-push}
 use Rattle.std.proofs.lemmas.List.Sums.{AllPass-from_list_all}
 use Rattle.hera_meaning.specs.declared.schemas.RelDecl.{RelDecl}
-use Rattle.hera_meaning.specs.Commits.{IsCommitOf, after_all as after_commits}
+use Rattle.hera_meaning.specs.Commits.{IsCommitOf}
 use Rattle.hera_meaning.specs.Deltas.{Atom, Delta, fail, atoms, State, apply_of, is_fail, schema_of, IsAtomOf, IsDeltaOf}
 use Rattle.hera_meaning.specs.Fits.{is_atom_of, is_delta_of}
 use Rattle.hera_meaning.specs.Rows.{is_row}
@@ -50,10 +50,6 @@ copied_same ds k copies x within at bad h = record {
   does = λ s. h.does s ∙ sym (longer s ds k x within at ∙ fails_alone (state_over s (take k ds)) x bad);
   proper = h.proper;
 }
-
-pub over_commits : (s : State) (ds : List Delta) → state_over s ds ≡ after_commits s ds
-over_commits s [] = refl
-over_commits s (d ∷ ds) = over_commits (apply_of s d) ds
 
 pub copied_next : (ds : List Delta) (k : ℕ) (copies next : List Delta) (x : Delta) → k < length ds → x ≡ get_or ds k x → (is_fail x ≡ true → next ≡ copies) → (is_fail x ≡ false → next ≡ copies ++ x ∷ []) → AreCopied ds k copies → AreCopied ds (k + 1) next
 copied_next ds k copies next x within at same more h = by (is_fail x) refl

@@ -82,9 +82,6 @@ pub record AreBound (rels : List RelDecl) (from to : List Program) : Type 0 wher
   pub has : AllHas rels (relations_of (map program_of from))
   pub sound : (hosts : Hosts) → AreSound hosts (map program_of from) → AreSound hosts (map program_of to)
 
-pub bound_none : (rels : List RelDecl) → AreBound rels [] []
-bound_none rels = record { bounds = refl; has = tt; sound = λ hosts h. tt }
-
 pub bound_more : (rels : List RelDecl) (from to : List Program) (p b : Program) → AreBound rels from to → program_of b ≡ bound (program_of p) rels → AllHas rels p.relations.items → ((hosts : Hosts) → Sound (program_of p) hosts → Sound (program_of b) hosts)
     → AreBound rels (from ++ p ∷ []) (to ++ b ∷ [])
 bound_more rels from to p b h is has sound =

@@ -13,4 +13,4 @@ pub loop-preserved : goal.loop-preserved
 loop-preserved c = rw c.in_ok-push.ensures.items (goes_on (λ before. word_at) c.args.count c.loop.counter c.loop.places.items c.loop.rest.now c.in_ok-place.place c.in_ok-place.behind.now (many (λ before. word_at) c.args.count [] c.args.bytes.now) c.loop-test.true c.in_ok-place.ensures c.loop.invariant)
 
 pub returns : goal.returns
-returns c = is_done (λ before. word_at) c.args.count c.loop.counter c.loop.places.items c.loop.rest.now (many (λ before. word_at) c.args.count [] c.args.bytes.now) c.loop-test.false c.loop.invariant
+returns c = rw c.shrink_to_fit.ensures.items (is_done (λ before. word_at) c.args.count c.loop.counter c.loop.places.items c.loop.rest.now (many (λ before. word_at) c.args.count [] c.args.bytes.now) c.loop-test.false c.loop.invariant)

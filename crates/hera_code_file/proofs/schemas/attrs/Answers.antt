@@ -13,4 +13,4 @@ pub loop-preserved : goal.loop-preserved
 loop-preserved c = rw c.in_ok-push.ensures.items (goes_on attr_at c.args.count c.loop.counter c.loop.attrs.items c.loop.rest.now c.in_ok-attr.attr c.in_ok-attr.behind.now (many attr_at c.args.count [] c.args.bytes.now) c.loop-test.true (rw c.deref.ensures.value at c.in_ok-attr.ensures) c.loop.invariant)
 
 pub returns : goal.returns
-returns c = is_done attr_at c.args.count c.loop.counter c.loop.attrs.items c.loop.rest.now (many attr_at c.args.count [] c.args.bytes.now) c.loop-test.false c.loop.invariant
+returns c = rw c.shrink_to_fit.ensures.items (is_done attr_at c.args.count c.loop.counter c.loop.attrs.items c.loop.rest.now (many attr_at c.args.count [] c.args.bytes.now) c.loop-test.false c.loop.invariant)

@@ -1,6 +1,5 @@
 -- One instruction more.
-use Rattle.std.proofs.Common.{refl, ◌∙◌, arith}
-use Rattle.std.proofs.lemmas.Option.{slice_get_read}
+use Rattle.std.proofs.Common.{◌∙◌, arith}
 use Rattle.hera_noted.proofs.Writing.{writes_start, writes_end}
 use Rattle.hera_noted.proofs.extents.first_writes.Goals as goal
 
@@ -13,7 +12,7 @@ loop-at-preserved c =
     let inv = c.loop-at.invariant in
     let low = inv.low in
     let less = c.loop-at-test.true in
-    let here = slice_get_read instrs _ c.loop-at.at c.index-instrs-at.result refl (omega (arith, less, c.requires)) c.index-instrs-at.is in
+    let here = c.at.ensures in
     let new = c.note_write.ensures instrs c.args.body.start c.args.body.end low less here inv.writes in
     record { low = omega (arith, low); long = new.0 ∙ inv.long; writes = new.1 }
 

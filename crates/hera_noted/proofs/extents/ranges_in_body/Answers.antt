@@ -9,7 +9,7 @@ use Rattle.hera_noted.proofs.extents.ranges_in_body.Goals as goal
 
 pub returns-clause-ranges : goal.returns-clause-ranges
 returns-clause-ranges c =
-    IfOk-weaker c.slot_ranges.result (λ ranges. (i : ℕ) (r : Span) → slice_get ranges.items i ≡ Some r → IsRange c.as_slice.result.now c.body_start.result c.body_end.result i r.start r.end) (λ ranges. (i : ℕ) (r : Span) → slice_get ranges.items i ≡ Some r → IsRangeIn c.args.code.now c.args.k i r)
+    IfOk-weaker c.slot_ranges.result (λ ranges. (i : ℕ) (r : Span) → slice_get ranges.items i ≡ Some r → IsRange c.args.code.now.instrs c.body_start.result c.body_end.result i r.start r.end) (λ ranges. (i : ℕ) (r : Span) → slice_get ranges.items i ≡ Some r → IsRangeIn c.args.code.now c.args.k i r)
     (λ ranges h i r e. (let range = h i r e in
     let w = range.within in
     let w0 = w.0 in
@@ -17,9 +17,8 @@ returns-clause-ranges c =
     let within = c.body_end.ensures.within in
     record {
       range = λ info there.
-          subst (λ is. IsRange is info.at (end_of c.args.code.now c.args.k) i r.start r.end) c.as_slice.ensures
-          (subst (λ lo. IsRange c.as_slice.result.now lo (end_of c.args.code.now c.args.k) i r.start r.end) (c.body_start.ensures info there)
-          (subst (λ hi. IsRange c.as_slice.result.now c.body_start.result hi i r.start r.end) c.body_end.ensures.end range));
+          subst (λ lo. IsRange c.args.code.now.instrs lo (end_of c.args.code.now c.args.k) i r.start r.end) (c.body_start.ensures info there)
+          (subst (λ hi. IsRange c.args.code.now.instrs c.body_start.result hi i r.start r.end) c.body_end.ensures.end range);
       within = (omega (arith, w0, within), omega (arith, w1, within));
     }))
     c.slot_ranges.ensures.ranges

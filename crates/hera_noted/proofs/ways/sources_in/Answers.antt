@@ -1,6 +1,5 @@
 -- One instruction more.
-use Rattle.std.proofs.Common.{refl, ◌∙◌, arith}
-use Rattle.std.proofs.lemmas.Option.{slice_get_read}
+use Rattle.std.proofs.Common.{◌∙◌, arith}
 use Rattle.hera_noted.proofs.Sourced.{sources_start, sources_end}
 use Rattle.hera_noted.proofs.ways.sources_in.Goals as goal
 
@@ -18,7 +17,7 @@ loop-at-preserved c =
     let instrs = c.args.instrs.now in
     let inv = c.loop-at.invariant in
     let low = inv.0 in
-    let here = slice_get_read instrs _ c.loop-at.at c.index-instrs-at.result refl (omega (arith, c.loop-at-test.true, c.requires)) c.index-instrs-at.is in
+    let here = c.at.ensures in
     (omega (arith, low), c.note_way.ensures instrs here inv.1)
 
 pub returns : goal.returns

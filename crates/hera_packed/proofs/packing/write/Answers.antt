@@ -1,7 +1,5 @@
 use Rattle.std.proofs.Common.{List, subst}
-use Rattle.hera_code.specs.declared.instrs.Instr.{Instr}
 use Rattle.hera_code_file.specs.Fitting.{Each}
-use Rattle.hera_code_writer.specs.Writable.{InstrStands}
 use Rattle.hera_typed.specs.declared.notes.BodyNote.{BodyNote}
 use Rattle.hera_packed.specs.Writing.{NoteStands}
 use Rattle.hera_packed.proofs.Noting.{each_stands}
@@ -14,5 +12,5 @@ write_code-requires-clause-stands c =
     record {
       relations = c.requires.catalogue;
       bodies = each_stands code.bodies notes c.requires.noted (subst (λ (ns : List BodyNote). Each NoteStands ns) c.deref.ensures.value (c.notes_stand.ensures c.if-notes_stand.true));
-      instrs = subst (λ (is : List Instr). Each InstrStands is) c.as_slice.ensures (c.instrs_stand.ensures c.if-instrs_stand.true);
+      instrs = c.instrs_stand.ensures c.if-instrs_stand.true;
     }
