@@ -1,6 +1,7 @@
 -- Operands that are as wanted.
-use Rattle.std.proofs.Common.{◌≡◌, ℕ, zero, suc, Bool, true, false, ◌&&◌, ◌<◌, List, [], ◌∷◌, length, drop, map, None, Some, refl, sym, ap, ◌∙◌, arith}
+use Rattle.std.proofs.Common.{◌≡◌, ℕ, zero, suc, true, false, ◌&&◌, ◌<◌, List, [], ◌∷◌, length, drop, map, None, Some, refl, sym, ap, ◌∙◌, arith}
 use Rattle.std.specs.Prelude.{slice_get, replicate}
+use Rattle.std.proofs.lemmas.Bool.{and_parts, false_from_ne_true}
 use Rattle.std.proofs.lemmas.Option.{none-some, same_Some}
 use Rattle.hera_meaning.specs.Values.{Value, operand}
 use Rattle.hera_meaning.specs.declared.schemas.Attr.{Attr}
@@ -8,41 +9,34 @@ use Rattle.hera_meaning.specs.Fits.{Want, a_scalar, a_tuple, meets, all_meet}
 use Rattle.hera_meaning.proofs.Bools.{and_true, and_false}
 
 pub one_met : (w : Want) (vs : List Value) (v : Value) → Some v ≡ slice_get vs 0 → None ≡ slice_get vs 1 → meets w v ≡ all_meet (w ∷ []) vs
-one_met w [] v e f = absurd (none-some v (sym e))
 one_met w (x ∷ []) v e f = ap (meets w) (same_Some v x e) ∙ sym (and_true (meets w x))
-one_met w (x ∷ y ∷ vs) v e f = absurd (none-some y f)
+one_met w vs v e f = cc
 
 pub one_none : (w : Want) (vs : List Value) → None ≡ slice_get vs 0 → false ≡ all_meet (w ∷ []) vs
 one_none w [] e = refl
 one_none w (x ∷ vs) e = absurd (none-some x e)
 
 pub one_more : (w : Want) (vs : List Value) (v : Value) → Some v ≡ slice_get vs 1 → false ≡ all_meet (w ∷ []) vs
-one_more w [] v e = refl
-one_more w (x ∷ []) v e = absurd (none-some v (sym e))
 one_more w (x ∷ y ∷ vs) v e = sym (and_false (meets w x))
+one_more w vs v e = cc
 
 pub ruleset one = (one_met, one_none, one_more)
 
 pub two_met : (w u : Want) (vs : List Value) (v x : Value) → Some v ≡ slice_get vs 0 → Some x ≡ slice_get vs 1 → None ≡ slice_get vs 2 → (meets w v && meets u x) ≡ all_meet (w ∷ u ∷ []) vs
-two_met w u [] v x e f g = absurd (none-some v (sym e))
-two_met w u (a ∷ []) v x e f g = absurd (none-some x (sym f))
 two_met w u (a ∷ b ∷ []) v x e f g = ap (λ y. meets w y && meets u x) (same_Some v a e) ∙ ap (λ y. meets w a && y) (ap (meets u) (same_Some x b f) ∙ sym (and_true (meets u b)))
-two_met w u (a ∷ b ∷ c ∷ vs) v x e f g = absurd (none-some c g)
+two_met w u vs v x e f g = cc
 
 pub two_none : (w u : Want) (vs : List Value) → None ≡ slice_get vs 0 → false ≡ all_meet (w ∷ u ∷ []) vs
 two_none w u [] e = refl
 two_none w u (x ∷ vs) e = absurd (none-some x e)
 
 pub two_few : (w u : Want) (vs : List Value) → None ≡ slice_get vs 1 → false ≡ all_meet (w ∷ u ∷ []) vs
-two_few w u [] e = refl
 two_few w u (x ∷ []) e = sym (and_false (meets w x))
-two_few w u (x ∷ y ∷ vs) e = absurd (none-some y e)
+two_few w u vs e = cc
 
 pub two_more : (w u : Want) (vs : List Value) (v : Value) → Some v ≡ slice_get vs 2 → false ≡ all_meet (w ∷ u ∷ []) vs
-two_more w u [] v e = refl
-two_more w u (x ∷ []) v e = absurd (none-some v (sym e))
-two_more w u (x ∷ y ∷ []) v e = absurd (none-some v (sym e))
 two_more w u (x ∷ y ∷ z ∷ vs) v e = sym (ap (λ b. meets w x && b) (and_false (meets u y)) ∙ and_false (meets w x))
+two_more w u vs v e = cc
 
 pub ruleset two = (two_met, two_none, two_few, two_more)
 
@@ -50,20 +44,11 @@ pub ruleset two = (two_met, two_none, two_few, two_more)
 
 pub meet_lengths : (ws : List Want) (vs : List Value) → all_meet ws vs ≡ true → length vs ≡ length ws
 meet_lengths [] [] h = refl
-meet_lengths [] (v ∷ vs) h = cc
-meet_lengths (w ∷ ws) [] h = cc
-meet_lengths (w ∷ ws) (v ∷ vs) h = ap suc (meet_lengths ws vs (by (meets w v) h))
-  where
-    by : (b : Bool) → (b && all_meet ws vs) ≡ true → all_meet ws vs ≡ true
-    by true g = g
-    by false g = cc
+meet_lengths (w ∷ ws) (v ∷ vs) h = ap suc (meet_lengths ws vs (and_parts (meets w v) _ h).1)
+meet_lengths ws vs h = cc
 
 pub meet_unequal : (ws : List Want) (vs : List Value) → (length vs ≡ length ws → ⊥) → false ≡ all_meet ws vs
-meet_unequal ws vs h = by (all_meet ws vs) refl
-  where
-    by : (b : Bool) → all_meet ws vs ≡ b → false ≡ all_meet ws vs
-    by true e = absurd (h (meet_lengths ws vs e))
-    by false e = sym e
+meet_unequal ws vs h = sym (false_from_ne_true (all_meet ws vs) (λ e. h (meet_lengths ws vs e)))
 
 -- the wants and the operands from a place on, both of which are there
 pub meet_at : (ws : List Want) (vs : List Value) (i : ℕ) (w : Want) → slice_get ws i ≡ Some w → i < length vs →
@@ -84,12 +69,8 @@ meet_stop ws vs i w e h m = sym (meet_at ws vs i w e h ∙ ap (λ b. b && all_me
 
 pub meet_end : (ws : List Want) (vs : List Value) (i : ℕ) → length ws ≡ i → length vs ≡ i → true ≡ all_meet (drop i ws) (drop i vs)
 meet_end [] [] zero e f = refl
-meet_end [] [] (suc i) e f = refl
-meet_end [] (v ∷ vs) zero e f = absurd (omega (arith, f))
-meet_end [] (v ∷ vs) (suc i) e f = absurd (omega (arith, e))
-meet_end (w ∷ ws) vs zero e f = absurd (omega (arith, e))
-meet_end (w ∷ ws) [] (suc i) e f = absurd (omega (arith, f))
 meet_end (w ∷ ws) (v ∷ vs) (suc i) e f = meet_end ws vs i (omega (arith, e)) (omega (arith, f))
+meet_end ws vs i e f = absurd (omega (arith, e, f))
 
 -- ---- the wants of MakeRow and MakeRel
 

@@ -5,6 +5,7 @@ use Rattle.std.specs.List.{filter, position_from}
 use Rattle.hera_sets.specs.Rows.{is_same}
 use Rattle.hera_meaning.specs.Schemas.{place_named}
 use Rattle.hera_meaning.specs.Relations.{has_name, lacking}
+use Rattle.std.proofs.lemmas.List.{drop_all}
 use Rattle.std.proofs.lemmas.Option.{none-some, same_Some}
 use Rattle.hera_meaning.specs.declared.scalars.Kind.TheVariants.{Int as int_kind}
 use Rattle.hera_meaning.specs.declared.schemas.Attr.{Attr}
@@ -68,17 +69,7 @@ counted_few left right n i h few =
     let pass : length (lacking left right) ≤ length right = few_pass (λ (a : Attr). not (has_name left a.name)) right in
     omega (arith, h, few, pass)
 
-past : (xs : List Attr) (i : ℕ) → length xs ≤ i → drop i xs ≡ []
-past [] zero h = refl
-past [] (suc i) h = refl
-past (x ∷ xs) zero h = absurd (omega (arith, h))
-past (x ∷ xs) (suc i) h = past xs i (omega (arith, h))
-
 pub counted_all : (left right : List Attr) (n i : ℕ) → length right ≤ i → n + length (lacking left (drop i right)) ≡ length (lacking left right) → n ≡ length (lacking left right)
 counted_all left right n i le h =
-    let none : length (lacking left (drop i right)) ≡ 0 = ap (λ xs. length (lacking left xs)) (past right i le) in
+    let none : length (lacking left (drop i right)) ≡ 0 = ap (λ xs. length (lacking left xs)) (drop_all i right le) in
     omega (arith, none, h)
-
-pub not_not : (b : Bool) → not (not b) ≡ b
-not_not true = refl
-not_not false = refl

@@ -17,7 +17,7 @@ use Rattle.delta_atoms.specs.Atoms.{atoms_in}
 pub row_tested : (b : Bool) (schema : List Attr) (bytes : Row) → (IsTrue b ↔ IsRow schema bytes) → b ≡ is_row schema bytes
 row_tested b schema bytes h = same_truth b (is_row schema bytes) (λ t. is_row-from_IsRow schema bytes (h.0 t)) (λ t. h.1 (is_row-true schema bytes t))
 
-schema_found : (rels : List RelDecl) (r : ℕ) (d : RelDecl) → slice_get rels r ≡ Some d → d.schema ≡ schema_of rels r
+pub schema_found : (rels : List RelDecl) (r : ℕ) (d : RelDecl) → slice_get rels r ≡ Some d → d.schema ≡ schema_of rels r
 schema_found [] r d h = absurd (none-some d h)
 schema_found (e ∷ rels) zero d h = ap (λ (x : RelDecl). x.schema) (sym (same_Some e d h))
 schema_found (e ∷ rels) (suc r) d h = schema_found rels r d h

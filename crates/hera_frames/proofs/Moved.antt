@@ -1,6 +1,7 @@
 -- Arguments that are moved from the operands to slots.
 use Rattle.std.proofs.Common.{◌≡◌, ℕ, zero, suc, ◌+◌, ◌-◌, ◌<◌, ◌≤◌, List, [], ◌∷◌, ◌++◌, length, map, take, drop, min, Some, pos, refl, sym, ap, ◌∙◌, subst, arith, add-one, append_assoc, append-nil}
 use Rattle.std.specs.Prelude.{replicate, reverse, slice_get}
+use Rattle.std.proofs.Math.Seq.{drop-nil}
 use Rattle.std.proofs.lemmas.Option.{none-some, same_Some}
 use Rattle.std.proofs.lemmas.Grind.{reverse_onto}
 use Rattle.std.proofs.lemmas.List.{length-take, length-map, length-reverse, map-append, reverse-append, replicate_more}
@@ -16,26 +17,21 @@ use Rattle.hera_frames.specs.Calling.{IsNewestHeld, IsBegun}
 
 -- ---- one more of those that come first
 
-no_more : {A : Type 0} → (i : ℕ) (x : A) (rest : List A) → drop i [] ≡ x ∷ rest → ⊥
-no_more zero x rest e = cc
-no_more (suc i) x rest e = cc
-
 rest_next : {A : Type 0} → (xs : List A) (i : ℕ) (x : A) (rest : List A) → drop i xs ≡ x ∷ rest → drop (suc i) xs ≡ rest
-rest_next [] i x rest e = absurd (no_more i x rest e)
+rest_next [] i x rest e = cc (sym (drop-nil i) ∙ e)
 rest_next (y ∷ ys) zero x rest e = cc
 rest_next (y ∷ ys) (suc i) x rest e = rest_next ys i x rest e
 
 first_next : {A : Type 0} → (xs : List A) (i : ℕ) (x : A) (rest : List A) → drop i xs ≡ x ∷ rest → take (suc i) xs ≡ take i xs ++ x ∷ []
-first_next [] i x rest e = absurd (no_more i x rest e)
+first_next [] i x rest e = cc (sym (drop-nil i) ∙ e)
 first_next (y ∷ ys) zero x rest e = cc
 first_next (y ∷ ys) (suc i) x rest e = ap (λ zs. y ∷ zs) (first_next ys i x rest e)
 
 -- the next operand has its value
 held_at : (n i : ℕ) (items : List Item) → i < n → n ≤ length items → AreHeld (take n items) → IsNewestHeld (drop i items)
-held_at zero i items h there have = absurd (omega (arith, h))
-held_at (suc n) i [] h there have = absurd (omega (arith, there))
 held_at (suc n) zero (item ∷ items) h there have = have.0
 held_at (suc n) (suc i) (item ∷ items) h there have = held_at n i items (omega (arith, h)) (omega (arith, there)) have.1
+held_at n i items h there have = absurd (omega (arith, h, there))
 
 pub next_held : (n i : ℕ) (items rest : List Item) → i < n → n ≤ length items → AreHeld (take n items) → rest ≡ drop i items → IsNewestHeld rest
 next_held n i items rest h there have e = subst IsNewestHeld (sym e) (held_at n i items h there have)

@@ -4,7 +4,7 @@ use Rattle.std.specs.Prelude.{slice_set}
 use Rattle.std.proofs.Math.Seq.{take-suc}
 use Rattle.std.proofs.lemmas.List.{take_all, map-append}
 use Rattle.hera_fits.specs.Newest.{newest}
-use Rattle.hera_fits.proofs.Stacks.{newest_push}
+use Rattle.hera_fits.proofs.Stacks.{newest_push, newest_length}
 use Rattle.hera_meaning.specs.Deltas.{State}
 use Rattle.when_overlay.specs.declared.layers.Layer.{Layer}
 use Rattle.hera_frames.specs.declared.operands.Operand.{Operand}
@@ -100,9 +100,6 @@ given_end ws i h all = subst AreGiven (newest_end (λ x. x) ws i h) all
 pub held_more : (os : List Operand) (i : ℕ) (o : Operand) → i < length os → o ≡ get_or os i o → IsHeld (item_of o) → AreHeld (newest item_of (take i os)) → AreHeld (newest item_of (take (i + 1) os))
 held_more os i o h e g all = subst AreHeld (sym (newest_more item_of os i o h e)) (g, all)
 
-pub held_end : (os : List Operand) (i : ℕ) → length os ≤ i → AreHeld (newest item_of (take i os)) → AreHeld (newest item_of os)
-held_end os i h all = subst AreHeld (newest_end item_of os i h) all
-
 pub reach_more : (os : List Operand) (i most count : ℕ) (o : Operand) → i < length os → o ≡ get_or os i o → count ≡ min most (reach (newest item_of (take i os))) →
     max count (min most (reach_of (item_of o))) ≡ min most (reach (newest item_of (take (i + 1) os)))
 reach_more os i most count o h e g =
@@ -118,40 +115,16 @@ paces_more ws i most count w h e g =
 pub paces_end : (ws : List Pace) (i most count : ℕ) → length ws ≤ i → count ≡ min most (walks_reach (newest (λ x. x) (take i ws))) → count ≡ min most (walks_reach (newest (λ x. x) ws))
 paces_end ws i most count h g = g ∙ ap (λ ps. min most (walks_reach ps)) (newest_end (λ x. x) ws i h)
 
--- ---- operands that are collected one by one
+-- ---- operands that are collected
 
 pub newest_set : {A B : Type 0} → (f : A → B) (xs : List A) (i : ℕ) (x d : A) → i < length xs → f x ≡ f (get_or xs i d) → newest f (slice_set xs i x) ≡ newest f xs
 newest_set f [] i x d h e = absurd (omega (arith, h))
 newest_set f (y ∷ ys) zero x d h e = ap (λ z. newest f ys ++ z ∷ []) e
 newest_set f (y ∷ ys) (suc i) x d h e = ap (λ zs. zs ++ f y ∷ []) (newest_set f ys i x d (omega (arith, h)) e)
 
-newest_take : {A B : Type 0} → (f : A → B) (xs : List A) (i : ℕ) (x : A) → i < length xs → newest f (take (suc i) (slice_set xs i x)) ≡ f x ∷ newest f (take i xs)
-newest_take f [] i x h = absurd (omega (arith, h))
-newest_take f (y ∷ ys) zero x h = refl
-newest_take f (y ∷ ys) (suc i) x h = ap (λ zs. zs ++ f y ∷ []) (newest_take f ys i x (omega (arith, h)))
-
 -- what is collected of the operands, the newest first
 abbrev pub all_collected : State → List Layer → List Operand → List Item
 all_collected s ls os = newest (λ o. collected s ls (item_of o)) os
-
--- of the operands that were: as many of them as counted have their values, and what is collected is the same
-pub record IsCollecting (s : State) (ls : List Layer) (old new : List Operand) (i : ℕ) : Type 0 where
-  pub first : AreHeld (newest item_of (take i new))
-  pub same : all_collected s ls new ≡ all_collected s ls old
-
-pub collecting_put : (s : State) (ls : List Layer) (old os new : List Operand) (i : ℕ) (x o : Operand) → i < length os → o ≡ get_or os i o → IsHeld (item_of x) → collected s ls (item_of o) ≡ item_of x →
-    new ≡ slice_set os i x → IsCollecting s ls old os i → IsCollecting s ls old new (i + 1)
-collecting_put s ls old os new i x o h e has g put c =
-    let same : collected s ls (item_of x) ≡ collected s ls (item_of (get_or os i o)) =
-    ap (collected s ls) (sym g) ∙ ap (λ y. collected s ls (item_of y)) e in
-    record {
-      first = subst AreHeld (sym (ap (λ ys. newest item_of (take (i + 1) ys)) put ∙ ap (λ k. newest item_of (take k (slice_set os i x))) (add-one i) ∙ newest_take item_of os i x h)) (has, c.first);
-      same = ap (all_collected s ls) put ∙ newest_set (λ y. collected s ls (item_of y)) os i x o h same ∙ c.same;
-    }
-
-pub collecting_skip : (s : State) (ls : List Layer) (old os : List Operand) (i : ℕ) (o : Operand) → i < length os → o ≡ get_or os i o → collected s ls (item_of o) ≡ item_of o →
-    IsCollecting s ls old os i → IsCollecting s ls old os (i + 1)
-collecting_skip s ls old os i o h e g c = record { first = held_more os i o h e (subst IsHeld g tt) c.first; same = c.same }
 
 pub map_newest : {A B C : Type 0} → (f : A → B) (g : B → C) (xs : List A) → map g (newest f xs) ≡ newest (λ x. g (f x)) xs
 map_newest f g [] = refl
@@ -162,7 +135,9 @@ collected_held s ls [] h = refl
 collected_held s ls (held v ∷ items) h = ap (λ zs. held v ∷ zs) (collected_held s ls items h.1)
 collected_held s ls (relation r k ∷ items) h = absurd h.0
 
-pub collecting_end : (s : State) (ls : List Layer) (old os : List Operand) (i : ℕ) → length os ≤ i → IsCollecting s ls old os i → newest item_of os ≡ map (collected s ls) (newest item_of old)
-collecting_end s ls old os i h c =
-    sym (collected_held s ls (newest item_of os) (held_end os i h c.first))
-    ∙ map_newest item_of (collected s ls) os ∙ c.same ∙ sym (map_newest item_of (collected s ls) old)
+-- where all of them have their values, these are what is collected of those that were
+pub all_held : (s : State) (ls : List Layer) (old new : List Operand) (n : ℕ) → length new ≤ n → AreHeld (take n (newest item_of new)) →
+    map (collected s ls) (newest item_of new) ≡ map (collected s ls) (newest item_of old) → newest item_of new ≡ map (collected s ls) (newest item_of old)
+all_held s ls old new n h all same =
+    let long : length (newest item_of new) ≤ n = let e = newest_length item_of new in omega (arith, e, h) in
+    sym (collected_held s ls (newest item_of new) (subst AreHeld (take_all n (newest item_of new) long) all)) ∙ same

@@ -2,9 +2,9 @@
 use Rattle.std.proofs.Common.{◌≡◌, Bool, List, [], ◌∷◌, drop, Option, None, Some, refl, sym, ap, ◌∙◌}
 use Rattle.std.specs.Prelude.{slice_get, IfSome}
 use Rattle.std.proofs.lemmas.Option.{same_Some, none-some}
-use Rattle.hera_meaning.specs.declared.scalars.Scalar.TheVariants.{Int as int_scalar, Bool as bool_scalar, Text as text_scalar}
+use Rattle.hera_meaning.specs.declared.scalars.Scalar.TheVariants.{Bool as bool_scalar}
 use Rattle.hera_meaning.specs.Deltas.{State}
-use Rattle.hera_meaning.specs.Values.{Value, scalar, tuple, table, delta, bool_value}
+use Rattle.hera_meaning.specs.Values.{Value, scalar, bool_value}
 use Rattle.hera_code.specs.Machine.{as_bool}
 use Rattle.when_overlay.specs.declared.layers.Layer.{Layer}
 use Rattle.hera_frames.specs.Items.{Item, held, relation, value_at, held_of, newest_of}
@@ -26,18 +26,13 @@ pub truth_some : (items : List Item) (item : Item) (b : Option Bool) → Some it
 truth_some items item b e h = of_some as_bool items item b e (h [] [] ∙ truth_same item)
 
 truth_is : (v : Value) (b : Bool) → Some b ≡ as_bool v → v ≡ bool_value b
-truth_is (scalar (int_scalar n)) b e = absurd (none-some b (sym e))
 truth_is (scalar (bool_scalar c)) b e = ap bool_value (sym (same_Some b c e))
-truth_is (scalar (text_scalar t)) b e = absurd (none-some b (sym e))
-truth_is (tuple r) b e = absurd (none-some b (sym e))
-truth_is (table rows) b e = absurd (none-some b (sym e))
-truth_is (delta d) b e = absurd (none-some b (sym e))
+truth_is v b e = cc
 
 pub truth_items : (items : List Item) (r : Option Bool) → r ≡ newest_of as_bool items → IfSome r (λ b. items ≡ held (bool_value b) ∷ drop 1 items)
 truth_items items None e = tt
-truth_items [] (Some b) e = absurd (none-some b (sym e))
 truth_items (held v ∷ items) (Some b) e = ap (λ x. held x ∷ items) (truth_is v b e)
-truth_items (relation r k ∷ items) (Some b) e = absurd (none-some b (sym e))
+truth_items items (Some b) e = cc
 
 pub ruleset truths = (of_none, truth_some, truth_items)
 

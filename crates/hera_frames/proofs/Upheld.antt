@@ -1,5 +1,5 @@
 -- What a change of the layers leaves as it is, and what stays named by layers that are there.
-use Rattle.std.proofs.Common.{◌≡◌, ℕ, suc, ◌+◌, ◌-◌, ◌<◌, ◌≤◌, Bool, false, List, [], ◌∷◌, length, map, max, min, Option, Some, refl, sym, ap, ◌∙◌, subst, arith}
+use Rattle.std.proofs.Common.{◌≡◌, ℕ, suc, ◌+◌, ◌<◌, ◌≤◌, Bool, false, List, [], ◌∷◌, length, map, max, min, Option, Some, refl, sym, ap, ◌∙◌, subst, arith}
 use Rattle.hera_sets.specs.Rows.{Row}
 use Rattle.hera_meaning.specs.Deltas.{Delta, State, atoms, is_fail, rows_at, apply_of}
 use Rattle.hera_meaning.proofs.DeltaLaws.{apply_of-kept}

@@ -332,7 +332,7 @@ impl Operands {
         ensures { let s = stored.now.state in IfOk result (λ settled. settled ≡ record { items = map (collected s changes.now.layers) self.items; spare = self.spare }) }
     {
         let Operands { mut items, idle } = self;
-        collect_all(alloc, &mut items, changes, stored)?;
+        hold_from(alloc, &mut items, 0, changes, stored)?;
         Ok(Operands { items, idle })
     }
 }
@@ -384,25 +384,6 @@ impl Operand {
             }
         }
     }
-}
-
-/// Collects the rows of the operands that name a relation.
-fn collect_all(
-    alloc: Global,
-    items: &mut Vec<Operand>,
-    changes: &Changes,
-    stored: &Stored<'_>,
-) -> Result<(), AllocError>
-    ensures items { let s = stored.now.state in OnOk result (newest item_of items.new.items ≡ map (collected s changes.now.layers) (newest item_of items.old.items)) }
-    ensures len { vec_len items.new ≡ vec_len items.old }
-    ensures capacity { vec_capacity items.new ≡ vec_capacity items.old }
-{
-    for i in 0..items.len() {
-        if let Some(v) = items[i].rows(alloc, changes, stored)? {
-            let_go(replace(&mut items[i], Operand::Held(v)));
-        }
-    }
-    Ok(())
 }
 
 /// Collects the rows of the operands from a place on that name a relation.

@@ -11,11 +11,10 @@ use Rattle.delta_atoms.proofs.Looks.{same_atom_true, same_atom_itself}
 
 rows_true : (xs ys : List Row) → same_rows xs ys ≡ true → xs ≡ ys
 rows_true [] [] h = refl
-rows_true [] (y ∷ ys) h = cc
-rows_true (x ∷ xs) [] h = cc
 rows_true (x ∷ xs) (y ∷ ys) h =
     let parts = and_parts (is_same x y) (same_rows xs ys) h in
     ap (λ z. z ∷ xs) (same_true x y parts.0) ∙ ap (λ zs. y ∷ zs) (rows_true xs ys parts.1)
+rows_true xs ys h = cc
 
 rows_itself : (xs : List Row) → same_rows xs xs ≡ true
 rows_itself [] = refl
@@ -27,11 +26,10 @@ rows_tested b xs ys h =
 
 atoms_true : (xs ys : List Atom) → same_atoms xs ys ≡ true → xs ≡ ys
 atoms_true [] [] h = refl
-atoms_true [] (y ∷ ys) h = cc
-atoms_true (x ∷ xs) [] h = cc
 atoms_true (x ∷ xs) (y ∷ ys) h =
     let parts = and_parts (same_atom x y) (same_atoms xs ys) h in
     ap (λ z. z ∷ xs) (same_atom_true x y parts.0) ∙ ap (λ zs. y ∷ zs) (atoms_true xs ys parts.1)
+atoms_true xs ys h = cc
 
 atoms_itself : (xs : List Atom) → same_atoms xs xs ≡ true
 atoms_itself [] = refl
@@ -39,9 +37,8 @@ atoms_itself (x ∷ xs) = and_from (same_atom x x) (same_atoms xs xs) (same_atom
 
 delta_true : (d e : Delta) → same_delta d e ≡ true → d ≡ e
 delta_true fail fail h = refl
-delta_true fail (atoms ys) h = cc
-delta_true (atoms xs) fail h = cc
 delta_true (atoms xs) (atoms ys) h = ap atoms (atoms_true xs ys h)
+delta_true d e h = cc
 
 delta_itself : (d : Delta) → same_delta d d ≡ true
 delta_itself fail = refl

@@ -14,7 +14,7 @@ use Rattle.hera_meaning.specs.declared.trees.Op.TheVariants.{Field, MakeRow}
 use Rattle.hera_meaning.specs.declared.scalars.Scalar.{Scalar}
 use Rattle.hera_meaning.specs.Scalars.{is_kind, is_scalar}
 use Rattle.hera_meaning.specs.Rows.{is_row, fields_of, scalar_at, field_at}
-use Rattle.hera_meaning.specs.Values.{Value, scalar, tuple, table, delta, scalar_in, row_in, operand}
+use Rattle.hera_meaning.specs.Values.{Value, scalar, tuple, scalar_in, row_in, operand}
 use Rattle.hera_meaning.specs.Fits.{a_scalar, a_tuple_of, meets, all_meet, is_place, fits_of}
 use Rattle.hera_row.specs.Fields.{have_kinds}
 
@@ -22,10 +22,7 @@ use Rattle.hera_row.specs.Fields.{have_kinds}
 field_met : (schema : List Attr) (vs : List Value) → all_meet (a_tuple_of schema ∷ []) vs ≡ true → is_row schema (row_in (operand vs 0)) ≡ true
 field_met schema (tuple r ∷ []) h = (and_parts (is_row schema r) true h).0
 field_met schema (tuple r ∷ v ∷ vs) h = (and_parts (is_row schema r) _ h).0
-field_met schema [] h = cc
-field_met schema (scalar s ∷ vs) h = cc
-field_met schema (table rows ∷ vs) h = cc
-field_met schema (delta d ∷ vs) h = cc
+field_met schema vs h = cc
 
 pub field_row : (schema : List Attr) (i : ℕ) (vs : List Value) → fits_of (Field schema i) vs ≡ true → is_row schema (row_in (operand vs 0)) ≡ true
 field_row schema i vs h = field_met schema vs (and_parts (is_place schema i) _ h).1
@@ -36,17 +33,14 @@ field_place schema i vs h = ltb-true i (length schema) (and_parts (is_place sche
 -- the operands of MakeRow are a scalar for each attribute, of its kind
 kind_met : (k : Kind) (v : Value) → meets (a_scalar k) v ≡ true → is_kind k (scalar_in v) ≡ true
 kind_met k (scalar s) h = h
-kind_met k (tuple r) h = cc
-kind_met k (table rows) h = cc
-kind_met k (delta d) h = cc
+kind_met k v h = cc
 
 kinds_met : (schema : List Attr) (vs : List Value) → all_meet (map (λ a. a_scalar a.kind) schema) vs ≡ true → have_kinds schema (map scalar_in vs) ≡ true
 kinds_met [] [] h = refl
-kinds_met [] (v ∷ vs) h = cc
-kinds_met (a ∷ schema) [] h = cc
 kinds_met (a ∷ schema) (v ∷ vs) h =
     let parts = and_parts (meets (a_scalar a.kind) v) _ h in
     and_from (is_kind a.kind (scalar_in v)) (have_kinds schema (map scalar_in vs)) (kind_met a.kind v parts.0) (kinds_met schema vs parts.1)
+kinds_met schema vs h = cc
 
 pub row_kinds : (schema : List Attr) (vs : List Value) → fits_of (MakeRow schema) vs ≡ true → have_kinds schema (map scalar_in vs) ≡ true
 row_kinds schema vs h = kinds_met schema vs h

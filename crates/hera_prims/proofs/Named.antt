@@ -9,8 +9,8 @@ use Rattle.hera_meaning.specs.declared.trees.Op.TheVariants as ops
 use Rattle.hera_meaning.specs.declared.scalars.Kind.TheVariants.{Int as int_kind, Text as text_kind}
 use Rattle.hera_meaning.specs.declared.schemas.Attr.{Attr}
 use Rattle.hera_meaning.specs.Scalars.{is_kind}
-use Rattle.hera_meaning.specs.Values.{Value, scalar, tuple, table, delta, int_value, scalar_in, rows_in, operand}
-use Rattle.hera_meaning.specs.Fits.{Want, a_scalar, a_tuple, a_tuple_of, a_table, a_table_of, a_delta, meets, all_meet, wants, in_kind_order, is_good_op, fits_of}
+use Rattle.hera_meaning.specs.Values.{Value, table, int_value, scalar_in, rows_in, operand}
+use Rattle.hera_meaning.specs.Fits.{Want, a_scalar, a_tuple, a_table, a_table_of, meets, all_meet, wants, in_kind_order, is_good_op, fits_of}
 use Rattle.hera_meaning.proofs.Bools.{and_false}
 use Rattle.hera_meaning.specs.Primitives.{gives, given, prim_of}
 use Rattle.hera_fits.specs.Tables.{asks_relations, is_relational, takes_relations, tables}
@@ -24,16 +24,7 @@ wants_rows _ = false
 met_rows : (w : Want) (v : Value) → wants_rows w ≡ true → meets w v ≡ true → v ≡ table (rows_in v)
 met_rows a_table (table xs) w h = refl
 met_rows (a_table_of schema) (table xs) w h = refl
-met_rows a_table (scalar s) w h = cc
-met_rows a_table (tuple r) w h = cc
-met_rows a_table (delta d) w h = cc
-met_rows (a_table_of schema) (scalar s) w h = cc
-met_rows (a_table_of schema) (tuple r) w h = cc
-met_rows (a_table_of schema) (delta d) w h = cc
-met_rows (a_scalar k) v w h = cc
-met_rows a_tuple v w h = cc
-met_rows (a_tuple_of schema) v w h = cc
-met_rows a_delta v w h = cc
+met_rows w v r h = cc
 
 one_table : (w : Want) (vs : List Value) → wants_rows w ≡ true → all_meet (w ∷ []) vs ≡ true → vs ≡ table (rows_in (operand vs 0)) ∷ []
 one_table w [] r h = cc
@@ -74,10 +65,7 @@ asks_relational op a = a
 table_unmet : (w : Want) (xs : List Row) → not (wants_rows w) ≡ true → meets w (table xs) ≡ false
 table_unmet a_table xs r = cc
 table_unmet (a_table_of schema) xs r = cc
-table_unmet (a_scalar k) xs r = refl
-table_unmet a_tuple xs r = refl
-table_unmet (a_tuple_of schema) xs r = refl
-table_unmet a_delta xs r = refl
+table_unmet w xs r = refl
 
 unmet : (ws : List Want) (vs : List Value) (i : ℕ) (xs : List Row) → list_all (λ w. not (wants_rows w)) ws ≡ true → operand vs i ≡ table xs → all_meet ws vs ≡ false
 unmet [] [] i xs r e = cc
@@ -108,20 +96,6 @@ no_rows ops.Gt v t = order_no_rows v
 no_rows ops.Ge v t = order_no_rows v
 no_rows (ops.MakeRow schema) v t = fields_no_rows schema
 no_rows (ops.MakeRel n) v t = tuples_no_rows n
-no_rows ops.Neg v t = refl
-no_rows ops.Not v t = refl
-no_rows ops.Add v t = refl
-no_rows ops.Sub v t = refl
-no_rows ops.Mul v t = refl
-no_rows ops.Div v t = refl
-no_rows ops.Rem v t = refl
-no_rows (ops.Field schema i) v t = refl
-no_rows (ops.Atom sign r) v t = refl
-no_rows (ops.Ins r) v t = refl
-no_rows (ops.Del r) v t = refl
-no_rows ops.IsFail v t = refl
-no_rows ops.Smash v t = refl
-no_rows ops.Merge v t = refl
 no_rows op v t = cc
 
 -- an operation that takes no relation does not fit where an operand is one

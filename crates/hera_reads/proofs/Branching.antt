@@ -1,9 +1,10 @@
 -- Layers as a tree: the way from one to the pending delta, and what a layer more or less leaves as it is.
-use Rattle.std.proofs.Common.{◌≡◌, ◌≢◌, ℕ, zero, suc, ◌+◌, ◌-◌, ◌<◌, ◌≤◌, Bool, true, false, cond, List, [], ◌∷◌, ◌++◌, length, drop, nat_eq, Option, None, Some, IfSome, refl, sym, ap, ◌∙◌, subst, arith, length-append, get_or}
+use Rattle.std.proofs.Common.{◌≡◌, ◌≢◌, ℕ, zero, suc, ◌+◌, ◌-◌, ◌<◌, ◌≤◌, Bool, true, false, cond, List, [], ◌∷◌, ◌++◌, length, drop, nat_eq, Option, None, Some, IfSome, refl, sym, ap, ◌∙◌, subst, arith, length-append}
 use Rattle.std.specs.Prelude.{nat_lt, slice_get, min}
 use Rattle.std.proofs.Math.Dec.{eqb-suc-suc}
 use Rattle.std.proofs.lemmas.Bool.{ltb-true, ltb-false, eqb-true, false_from_ne_true}
-use Rattle.std.proofs.lemmas.Option.{none-some, same_Some}
+use Rattle.std.proofs.lemmas.List.{length-drop}
+use Rattle.std.proofs.lemmas.Option.{none-some}
 use Rattle.hera_fits.specs.Newest.{newest}
 use Rattle.hera_meaning.specs.Deltas.{Delta, is_fail, State, apply_of}
 use Rattle.hera_code.specs.Machine.{after_layers}
@@ -34,9 +35,8 @@ under_lowest n ls k h g = under_drop (length ls - n) ls k (omega (arith, h, g))
 
 pub pending_drop : (n : ℕ) (ls : List Layer) → n < length ls → pending_of (drop n ls) ≡ pending_of ls
 pending_drop zero ls h = refl
-pending_drop (suc n) [] h = absurd (omega (arith, h))
-pending_drop (suc n) (l ∷ []) h = absurd (omega (arith, h))
 pending_drop (suc n) (l ∷ m ∷ ls) h = pending_drop n (m ∷ ls) (omega (arith, h))
+pending_drop (suc n) ls h = absurd (omega (arith, h))
 
 pub pending_lower : (l : Layer) (ls : List Layer) → 0 < length ls → pending_of (l ∷ ls) ≡ pending_of ls
 pending_lower l [] h = absurd (omega (arith, h))
@@ -53,13 +53,8 @@ seen_lower s l ls k h =
     ap (λ d. after_layers (apply_of s d) (under (l ∷ ls) k)) (pending_lower l ls (omega (arith, h)))
     ∙ ap (after_layers (apply_of s (pending_of ls))) (under_lower l ls k h)
 
-pub length_drop : {A : Type 0} → (n : ℕ) (xs : List A) → length (drop n xs) ≡ length xs - n
-length_drop zero xs = omega arith
-length_drop (suc n) [] = omega arith
-length_drop (suc n) (x ∷ xs) = length_drop n xs ∙ omega arith
-
 pub length_lowest : {A : Type 0} → (n : ℕ) (xs : List A) → length (lowest n xs) ≡ min n (length xs)
-length_lowest n xs = length_drop (length xs - n) xs ∙ omega arith
+length_lowest n xs = length-drop (length xs - n) xs ∙ omega arith
 
 -- ---- the way to the pending delta
 
@@ -315,8 +310,3 @@ pub drop_next : (n i : ℕ) (xs ys zs : List Layer) → n ≤ i → zs ≡ drop 
 drop_next n i xs ys zs h e g =
     let next : suc (i - n) ≡ i + 1 - n = omega arith in
     e ∙ ap (drop 1) g ∙ drop_suc (i - n) xs ∙ ap (λ k. drop k xs) next
-
-pub got_or : (xs : List ℕ) (k y d : ℕ) → slice_get xs k ≡ Some y → get_or xs k d ≡ y
-got_or [] k y d e = absurd (none-some y e)
-got_or (x ∷ xs) zero y d e = same_Some x y e
-got_or (x ∷ xs) (suc k) y d e = got_or xs k y d e

@@ -14,7 +14,7 @@ use Rattle.when_overlay.proofs.Viewing.{rel_changed}
 use Rattle.hera_reads.specs.Branched.{IsTree, pending_of, upon, under, seen_at}
 use Rattle.hera_reads.specs.Counted.{IsCount, AreCounts}
 use Rattle.hera_reads.proofs.Branching.{under_root, under_lower, under_here}
-use Rattle.hera_reads.proofs.Known.{rows_found}
+use Rattle.hera_reads.proofs.Naming.{rows_got}
 
 -- ---- under a layer
 
@@ -73,10 +73,10 @@ some_of None P Q R h f = tt
 some_of (Some x) P Q R h f = f x h
 
 pub rows_before : (s : State) (r : ℕ) (rows : List Row) → slice_get s r ≡ Some rows → length (rows_at s r) ≡ length rows
-rows_before s r rows e = ap (λ (xs : List Row). length xs) (rows_found s r rows e)
+rows_before s r rows e = ap (λ (xs : List Row). length xs) (rows_got s r rows e)
 
 pub rows_behind : (s t : State) (r : ℕ) (rows : List Row) (d : Delta) → slice_get s r ≡ Some rows → t ≡ apply_of s d → length (rows_at t r) ≡ length (changed r rows d)
-rows_behind s t r rows d e is = ap (λ (x : State). length (rows_at x r)) is ∙ ap (λ (xs : List Row). length xs) (rows_found (apply_of s d) r (changed r rows d) (rel_changed r s d rows e))
+rows_behind s t r rows d e is = ap (λ (x : State). length (rows_at x r)) is ∙ ap (λ (xs : List Row). length xs) (rows_got (apply_of s d) r (changed r rows d) (rel_changed r s d rows e))
 
 -- ---- what is known
 
@@ -107,11 +107,6 @@ none_put (x ∷ ns) zero h (suc r) n e = omega arith
 none_put (x ∷ ns) (suc i) h zero n e = absurd (let low : suc i ≤ 0 = h zero n e in omega (arith, low))
 none_put (x ∷ ns) (suc i) h (suc r) n e =
     let high : suc i ≤ r = none_put ns i (λ k m f. let up : suc i ≤ suc k = h (suc k) m f in omega (arith, up)) r n e in omega (arith, high)
-
-pub slice_set_length : (ns : List (Option ℕ)) (i : ℕ) (o : Option ℕ) → length (slice_set ns i o) ≡ length ns
-slice_set_length [] i o = refl
-slice_set_length (x ∷ ns) zero o = refl
-slice_set_length (x ∷ ns) (suc i) o = ap suc (slice_set_length ns i o)
 
 -- another number, or none, at a place
 pub count_put : (P : ℕ → ℕ → Type 0) (ns : List (Option ℕ)) (i : ℕ) (o : Option ℕ) → ((r n : ℕ) → r ≢ i → slice_get ns r ≡ Some (Some n) → P r n) → IfSome o (P i) → (r n : ℕ) → slice_get (slice_set ns i o) r ≡ Some (Some n) → P r n

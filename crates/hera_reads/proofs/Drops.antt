@@ -1,16 +1,16 @@
 -- The rows of a walk that are still to come.
 use Rattle.std.proofs.Common.{◌≡◌, ℕ, zero, suc, ◌+◌, ◌<◌, ◌≤◌, true, false, List, [], ◌∷◌, drop, length, get_or, is_some, refl, sym, Option, Some, arith, ap, ◌∙◌}
 use Rattle.std.specs.Prelude.{slice_get}
-use Rattle.std.proofs.lemmas.Bool.{false≢true}
+use Rattle.std.proofs.Math.Seq.{drop-nil}
+use Rattle.std.proofs.lemmas.List.{drop_all}
 use Rattle.hera_sets.specs.Rows.{Row}
 use Rattle.hera_reads.specs.Walking.{row_before, last_or, past_left}
 
 -- the first one that is left
 pub first_left : (rows : List Row) (i : ℕ) → slice_get rows i ≡ slice_get (drop i rows) 0
-first_left [] zero = refl
-first_left [] (suc i) = refl
-first_left (x ∷ rows) zero = refl
 first_left (x ∷ rows) (suc i) = first_left rows i
+first_left [] (suc i) = refl
+first_left rows zero = refl
 
 -- whether one is left
 pub left_some : (rows : List Row) (i : ℕ) → i < length rows → true ≡ is_some (slice_get (drop i rows) 0)
@@ -19,40 +19,27 @@ left_some (x ∷ rows) zero h = refl
 left_some (x ∷ rows) (suc i) h = left_some rows i (omega (arith, h))
 
 pub left_none : (rows : List Row) (i : ℕ) → length rows ≤ i → false ≡ is_some (slice_get (drop i rows) 0)
-left_none [] zero h = refl
-left_none [] (suc i) h = refl
-left_none (x ∷ rows) zero h = absurd (omega (arith, h))
-left_none (x ∷ rows) (suc i) h = left_none rows i (omega (arith, h))
+left_none rows i h = ap (λ xs. is_some (slice_get xs 0)) (sym (drop_all i rows h))
 
 -- the one that is left, and those behind it
 pub drop_some : (rows : List Row) (i : ℕ) → is_some (slice_get (drop i rows) 0) ≡ true → (x : Row) × (slice_get rows i ≡ Some x) × (drop i rows ≡ x ∷ drop (suc i) rows)
-drop_some [] zero h = absurd (false≢true h)
-drop_some [] (suc i) h = absurd (false≢true h)
 drop_some (x ∷ rows) zero h = (x, refl, refl)
 drop_some (x ∷ rows) (suc i) h = drop_some rows i h
-
-pub drop_past : {A : Type 0} → (xs : List A) (i : ℕ) → length xs ≤ i → drop i xs ≡ []
-drop_past [] zero h = refl
-drop_past [] (suc i) h = refl
-drop_past (x ∷ xs) zero h = absurd (omega (arith, h))
-drop_past (x ∷ xs) (suc i) h = drop_past xs i (omega (arith, h))
+drop_some [] i h = cc (ap (λ xs. is_some (slice_get xs 0)) (sym (drop-nil i)) ∙ h)
 
 -- the last one that is left
 last_of_all : (b : Option Row) (rows : List Row) (n : ℕ) (x : Row) → n + 1 ≡ length rows → x ≡ get_or rows n x → Some x ≡ last_or b rows
-last_of_all b [] n x e g = absurd (omega (arith, e))
 last_of_all b (y ∷ []) zero x e g = ap (λ z. Some z) g
-last_of_all b (y ∷ []) (suc n) x e g = absurd (omega (arith, e))
-last_of_all b (y ∷ z ∷ rows) zero x e g = absurd (omega (arith, e))
 last_of_all b (y ∷ z ∷ rows) (suc n) x e g = last_of_all (Some y) (z ∷ rows) n x (omega (arith, e)) g
+last_of_all b rows n x e g = absurd (omega (arith, e))
 
 pub last_left : (b : Option Row) (rows : List Row) (i n : ℕ) (x : Row) → i < length rows → n + 1 ≡ length rows → x ≡ get_or rows n x → Some x ≡ last_or b (drop i rows)
 last_left b rows zero n x h e g = last_of_all b rows n x e g
-last_left b [] (suc i) n x h e g = absurd (omega (arith, h))
-last_left b (y ∷ rows) (suc i) zero x h e g = absurd (omega (arith, h, e))
 last_left b (y ∷ rows) (suc i) (suc n) x h e g = last_left b rows i n x (omega (arith, h)) (omega (arith, e)) g
+last_left b rows i n x h e g = absurd (omega (arith, h, e))
 
 pub last_none : (b : Option Row) (rows : List Row) (i : ℕ) → length rows ≤ i → b ≡ last_or b (drop i rows)
-last_none b rows i h = ap (last_or b) (sym (drop_past rows i h))
+last_none b rows i h = ap (last_or b) (sym (drop_all i rows h))
 
 -- past the next row read ahead, and where none is left
 pub pass_left : (rows : List Row) (i : ℕ) → i < length rows → record { passed = row_before (i + 1) rows; left = drop (i + 1) rows } ≡ past_left (drop i rows) (record { passed = row_before i rows; left = drop i rows })
@@ -69,7 +56,7 @@ pass_left rows i h = by (drop_some rows i (sym (left_some rows i h)))
         ∙ ap (λ xs. past_left xs (record { passed = row_before i rows; left = drop i rows })) (sym d.2)
 
 pub pass_none : (rows : List Row) (i : ℕ) → length rows ≤ i → record { passed = row_before i rows; left = drop i rows } ≡ past_left (drop i rows) (record { passed = row_before i rows; left = drop i rows })
-pass_none rows i h = ap (λ xs. past_left xs (record { passed = row_before i rows; left = drop i rows })) (sym (drop_past rows i h))
+pass_none rows i h = ap (λ xs. past_left xs (record { passed = row_before i rows; left = drop i rows })) (sym (drop_all i rows h))
 
 pub ruleset lefts = (first_left, left_some, left_none)
 

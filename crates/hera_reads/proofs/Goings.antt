@@ -1,32 +1,26 @@
 -- What a step of a walk leaves.
-use Rattle.std.proofs.Common.{◌≡◌, ℕ, ◌≤◌, true, List, [], ◌∷◌, Option, None, Some, is_some, refl, sym, ap, ◌∙◌, arith}
-use Rattle.std.specs.Prelude.{IsSomeAnd}
-use Rattle.std.specs.List.{filter}
-use Rattle.std.proofs.lemmas.Bool.{false≢true}
+use Rattle.std.proofs.Common.{◌≡◌, ◌≤◌, true, List, [], ◌∷◌, Option, None, is_some, refl, sym, ap, ◌∙◌, arith}
 use Rattle.std.proofs.lemmas.Option.{none-some}
-use Rattle.hera_sets.specs.Rows.{Row, is_past}
-use Rattle.hera_meaning.specs.Deltas.{State, rows_at}
+use Rattle.hera_sets.specs.Rows.{Row}
+use Rattle.hera_meaning.specs.Deltas.{State}
 use Rattle.when_overlay.specs.declared.layers.Layer.{Layer}
-use Rattle.hera_reads.specs.Branched.{seen_at}
-use Rattle.hera_reads.specs.Walking.{Pace, Rest, given, named, onward, to_come, walk_at, first_of, past_row, past_first, gone_on, at_row, IsGiven, settled, rest_reach}
+use Rattle.hera_reads.specs.Walking.{Pace, Rest, given, named, to_come, walk_at, first_of, past_row, past_first, gone_on, at_row, IsGiven, settled, rest_reach}
 
 -- ---- past a row that it has
 
 past_at : (s : State) (ls : List Layer) (rest : Rest) (current : Option Row) (gathered : List Row) → is_some (first_of rest) ≡ true →
     walk_at s ls (past_row rest (record { rest = rest; current = current; gathered = gathered })) ≡ gone_on (walk_at s ls (record { rest = rest; current = current; gathered = gathered }))
-past_at s ls (given []) current gathered h = absurd (false≢true h)
-past_at s ls (given (x ∷ xs)) current gathered h = refl
-past_at s ls (named [] r k) current gathered h = absurd (false≢true h)
-past_at s ls (named (x ∷ xs) r k) current gathered h = refl
+past_at s ls (given []) current gathered h = cc
+past_at s ls (named [] r k) current gathered h = cc
+past_at s ls rest current gathered h = refl
 
 pub past_on : (s : State) (ls : List Layer) (w : Pace) → is_some (first_of w.rest) ≡ true → walk_at s ls (past_first w) ≡ gone_on (walk_at s ls w)
 past_on s ls w h = past_at s ls w.rest w.current w.gathered h
 
 past_rest_reach : (rest : Rest) (w : Pace) → w.rest ≡ rest → rest_reach (past_row rest w).rest ≤ rest_reach w.rest
 past_rest_reach (given []) w e = omega arith
-past_rest_reach (given (x ∷ xs)) w e = omega arith
-past_rest_reach (named [] r k) w e = omega arith
 past_rest_reach (named (x ∷ xs) r k) w e = let same = ap rest_reach e in omega (arith, same)
+past_rest_reach rest w e = omega arith
 
 pub past_reach : (w : Pace) → rest_reach (past_first w).rest ≤ rest_reach w.rest
 past_reach w = past_rest_reach w.rest w refl
@@ -45,15 +39,6 @@ own_none s ls current (named ahead r k) g h = absurd g
 
 pub own_end : (s : State) (ls : List Layer) (w : Pace) → IsGiven w.rest → first_of w.rest ≡ None → walk_at s ls (record { rest = given []; current = None; gathered = w.gathered }) ≡ gone_on (walk_at s ls w)
 own_end s ls w g h = end_on s ls w (own_none s ls w.current w.rest g h)
-
--- ---- in a relation under a layer
-
--- past what it has read ahead of a relation, to its next row, if there is one
-pub sought_on : (s : State) (ls : List Layer) (r k : ℕ) (b o : Option Row) (left g : List Row) →
-    IsSomeAnd o (λ x. filter (is_past b) (rows_at (seen_at s ls k) r) ≡ x ∷ onward (Some x) left (rows_at (seen_at s ls k) r)) →
-    walk_at s ls (record { rest = named left r k; current = o; gathered = g }) ≡ gone_on (walk_at s ls (record { rest = named [] r k; current = b; gathered = g }))
-sought_on s ls r k b None left g e = absurd e
-sought_on s ls r k b (Some x) left g e = ap (λ rows. at_row rows (walk_at s ls (record { rest = given rows; current = b; gathered = g }))) (sym e)
 
 -- ---- with its rows
 

@@ -3,6 +3,7 @@ use Rattle.std.proofs.Common.{◌≡◌, ℕ, zero, suc, cond, ◌&&◌, ◌||�
 use Rattle.std.specs.Prelude.{slice_index_or, slice_get, nat_lt, ◌<◌, ◌≤◌}
 use Rattle.std.specs.List.{list_all}
 use Rattle.std.specs.Option.{option_map}
+use Rattle.std.proofs.lemmas.List.{drop_all}
 use Rattle.std.proofs.lemmas.List.Sums.{list_all-from_AllPass}
 use Rattle.std.proofs.lemmas.Bool.{and_parts, and_from, false≢true, or_left, or_right, eqb-true}
 use Rattle.std.proofs.lemmas.Option.{none-some, same_Some}
@@ -26,8 +27,8 @@ use Rattle.when_overlay.proofs.Viewing.{rel_after}
 use Rattle.when_overlay.specs.Seeking.{named_in, pluses}
 use Rattle.hera_reads.specs.Kinds.{have_same_kinds}
 use Rattle.hera_reads.specs.Branched.{AreKnown, IsTree, seen_at, pending_of}
-use Rattle.hera_fits.proofs.Tested.{drop_item}
-use Rattle.hera_reads.proofs.Drops.{drop_past}
+use Rattle.hera_fits.proofs.Tested.{drop_item, schema_found}
+use Rattle.hera_reads.proofs.Naming.{rows_got}
 use Rattle.hera_reads.proofs.Branching.{read_state}
 use Rattle.when_overlay.proofs.Meeting.{after_met}
 
@@ -37,22 +38,16 @@ same_kind : (k l : Kind) → is_same_kind k l ≡ true → k ≡ l
 same_kind int_kind int_kind h = refl
 same_kind bool_kind bool_kind h = refl
 same_kind text_kind text_kind h = refl
-same_kind int_kind bool_kind h = absurd (false≢true h)
-same_kind int_kind text_kind h = absurd (false≢true h)
-same_kind bool_kind int_kind h = absurd (false≢true h)
-same_kind bool_kind text_kind h = absurd (false≢true h)
-same_kind text_kind int_kind h = absurd (false≢true h)
-same_kind text_kind bool_kind h = absurd (false≢true h)
+same_kind k l h = cc
 
 fields_alike : (s t : List Attr) (bytes : Row) → have_same_kinds s t ≡ true → fields_of s bytes ≡ fields_of t bytes
 fields_alike [] [] bytes h = refl
-fields_alike [] (b ∷ t) bytes h = absurd (false≢true h)
-fields_alike (a ∷ s) [] bytes h = absurd (false≢true h)
 fields_alike (a ∷ s) (b ∷ t) bytes h =
     let p = and_parts (is_same_kind a.kind b.kind) (have_same_kinds s t) h in
     let rest = λ (k : Kind). drop (length (first_piece k bytes)) bytes in
     ap (λ k. scalar_of k (first_piece k bytes) ∷ fields_of s (rest k)) (same_kind a.kind b.kind p.0)
     ∙ ap (λ xs. scalar_of b.kind (first_piece b.kind bytes) ∷ xs) (fields_alike s t (rest b.kind) p.1)
+fields_alike s t bytes h = cc
 
 row_alike : (s t : List Attr) (bytes : Row) → have_same_kinds s t ≡ true → is_row s bytes ≡ is_row t bytes
 row_alike s t bytes h = ap (λ xs. list_all is_scalar xs && is_same (row_of xs) bytes) (fields_alike s t bytes h)
@@ -84,7 +79,7 @@ pub kinds_stop : (s t : List Attr) (i : ℕ) (a b : Attr) → slice_get s i ≡ 
 kinds_stop s t i a b e g h = sym (at_place s t i a b e g ∙ ap (λ k. k && have_same_kinds (drop (suc i) s) (drop (suc i) t)) h)
 
 pub kinds_end : (s t : List Attr) (i : ℕ) → length s ≤ i → length t ≤ i → true ≡ have_same_kinds (drop i s) (drop i t)
-kinds_end s t i h g = sym (λ j. have_same_kinds (drop_past s i h j) (drop_past t i g j))
+kinds_end s t i h g = sym (λ j. have_same_kinds (drop_all i s h j) (drop_all i t g j))
 
 -- ---- a test of each row of a list, and of each member
 
@@ -136,7 +131,7 @@ pub delta_puts : (rels : List RelDecl) (r : ℕ) (d : Delta) → is_delta_of rel
 delta_puts rels r fail h = refl
 delta_puts rels r (atoms xs) h = named_of rels r xs h
 
-all_append : (p : Row → Bool) (xs ys : List Row) → list_all p xs ≡ true → list_all p ys ≡ true → list_all p (xs ++ ys) ≡ true
+all_append : {A : Type 0} (p : A → Bool) (xs ys : List A) → list_all p xs ≡ true → list_all p ys ≡ true → list_all p (xs ++ ys) ≡ true
 all_append p [] ys h g = g
 all_append p (x ∷ xs) ys h g =
     let parts = and_parts (p x) (list_all p xs) h in
@@ -148,18 +143,12 @@ deltas_put rels r (d ∷ ds) h =
     let parts = and_parts (is_delta_of rels d) (list_all (is_delta_of rels) ds) h in
     all_append (is_row (schema_of rels r)) (named_in r Plus d) (pluses r ds) (delta_puts rels r d parts.0) (deltas_put rels r ds parts.1)
 
-known_append : (rels : List RelDecl) (ds es : List Delta) → list_all (is_delta_of rels) ds ≡ true → list_all (is_delta_of rels) es ≡ true → list_all (is_delta_of rels) (ds ++ es) ≡ true
-known_append rels [] es h g = g
-known_append rels (d ∷ ds) es h g =
-    let parts = and_parts (is_delta_of rels d) (list_all (is_delta_of rels) ds) h in
-    and_from (is_delta_of rels d) (list_all (is_delta_of rels) (ds ++ es)) parts.0 (known_append rels ds es parts.1 g)
-
 pub path_known : (rels : List RelDecl) (ls : List Layer) (tip : Option ℕ) → AreKnown rels ls → list_all (is_delta_of rels) (path ls tip) ≡ true
 path_known rels [] tip h = refl
 path_known rels (l ∷ ls) None h = refl
 path_known rels (l ∷ ls) (Some i) h =
     elim (nat_eq i (length ls)) as (λ b. list_all (is_delta_of rels) (cond b (path ls l.parent ++ l.delta ∷ []) (path ls (Some i))) ≡ true) [
-      | true ↦ known_append rels (path ls l.parent) (l.delta ∷ []) (path_known rels ls l.parent h.1) (and_from (is_delta_of rels l.delta) true h.0 refl)
+      | true ↦ all_append (is_delta_of rels) (path ls l.parent) (l.delta ∷ []) (path_known rels ls l.parent h.1) (and_from (is_delta_of rels l.delta) true h.0 refl)
       | false ↦ path_known rels ls (Some i) h.1
     ]
 
@@ -186,11 +175,6 @@ pending_of_known rels (l ∷ k ∷ ls) h = pending_of_known rels (k ∷ ls) h.1
 
 -- ---- a schema of the same kinds as the catalogue's
 
-pub schema_found : (rels : List RelDecl) (r : ℕ) (d : RelDecl) → slice_get rels r ≡ Some d → d.schema ≡ schema_of rels r
-schema_found [] r d h = absurd (none-some d h)
-schema_found (e ∷ rels) zero d h = ap (λ (x : RelDecl). x.schema) (sym (same_Some e d h))
-schema_found (e ∷ rels) (suc r) d h = schema_found rels r d h
-
 -- all rows of one schema are of another with the same kinds
 pub pass_alike : (s t : List Attr) (rows : List Row) → have_same_kinds s t ≡ true → list_all (is_row t) rows ≡ true → list_all (is_row s) rows ≡ true
 pass_alike s t rows h g = rows_alike s t rows h ∙ g
@@ -201,22 +185,16 @@ rows_after-append r rows (d ∷ ds) es = rows_after-append r (changed r rows d) 
 
 -- the rows of a relation of a state are of its schema
 pub state_rows : (rels : List RelDecl) (s : State) (r : ℕ) (rows : List Row) → IsState rels s → slice_get s r ≡ Some rows → list_all (is_row (schema_of rels r)) rows ≡ true
-state_rows [] [] r rows h e = absurd (none-some rows e)
-state_rows [] (x ∷ s) r rows h e = absurd h
-state_rows (d ∷ rels) [] r rows h e = absurd h
+state_rows [] [] r rows h e = cc
 state_rows (d ∷ rels) (x ∷ s) zero rows h e =
     subst (λ (xs : List Row). list_all (is_row d.schema) xs ≡ true) (same_Some x rows e) (list_all-from_AllPass (is_row d.schema) x (λ k o within. is_row-from_IsRow d.schema (slice_index_or x k o) (h.0.1 k o within)))
 state_rows (d ∷ rels) (x ∷ s) (suc r) rows h e = state_rows rels s r rows h.1 e
+state_rows rels s r rows h e = absurd h
 
 pub committed_rows : (rels : List RelDecl) (s : State) (ds : List Delta) (r : ℕ) (rows : List Row) → IsState rels s → list_all (is_delta_of rels) ds ≡ true → slice_get s r ≡ Some rows → list_all (is_row (schema_of rels r)) (rows_after r rows ds) ≡ true
 committed_rows rels s ds r rows h g e = after_of (is_row (schema_of rels r)) r rows ds (state_rows rels s r rows h e) (deltas_put rels r ds g)
 
 -- ---- the rows of a relation under a layer
-
-pub rows_found : (s : State) (r : ℕ) (rows : List Row) → slice_get s r ≡ Some rows → rows_at s r ≡ rows
-rows_found [] r rows e = absurd (none-some rows e)
-rows_found (x ∷ s) zero rows e = same_Some x rows e
-rows_found (x ∷ s) (suc r) rows e = rows_found s r rows e
 
 found_of : (rels : List RelDecl) (s : State) (r : ℕ) (d : RelDecl) → IsState rels s → slice_get rels r ≡ Some d → slice_get s r ≡ Some (rows_at s r)
 found_of [] s r d h e = absurd (none-some d e)
@@ -236,4 +214,4 @@ seen_known rels own s ds ls k r d e state known tree layers upon within there ot
     let base = subst (λ (t : List Attr). list_all (is_row t) (rows_after r rows ds) ≡ true) (sym mine) (committed_rows rels s ds r rows state known found) in
     let puts = subst (λ (t : List Attr). list_all (is_row t) (pluses r es) ≡ true) (sym (schema_found own r e other)) (deltas_put own r es (path_known own ls (Some k) upon)) in
     let all = after_of (is_row d.schema) r (rows_after r rows ds) es base (pass_alike d.schema e.schema (pluses r es) same puts) in
-    ap (list_all (is_row d.schema)) (ap (λ t. rows_at t r) (sym (read_state s ds ls k tree layers within)) ∙ rows_found _ r _ (rel_after r s (ds ++ es) rows found) ∙ rows_after-append r rows ds es) ∙ all
+    ap (list_all (is_row d.schema)) (ap (λ t. rows_at t r) (sym (read_state s ds ls k tree layers within)) ∙ rows_got _ r _ (rel_after r s (ds ++ es) rows found) ∙ rows_after-append r rows ds es) ∙ all

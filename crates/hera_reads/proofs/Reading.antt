@@ -1,5 +1,5 @@
 -- Rows read ahead, one by one.
-use Rattle.std.proofs.Common.{◌≡◌, ℕ, zero, suc, ◌+◌, ◌-◌, ◌<◌, ◌≤◌, true, length, List, [], ◌∷◌, ◌++◌, drop, take, Option, None, Some, refl, sym, ap, ◌∙◌, subst, arith}
+use Rattle.std.proofs.Common.{◌≡◌, ℕ, zero, suc, ◌+◌, ◌-◌, ◌<◌, true, List, [], ◌∷◌, ◌++◌, drop, take, Option, None, Some, refl, sym, ap, ◌∙◌, subst, arith, add-one}
 use Rattle.std.specs.Prelude.{IsSomeAnd, slice_get}
 use Rattle.std.proofs.lemmas.Option.{none-some, same_Some}
 use Rattle.std.specs.List.{filter, find}
@@ -62,28 +62,10 @@ pub first_at : (rows : List Row) → slice_get rows 0 ≡ find (is_past None) ro
 first_at [] = refl
 first_at (x ∷ xs) = refl
 
-pub none_at : (rows : List Row) (i : ℕ) → length rows ≤ i → slice_get rows i ≡ None
-none_at [] i h = refl
-none_at (x ∷ xs) zero h = absurd (omega (arith, h))
-none_at (x ∷ xs) (suc i) h = none_at xs i (omega (arith, h))
-
 pub next_at : (rows : List Row) (i : ℕ) (r x : Row) → IsAscending rows → 0 < i → slice_get rows (i - 1) ≡ Some r → is_same r x ≡ true → slice_get rows i ≡ find (is_past (Some x)) rows
 next_at rows i r x up some at same =
+    let more : i ≡ suc (i - 1) = omega (arith, some) in
     ap (slice_get rows) more ∙ next_behind rows (i - 1) x up (at ∙ ap (λ y. Some y) (same_true r x same))
-  where
-    more : i ≡ suc (i - 1)
-    more = omega (arith, some)
-
-pub run_first : (rows : List Row) (i : ℕ) (x : Row) → slice_get rows i ≡ Some x → IsRunTo rows (slice_get rows i) (x ∷ []) x i
-run_first rows i x h = (rw h (read_first rows x), h)
-
-pub run_next : (rows : List Row) (first : Option Row) (ahead : List Row) (last : Row) (i : ℕ) (x : Row) → IsAscending rows → slice_get rows (i + 1) ≡ Some x → IsRunTo rows first ahead last i → IsRunTo rows first (ahead ++ x ∷ []) x (i + 1)
-run_next rows None ahead last i x up h e = absurd e.0
-run_next rows (Some f) ahead last i x up h e =
-    (read_next rows f ahead last x up (sym (next_behind rows i last up e.1) ∙ ap (slice_get rows) (sym more) ∙ h) e.0, h)
-  where
-    more : i + 1 ≡ suc i
-    more = omega arith
 
 -- put into the first place, and into the next one
 pub put_read : (rows : List Row) (first : Row) (new : List Row) → take 1 new ≡ first ∷ [] → IsRead rows first (take 1 new) first
@@ -93,10 +75,12 @@ pub put_read_next : (rows : List Row) (first : Row) (old new : List Row) (n : �
 put_read_next rows first old new n last r up h e l = subst (λ t. IsRead rows first t r) (sym e) (read_next rows first (take n old) last r up h l)
 
 pub put_run : (rows : List Row) (new : List Row) (i : ℕ) (x : Row) → slice_get rows i ≡ Some x → take 1 new ≡ x ∷ [] → IsRunTo rows (slice_get rows i) (take 1 new) x i
-put_run rows new i x h e = subst (λ t. IsRunTo rows (slice_get rows i) t x i) (sym e) (run_first rows i x h)
+put_run rows new i x h e = (rw h (put_read rows x new e), h)
 
 pub put_run_next : (rows : List Row) (first : Option Row) (old new : List Row) (n : ℕ) (last : Row) (i : ℕ) (x : Row) → IsAscending rows → slice_get rows (i + 1) ≡ Some x → take (n + 1) new ≡ take n old ++ x ∷ [] → IsRunTo rows first (take n old) last i → IsRunTo rows first (take (n + 1) new) x (i + 1)
-put_run_next rows first old new n last i x up h e l = subst (λ t. IsRunTo rows first t x (i + 1)) (sym e) (run_next rows first (take n old) last i x up h l)
+put_run_next rows None old new n last i x up h e l = absurd l.0
+put_run_next rows (Some f) old new n last i x up h e l =
+    (put_read_next rows f old new n last x up (sym (next_behind rows i last up l.1) ∙ ap (slice_get rows) (sym (add-one i)) ∙ h) e l.0, h)
 
 pub run_ahead : (rows : List Row) (first : Option Row) (ahead : List Row) (last : Row) (i : ℕ) → IsRunTo rows first ahead last i → IsSomeAnd first (λ x. IsAhead rows x ahead)
 run_ahead rows None ahead last i e = absurd e.0

@@ -93,10 +93,8 @@ here_none code rels hosts s old e = ap (λ o. act code rels hosts o s (machine_a
 -- ---- a delta that is stored
 
 known_by : (f k : Type 0) (rels : List RelDecl) (s : State) (l : ℕ) (t : Told) (old new : Work) → Sinks f k l (machine_at s old) (step_at s t new) → is_delta_of rels (pending_of old.layers) ≡ true → TellsKnown rels t
-known_by f k rels s l Quiet old new h known = tt
-known_by f k rels s l (Out line) old new h known = tt
 known_by f k rels s l (Commit d) old new h known = ap (is_delta_of rels) h.0 ∙ known
-known_by f k rels s l (Ended end) old new h known = tt
+known_by f k rels s l told old new h known = tt
 
 -- what a step tells is of the machine's relations
 pub result_known : (code : Code) (rels : List RelDecl) (hosts : Hosts) (i : Instr) (s : State) (r : Result Told AllocError) (old new : Work) →

@@ -5,7 +5,7 @@ use Rattle.hera_sets.specs.Rows.{Row}
 use Rattle.hera_meaning.specs.declared.trees.Op.{Op}
 use Rattle.hera_meaning.specs.declared.trees.Op.TheVariants as ops
 use Rattle.hera_meaning.specs.Deltas.{State}
-use Rattle.hera_meaning.specs.Values.{Value, scalar, tuple, table, delta, operand}
+use Rattle.hera_meaning.specs.Values.{Value, scalar, tuple, table, operand}
 use Rattle.hera_meaning.specs.Fits.{arity, fits_of}
 use Rattle.hera_meaning.specs.Primitives.{given}
 use Rattle.hera_code.specs.Machine.{Machine, ends, stuck, on_some, needs_that, as_tuple, as_table, answer_step, answers}
@@ -41,25 +41,16 @@ answered at op args vs m (Answer v) h = sym (ap (λ b. needs_that b (answer_step
 -- a value that is a relation
 pub table_of : (v : Value) (rows : List Row) → as_table v ≡ Some rows → v ≡ table rows
 table_of (scalar s) rows h = cc
-table_of (tuple r) rows h = cc
-table_of (table xs) rows h = cc
-table_of (delta d) rows h = cc
+table_of v rows h = cc
 
 pub tuple_of : (v : Value) (row : Row) → as_tuple v ≡ Some row → v ≡ tuple row
 tuple_of (scalar s) row h = cc
-tuple_of (tuple r) row h = cc
-tuple_of (table xs) row h = cc
-tuple_of (delta d) row h = cc
+tuple_of v row h = cc
 
 no_table : (v : Value) (op : Op) → is_measure op ≡ true → as_table v ≡ None → fits_of op (v ∷ []) ≡ false
-no_table (scalar s) ops.Count m h = refl
-no_table (tuple r) ops.Count m h = refl
-no_table (table xs) ops.Count m h = cc
-no_table (delta d) ops.Count m h = refl
-no_table (scalar s) ops.Empty m h = refl
-no_table (tuple r) ops.Empty m h = refl
-no_table (table xs) ops.Empty m h = cc
-no_table (delta d) ops.Empty m h = refl
+no_table (table xs) op m h = cc
+no_table v ops.Count m h = refl
+no_table v ops.Empty m h = refl
 no_table v op m h = cc
 
 module _ (s : State) (at : ℕ) (op : Op) (w : Work) where

@@ -11,6 +11,6 @@ mod projection;
 mod sets;
 
 pub use fronts::Begun;
-pub use pieces::{at_places, piece, piece_len};
+pub use pieces::{piece, piece_len};
 pub use projection::project;
 pub use sets::{Both, Common, Without, inter, minus, same_rows, union};

@@ -1,6 +1,6 @@
-use Rattle.std.proofs.Common.{◌≡◌, ℕ, List, [], ◌∷◌, ◌++◌, sym, ap, ◌∙◌, map}
+use Rattle.std.proofs.Common.{ℕ, List, [], ◌∷◌, ◌++◌, sym, ap, ◌∙◌, map}
 use Rattle.std.specs.Option.{option_copied}
-use Rattle.hera_sets.specs.Rows.{normal, put}
+use Rattle.hera_sets.specs.Rows.{normal}
 use Rattle.hera_sets.proofs.Lists.{filter_past_none, walk_step, walk_end, walk_falls}
 use Rattle.hera_meaning.specs.Relations.{at_places}
 use Rattle.rel_algebra.proofs.Gathered.{image_more}

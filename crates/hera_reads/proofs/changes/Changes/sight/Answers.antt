@@ -5,7 +5,7 @@ use Rattle.std.proofs.lemmas.Option.{IfSome_then}
 use Rattle.hera_sets.specs.Rows.{Row}
 use Rattle.hera_meaning.specs.Rows.{is_row}
 use Rattle.hera_reads.specs.Branched.{seen_at}
-use Rattle.hera_reads.proofs.Known.{rows_found}
+use Rattle.hera_reads.proofs.Naming.{rows_got}
 use Rattle.hera_reads.proofs.changes.Changes.sight.Goals as goal
 
 pub new-requires : goal.new-requires
@@ -13,7 +13,7 @@ new-requires c =
     let s = c.args.stored.now.state in
     let ls = c.args.self.now.layers in
     IfSome_then c.known_schema-schema.result c.known_schema-schema.ensures
-    (λ schema all. subst (λ (xs : List Row). list_all (is_row schema.now) xs ≡ true) (rows_found (seen_at s ls c.there-tip.result) c.args.rel.0 c.rel.result c.rel.ensures) (all c.there-tip.result c.there-tip.ensures.within))
+    (λ schema all. subst (λ (xs : List Row). list_all (is_row schema.now) xs ≡ true) (rows_got (seen_at s ls c.there-tip.result) c.args.rel.0 c.rel.result c.rel.ensures) (all c.there-tip.result c.there-tip.ensures.within))
 
 pub returns : goal.returns
 returns c =

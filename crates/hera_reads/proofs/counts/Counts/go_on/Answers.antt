@@ -1,7 +1,8 @@
 use Rattle.std.proofs.Common.{◌∙◌, ap, subst, sym, refl, add-one, length}
 use Rattle.hera_meaning.specs.Deltas.{apply_of}
 use Rattle.hera_reads.specs.Branched.{pending_of}
-use Rattle.hera_reads.proofs.Counting.{AreBetween, between_start, between_put, slice_set_length}
+use Rattle.std.proofs.lemmas.List.{length-set}
+use Rattle.hera_reads.proofs.Counting.{AreBetween, between_start, between_put}
 use Rattle.hera_reads.proofs.counts.Counts.go_on.Goals as goal
 
 pub loop-i-init : goal.loop-i-init
@@ -16,5 +17,5 @@ loop-i-preserved c =
     let i = c.loop-i.i in
     record {
       gone = subst (λ k. AreBetween s t k c.put.new.self) (sym (add-one i)) (subst (AreBetween s t _) (sym c.put.ensures) (between_put s t c.loop-i.self i c.next-next.result c.loop-i.invariant.gone c.next-next.ensures));
-      long = ap length c.put.ensures ∙ slice_set_length c.loop-i.self i c.next-next.result ∙ c.loop-i.invariant.long;
+      long = ap length c.put.ensures ∙ length-set c.loop-i.self i c.next-next.result ∙ c.loop-i.invariant.long;
     }
