@@ -7,14 +7,15 @@ use Rattle.hera_typed.specs.Points.{Seen, Point, Cut, cut, with, when, agrees, a
 use Rattle.hera_typed.specs.Notes.{slot_note}
 use Rattle.hera_typed.specs.declared.notes.SlotNote.{SlotNote}
 use Rattle.hera_typed.specs.Effects.{Goal, goes, with_operands, pushed_result, slot_forms}
-use Rattle.hera_effects.specs.declared.stacks.Node.{Node}
+use Rattle.hera_stacks.specs.declared.stacks.Node.{Node}
 use Rattle.hera_effects.specs.declared.spots.Spot.{Spot}
 use Rattle.hera_effects.specs.declared.spots.Ways.{Ways}
-use Rattle.hera_effects.specs.Stacked.{AreOperands, IsSpot, Grows}
+use Rattle.hera_stacks.specs.Stacked.{AreOperands, Grows}
+use Rattle.hera_effects.specs.Spots.{IsSpot}
 use Rattle.hera_effects.specs.Ways.{Both, AreWays}
 use Rattle.hera_effects.specs.Plain.{taken}
 use Rattle.hera_effects.specs.Operations.{called_off}
-use Rattle.hera_effects.proofs.Flattened.{drop_at, drop_past}
+use Rattle.hera_stacks.proofs.Flattened.{drop_at, drop_past}
 use Rattle.hera_effects.proofs.Effecting.{replaced}
 use Rattle.hera_effects.proofs.Walking.{one_way}
 

@@ -1,17 +1,17 @@
 -- Lists of operands and forms, item by item.
-use Rattle.std.proofs.Common.{◌≡◌, ◌≢◌, ◌≤◌, ℕ, zero, suc, ◌+◌, Bool, true, false, ◌&&◌, List, [], ◌∷◌, ◌++◌, map, take, drop, length, None, Some, refl, sym, ap, ◌∙◌, add-one, arith}
+use Rattle.std.proofs.Common.{◌≡◌, ◌≢◌, ◌≤◌, ℕ, zero, suc, ◌+◌, Bool, true, false, ◌&&◌, List, [], ◌∷◌, ◌++◌, map, take, drop, length, Some, refl, sym, ap, ◌∙◌, add-one, arith}
 use Rattle.std.specs.Prelude.{slice_get}
 use Rattle.std.proofs.lemmas.Option.{none-some, same_Some}
 use Rattle.hera_meaning.specs.declared.schemas.Attr.{Attr}
-use Rattle.hera_meaning.specs.Forms.{Form, of_scalar, kinds_of, form_of}
+use Rattle.hera_meaning.specs.Forms.{of_scalar, kinds_of, form_of}
 use Rattle.hera_typed.specs.declared.notes.SlotNote.{SlotNote}
 use Rattle.hera_typed.specs.Notes.{slot_note}
 use Rattle.hera_typed.specs.Effects.{slot_forms}
-use Rattle.hera_effects.specs.declared.forms.FlatForm.{FlatForm}
-use Rattle.hera_effects.specs.declared.forms.FlatSeen.{FlatSeen}
-use Rattle.hera_effects.specs.Flat.{flat_form}
-use Rattle.hera_effects.specs.Operations.{flat_agrees, flat_all_agree, one_of, two_of}
-use Rattle.hera_effects.proofs.Flattened.{drop_at, drop_past}
+use Rattle.hera_stacks.specs.declared.forms.FlatForm.{FlatForm}
+use Rattle.hera_stacks.specs.declared.forms.FlatSeen.{FlatSeen}
+use Rattle.hera_stacks.specs.Flat.{flat_form}
+use Rattle.hera_effects.specs.Operations.{flat_agrees, flat_all_agree}
+use Rattle.hera_stacks.proofs.Flattened.{drop_at, drop_past}
 
 -- ---- as many operands as forms
 
@@ -29,39 +29,10 @@ pub agree_on : (ss : List FlatSeen) (fs : List FlatForm) (i : ℕ) (s : FlatSeen
 agree_on ss fs i s f at there h =
     sym ((λ t. flat_all_agree (drop_at ss i s at t) (drop_at fs i f there t)) ∙ ap (λ v. v && flat_all_agree (drop (i + 1) ss) (drop (i + 1) fs)) h)
 
-pub agree_stops : (ss : List FlatSeen) (fs : List FlatForm) (i : ℕ) (s : FlatSeen) (f : FlatForm) → slice_get ss i ≡ Some s → slice_get fs i ≡ Some f → flat_agrees s f ≡ false → false ≡ flat_all_agree (drop i ss) (drop i fs)
-agree_stops ss fs i s f at there h =
-    sym ((λ t. flat_all_agree (drop_at ss i s at t) (drop_at fs i f there t)) ∙ ap (λ v. v && flat_all_agree (drop (i + 1) ss) (drop (i + 1) fs)) h)
-
 pub agree_ends : (ss : List FlatSeen) (fs : List FlatForm) (i : ℕ) → length ss ≤ i → length fs ≤ i → true ≡ flat_all_agree (drop i ss) (drop i fs)
 agree_ends ss fs i over done = sym (λ t. flat_all_agree (drop_past ss i over t) (drop_past fs i done t))
 
 -- ---- one, and two
-
-pub one_there : (ss : List FlatSeen) (s : FlatSeen) → length ss ≡ 1 → slice_get ss 0 ≡ Some s → Some s ≡ one_of ss
-one_there [] s h at = absurd (none-some s at)
-one_there (x ∷ []) s h at = sym at
-one_there (x ∷ y ∷ ss) s h at = absurd (omega (arith, h))
-
-pub not_one : (ss : List FlatSeen) → length ss ≢ 1 → None ≡ one_of ss
-not_one [] h = refl
-not_one (x ∷ []) h = absurd (h refl)
-not_one (x ∷ y ∷ ss) h = refl
-
-pub two_there : (ss : List FlatSeen) (s t : FlatSeen) → length ss ≡ 2 → slice_get ss 0 ≡ Some s → slice_get ss 1 ≡ Some t → Some (s, t) ≡ two_of ss
-two_there [] s t h at there = absurd (none-some s at)
-two_there (x ∷ []) s t h at there = absurd (none-some t there)
-two_there (x ∷ y ∷ []) s t h at there =
-    let first = same_Some x s at in
-    let second = same_Some y t there in
-    sym (λ i. Some (first i, second i))
-two_there (x ∷ y ∷ z ∷ ss) s t h at there = absurd (omega (arith, h))
-
-pub not_two : (ss : List FlatSeen) → length ss ≢ 2 → None ≡ two_of ss
-not_two [] h = refl
-not_two (x ∷ []) h = refl
-not_two (x ∷ y ∷ []) h = absurd (h refl)
-not_two (x ∷ y ∷ z ∷ ss) h = refl
 
 -- ---- forms, one after another
 
@@ -73,14 +44,6 @@ take_suc f (y ∷ xs) (suc i) x h = ap (λ ys. f y ∷ ys) (take_suc f xs i x h)
 pub forms_more : {A : Type 0} (f : A → FlatForm) (xs : List A) (i : ℕ) (x : A) (forms : List FlatForm) (form : FlatForm) → slice_get xs i ≡ Some x → form ≡ f x → forms ≡ take i (map f xs) → forms ++ form ∷ [] ≡ take (i + 1) (map f xs)
 forms_more f xs i x forms form at is h =
     (λ t. h t ++ is t ∷ []) ∙ sym (take_suc f xs i x at) ∙ ap (λ n. take n (map f xs)) (sym (add-one i))
-
-pub take_past : {A : Type 0} (n m : ℕ) (xs : List A) → length xs ≡ n → n ≤ m → take n xs ≡ take m xs
-take_past zero zero [] e le = refl
-take_past zero (suc m) [] e le = refl
-take_past (suc n) m [] e le = absurd (omega (arith, e))
-take_past zero m (x ∷ xs) e le = absurd (omega (arith, e))
-take_past (suc n) zero (x ∷ xs) e le = absurd (omega (arith, le))
-take_past (suc n) (suc m) (x ∷ xs) e le = ap (λ ys. x ∷ ys) (take_past n m xs (omega (arith, e)) (omega (arith, le)))
 
 pub take_over : {A : Type 0} {B : Type 0} (f : A → B) (xs : List A) (n : ℕ) → length xs ≤ n → take n (map f xs) ≡ map f xs
 take_over f [] zero h = refl
@@ -99,18 +62,6 @@ take_whole (suc n) [] h = refl
 take_whole zero (x ∷ xs) h = absurd (omega (arith, h))
 take_whole (suc n) (x ∷ xs) h = ap (λ ys. x ∷ ys) (take_whole n xs (omega (arith, h)))
 
-map_twice : {A B C : Type 0} (f : B → C) (g : A → B) (xs : List A) → map (λ x. f (g x)) xs ≡ map f (map g xs)
-map_twice f g [] = refl
-map_twice f g (x ∷ xs) = ap (λ ys. f (g x) ∷ ys) (map_twice f g xs)
-
 pub attr_forms_is : (schema : List Attr) → map (λ (a : Attr). flat_form (of_scalar a.kind)) schema ≡ map flat_form (map of_scalar (kinds_of schema))
 attr_forms_is [] = refl
 attr_forms_is (a ∷ schema) = ap (λ ys. flat_form (of_scalar a.kind) ∷ ys) (attr_forms_is schema)
-
-take_map : {A B : Type 0} (f : A → B) (n : ℕ) (xs : List A) → take n (map f xs) ≡ map f (take n xs)
-take_map f zero xs = refl
-take_map f (suc n) [] = refl
-take_map f (suc n) (x ∷ xs) = ap (λ ys. f x ∷ ys) (take_map f n xs)
-
-pub first_forms_is : (n : ℕ) (fs : List Form) → take n (map flat_form fs) ≡ map flat_form (take n fs)
-first_forms_is n fs = take_map flat_form n fs

@@ -1,10 +1,9 @@
--- What stands at a place of a table, and kinds by their number.
-use Rattle.std.proofs.Common.{◌≡◌, ◌<◌, ◌≤◌, ℕ, zero, suc, ◌+◌, ◌*◌, ◌-◌, true, not, List, [], ◌∷◌, ◌++◌, length, Option, None, Some, refl, sym, ap, ◌∙◌, arith}
+-- What stands at a place of a table.
+use Rattle.std.proofs.Common.{◌≡◌, ◌<◌, ◌≤◌, ℕ, zero, suc, ◌+◌, ◌-◌, true, not, List, [], ◌∷◌, length, Option, None, Some, refl, sym, ap, ◌∙◌, arith}
 use Rattle.std.specs.Prelude.{slice_get, nat_lt}
 use Rattle.std.proofs.lemmas.Bool.{and_from, lt-ltb}
 use Rattle.std.proofs.lemmas.Option.{none-some, same_Some}
 use Rattle.hera_sets.specs.Rows.{Row, holds}
-use Rattle.hera_meaning.specs.declared.scalars.Kind.{Kind}
 use Rattle.hera_meaning.specs.declared.schemas.Attr.{Attr}
 use Rattle.hera_meaning.specs.declared.schemas.RelDecl.{RelDecl}
 use Rattle.hera_meaning.specs.Schemas.{AreDistinct}
@@ -14,24 +13,15 @@ use Rattle.hera_meaning.specs.Forms.{of_scalar}
 use Rattle.hera_host.specs.Tables.{Host, specs_of, takes_at, gives_at}
 use Rattle.hera_typed.specs.Points.{Point, with, when}
 use Rattle.hera_typed.specs.Effects.{goes, left_layer, is_apart}
-use Rattle.hera_effects.specs.declared.forms.Kinds.{Kinds}
-use Rattle.hera_effects.specs.declared.forms.FlatForm.TheVariants as flat
+use Rattle.hera_stacks.specs.declared.forms.FlatForm.TheVariants as flat
 use Rattle.hera_effects.specs.declared.plain.Plain.{Plain}
-use Rattle.hera_effects.specs.declared.stacks.Node.{Node}
+use Rattle.hera_stacks.specs.declared.stacks.Node.{Node}
 use Rattle.hera_effects.specs.declared.spots.Spot.{Spot}
 use Rattle.hera_effects.specs.declared.spots.Ways.{Ways}
-use Rattle.hera_effects.specs.Flat.{digit, numbered}
-use Rattle.hera_effects.specs.Stacked.{IsSpot}
+use Rattle.hera_effects.specs.Spots.{IsSpot}
 use Rattle.hera_effects.specs.Ways.{Both, AreWays, listed}
 use Rattle.hera_effects.specs.Plain.{IsPlain}
 use Rattle.hera_effects.proofs.Walking.{one_way}
-
-pub kinds_are : (x : Kinds) (n : ℕ) → x.digits ≡ n → x ≡ record { digits = n }
-kinds_are x n e = (λ i. record { digits = e i })
-
-pub numbered_append : (n : ℕ) (ks ls : List Kind) → numbered n (ks ++ ls) ≡ numbered (numbered n ks) ls
-numbered_append n [] ls = refl
-numbered_append n (k ∷ ks) ls = numbered_append (4 * n + digit k) ks ls
 
 -- a relation that is there
 within : (rels : List RelDecl) (r : ℕ) (d : RelDecl) → slice_get rels r ≡ Some d → r < length rels

@@ -12,17 +12,18 @@ use Rattle.hera_meaning.specs.Fits.{is_good_op}
 use Rattle.hera_code.specs.declared.instrs.BodyInfo.{BodyInfo}
 use Rattle.hera_typed.specs.Points.{Seen, Point, Cut, cut, with, when, first, all_agree}
 use Rattle.hera_typed.specs.Effects.{Slot_note, Body_note, Goal, goes, goes_or, with_operands, pushed_result, slot_forms, walks_into, seen_by}
-use Rattle.hera_effects.specs.declared.forms.FlatForm.{FlatForm}
-use Rattle.hera_effects.specs.declared.forms.FlatSeen.{FlatSeen}
-use Rattle.hera_effects.specs.declared.stacks.Node.{Node}
+use Rattle.hera_stacks.specs.declared.forms.FlatForm.{FlatForm}
+use Rattle.hera_stacks.specs.declared.forms.FlatSeen.{FlatSeen}
+use Rattle.hera_stacks.specs.declared.stacks.Node.{Node}
 use Rattle.hera_effects.specs.declared.spots.Spot.{Spot}
 use Rattle.hera_effects.specs.declared.spots.Ways.{Ways}
 use Rattle.hera_effects.specs.declared.cuts.Cut.{Cut as FlatCut}
-use Rattle.hera_effects.specs.Flat.{flat_kinds, flat_form, flat_seen}
-use Rattle.hera_effects.specs.Stacked.{node_at, AreOperands, AreWalks, IsSpot, Grows}
+use Rattle.hera_stacks.specs.Flat.{flat_kinds, flat_form, flat_seen}
+use Rattle.hera_stacks.specs.Stacked.{node_at, AreOperands, AreWalks, Grows}
+use Rattle.hera_effects.specs.Spots.{IsSpot}
 use Rattle.hera_effects.specs.Ways.{Both, AreWays}
 use Rattle.hera_effects.specs.Operations.{IsCut, flat_all_agree, flat_seen_by}
-use Rattle.hera_effects.proofs.Stacking.{walks_grow, operands_grow}
+use Rattle.hera_stacks.proofs.Stacking.{walks_grow, operands_grow}
 use Rattle.hera_effects.proofs.Moving.{none_first, some_first}
 use Rattle.hera_effects.proofs.Walking.{one_way}
 use Rattle.hera_effects.proofs.Operating.{all_agree_is, seen_by_is}

@@ -1,6 +1,4 @@
-pub mod Flattened
-pub mod Keeping
-pub mod Stacking
+pub mod Spotting
 pub mod Plainly
 pub mod Moving
 pub mod Walking

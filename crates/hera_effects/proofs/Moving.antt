@@ -4,17 +4,18 @@ use Rattle.std.proofs.lemmas.Option.{none-some, same_Some}
 use Rattle.hera_meaning.specs.Forms.{Form}
 use Rattle.hera_typed.specs.Points.{Seen, Point, with, when, first, agrees}
 use Rattle.hera_typed.specs.Effects.{Goal, with_operands, pushed_result}
-use Rattle.hera_effects.specs.declared.forms.FlatForm.{FlatForm}
-use Rattle.hera_effects.specs.declared.forms.FlatSeen.TheVariants as flat_seens
-use Rattle.hera_effects.specs.declared.stacks.Node.{Node}
+use Rattle.hera_stacks.specs.declared.forms.FlatForm.{FlatForm}
+use Rattle.hera_stacks.specs.declared.forms.FlatSeen.TheVariants as flat_seens
+use Rattle.hera_stacks.specs.declared.stacks.Node.{Node}
 use Rattle.hera_effects.specs.declared.spots.Spot.{Spot}
 use Rattle.hera_effects.specs.declared.spots.Ways.{Ways}
 use Rattle.hera_effects.specs.declared.plain.Plain.{Plain}
-use Rattle.hera_effects.specs.Flat.{flat_kinds, flat_form, flat_seen}
-use Rattle.hera_effects.specs.Stacked.{node_at, AreOperands, IsSpot, Grows}
+use Rattle.hera_stacks.specs.Flat.{flat_kinds, flat_form, flat_seen}
+use Rattle.hera_stacks.specs.Stacked.{node_at, AreOperands, Grows}
+use Rattle.hera_effects.specs.Spots.{IsSpot}
 use Rattle.hera_effects.specs.Ways.{Both, AreWays, listed, all_to}
 use Rattle.hera_effects.specs.Plain.{Plain_effect, IsPlain, taken, moved}
-use Rattle.hera_effects.proofs.Stacking.{walks_grow}
+use Rattle.hera_stacks.proofs.Stacking.{walks_grow}
 
 module _ (nodes : List Node) where
   -- without a first item there is none

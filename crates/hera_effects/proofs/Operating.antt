@@ -13,11 +13,11 @@ use Rattle.hera_meaning.specs.Forms.{Form, of_scalar, of_tuple, of_table, of_del
 use Rattle.hera_typed.specs.Points.{Seen, known, no_rows, same_kinds, same_form, is_table, agrees, all_agree, alike, with, when}
 use Rattle.hera_typed.specs.Effects.{takes, compares, orders, counts, finds, combines, gathers_all, is_width, is_apart, seen_by}
 use Rattle.hera_typed.proofs.Seen_values.{kinds_same as kinds_equal, kinds_itself}
-use Rattle.hera_effects.specs.declared.forms.FlatSeen.{FlatSeen}
-use Rattle.hera_effects.specs.declared.forms.FlatSeen.TheVariants as flat_seens
-use Rattle.hera_effects.specs.Flat.{numbered, flat_form, flat_seen}
-use Rattle.hera_effects.specs.Operations.{same_flat, is_flat_table, flat_agrees, flat_all_agree, flat_alike, flat_tuples, flat_one, flat_two, flat_compares, flat_orders, flat_ordered, flat_counted, flat_found, flat_combined, flat_gathers, flat_takes, flat_seen_by, one_of, two_of}
-use Rattle.hera_effects.proofs.Flattened.{kinds_same}
+use Rattle.hera_stacks.specs.declared.forms.FlatSeen.{FlatSeen}
+use Rattle.hera_stacks.specs.declared.forms.FlatSeen.TheVariants as flat_seens
+use Rattle.hera_stacks.specs.Flat.{numbered, flat_form, flat_seen, same_flat}
+use Rattle.hera_effects.specs.Operations.{is_flat_table, flat_agrees, flat_all_agree, flat_alike, flat_tuples, flat_one, flat_two, flat_compares, flat_orders, flat_ordered, flat_counted, flat_found, flat_combined, flat_gathers, flat_takes, flat_seen_by, one_of, two_of}
+use Rattle.hera_stacks.proofs.Flattened.{kinds_same}
 
 -- two truths that follow from one another are the same
 same_truth : (a b : Bool) → (a ≡ true → b ≡ true) → (b ≡ true → a ≡ true) → a ≡ b

@@ -14,7 +14,7 @@ use Rattle.hera_code.specs.declared.instrs.Code.{Code}
 use Rattle.hera_typed.specs.Points.{Seen, Point, with, when, first, agrees}
 use Rattle.hera_typed.specs.Effects.{Body_note, Slot_note, Goal, with_operands, pushed_result, takes_one, goes, slot, result, is_set_at, effect}
 use Rattle.hera_effects.specs.declared.plain.Plain.{Plain}
-use Rattle.hera_effects.specs.declared.stacks.Node.{Node}
+use Rattle.hera_stacks.specs.declared.stacks.Node.{Node}
 use Rattle.hera_effects.specs.declared.spots.Ways.{Ways}
 use Rattle.hera_effects.specs.Ways.{Both, AreWays, all_to}
 use Rattle.hera_effects.specs.Plain.{Plain_effect, IsPlain, takes_on, gives_on, goes_on, taken, moved, plain, is_plain}

@@ -8,18 +8,19 @@ use Rattle.hera_meaning.specs.declared.scalars.Kind.{Kind}
 use Rattle.hera_meaning.specs.Forms.{Form, of_tuple, of_table, of_delta, bool_form}
 use Rattle.hera_typed.specs.Points.{Seen, known, Point, when, first, agrees}
 use Rattle.hera_typed.specs.Effects.{goes, takes_one, with_operands, pushed_result, is_relation, opened, opened_point}
-use Rattle.hera_effects.specs.declared.forms.FlatForm.{FlatForm}
-use Rattle.hera_effects.specs.declared.forms.FlatForm.TheVariants as flat
-use Rattle.hera_effects.specs.declared.forms.FlatSeen.{FlatSeen}
-use Rattle.hera_effects.specs.declared.forms.FlatSeen.TheVariants as flat_seens
-use Rattle.hera_effects.specs.declared.stacks.Node.{Node}
+use Rattle.hera_stacks.specs.declared.forms.FlatForm.{FlatForm}
+use Rattle.hera_stacks.specs.declared.forms.FlatForm.TheVariants as flat
+use Rattle.hera_stacks.specs.declared.forms.FlatSeen.{FlatSeen}
+use Rattle.hera_stacks.specs.declared.forms.FlatSeen.TheVariants as flat_seens
+use Rattle.hera_stacks.specs.declared.stacks.Node.{Node}
 use Rattle.hera_effects.specs.declared.spots.Spot.{Spot}
 use Rattle.hera_effects.specs.declared.spots.Ways.{Ways}
-use Rattle.hera_effects.specs.Flat.{flat_kinds, flat_form, flat_seen}
-use Rattle.hera_effects.specs.Stacked.{node_at, AreOperands, IsSpot, Grows}
+use Rattle.hera_stacks.specs.Flat.{flat_kinds, flat_form, flat_seen}
+use Rattle.hera_stacks.specs.Stacked.{node_at, AreOperands, Grows}
+use Rattle.hera_effects.specs.Spots.{IsSpot}
 use Rattle.hera_effects.specs.Ways.{Both, AreWays}
 use Rattle.hera_effects.specs.Plain.{taken}
-use Rattle.hera_effects.proofs.Stacking.{walks_grow, operands_grow}
+use Rattle.hera_stacks.proofs.Stacking.{walks_grow, operands_grow}
 use Rattle.hera_effects.proofs.Moving.{some_first, pushes, asked_none, asked_some, none_ways, some_ways}
 use Rattle.hera_effects.proofs.Walking.{some_open, one_way}
 

@@ -3,11 +3,12 @@ use Rattle.std.proofs.Common.{◌≡◌, ℕ, suc, List, [], ◌∷◌, Option, 
 use Rattle.std.proofs.lemmas.Option.{none-some, same_Some}
 use Rattle.hera_typed.specs.Points.{Walked, Point}
 use Rattle.hera_typed.specs.Effects.{Goal, goes, left_layer}
-use Rattle.hera_effects.specs.declared.stacks.Node.{Node}
+use Rattle.hera_stacks.specs.declared.stacks.Node.{Node}
 use Rattle.hera_effects.specs.declared.spots.Spot.{Spot}
 use Rattle.hera_effects.specs.declared.spots.Ways.{Ways}
-use Rattle.hera_effects.specs.Flat.{flat_kinds, flat_seen}
-use Rattle.hera_effects.specs.Stacked.{node_at, AreWalks, IsSpot}
+use Rattle.hera_stacks.specs.Flat.{flat_kinds, flat_seen}
+use Rattle.hera_stacks.specs.Stacked.{node_at, AreWalks}
+use Rattle.hera_effects.specs.Spots.{IsSpot}
 use Rattle.hera_effects.specs.Ways.{Both, AreWays, listed, all_to}
 
 module _ (nodes : List Node) where

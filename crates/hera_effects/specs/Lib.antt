@@ -1,6 +1,4 @@
-pub mod Flat
-pub mod Stacked
-pub mod Kept
+pub mod Spots
 pub mod Ways
 pub mod Plain
 pub mod Operations

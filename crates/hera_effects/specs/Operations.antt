@@ -1,23 +1,22 @@
 -- What operations make of operands that are known by their flat forms.
-use Rattle.std.specs.Prelude.{◌≡◌, ℕ, Bool, true, false, ◌&&◌, ◌||◌, List, [], ◌∷◌, map, take, length, Option, Some, None, nat_lt, nat_eq}
+use Rattle.std.specs.Prelude.{◌≡◌, ℕ, Bool, true, false, ◌&&◌, ◌||◌, List, [], ◌∷◌, map, take, length, Option, Some, None, nat_lt}
 use Rattle.std.specs.List.{list_all}
 use Rattle.hera_meaning.specs.declared.schemas.RelDecl.{RelDecl}
 use Rattle.hera_meaning.specs.declared.trees.Op.{Op}
 use Rattle.hera_meaning.specs.declared.trees.Op.TheVariants.{Neg, Not, Add, Sub, Mul, Div, Rem, Eq, Ne, Lt, Le, Gt, Ge, In, Field, MakeRow, MakeRel, Project, Union, Minus, Inter, Join, Group, Count, Empty, Sum, Min, Max, Atom as atom_op, Bulk, Ins, Del, IsFail, Smash, Merge}
-use Rattle.hera_meaning.specs.Scalars.{is_same_kind}
 use Rattle.hera_meaning.specs.Schemas.{names_of}
 use Rattle.hera_meaning.specs.Deltas.{schema_of}
 use Rattle.hera_meaning.specs.Forms.{Form, of_scalar, of_tuple, of_table, kinds_of, int_form, bool_form, text_form, kind_at, project_kinds, group_kinds, join_kinds}
 use Rattle.hera_typed.specs.Points.{Seen, with, when, Cut, cut, all_agree}
 use Rattle.hera_typed.specs.Effects.{is_width, is_apart}
-use Rattle.hera_effects.specs.declared.forms.FlatForm.{FlatForm}
-use Rattle.hera_effects.specs.declared.forms.FlatForm.TheVariants as flat
-use Rattle.hera_effects.specs.declared.forms.FlatSeen.{FlatSeen}
-use Rattle.hera_effects.specs.declared.forms.FlatSeen.TheVariants as flat_seens
-use Rattle.hera_effects.specs.declared.stacks.Node.{Node}
+use Rattle.hera_stacks.specs.declared.forms.FlatForm.{FlatForm}
+use Rattle.hera_stacks.specs.declared.forms.FlatForm.TheVariants as flat
+use Rattle.hera_stacks.specs.declared.forms.FlatSeen.{FlatSeen}
+use Rattle.hera_stacks.specs.declared.forms.FlatSeen.TheVariants as flat_seens
+use Rattle.hera_stacks.specs.declared.stacks.Node.{Node}
 use Rattle.hera_effects.specs.declared.cuts.Cut.{Cut as FlatCut}
-use Rattle.hera_effects.specs.Flat.{flat_form, flat_seen}
-use Rattle.hera_effects.specs.Stacked.{AreOperands}
+use Rattle.hera_stacks.specs.Flat.{flat_form, flat_seen, same_flat}
+use Rattle.hera_stacks.specs.Stacked.{AreOperands}
 
 -- so many operands taken, the oldest first, and the number of the others
 pub record IsCut (nodes : List Node) (c : FlatCut) (d : Cut) : Type 0 where
@@ -27,13 +26,6 @@ pub record IsCut (nodes : List Node) (c : FlatCut) (d : Cut) : Type 0 where
 -- the operands without a body's arguments, of which each agrees with the form of its own slot
 abbrev pub called_off : ℕ → List Form → List Seen → Option (List Seen)
 called_off n forms ss = with (cut n [] ss) (λ c. when (all_agree c.args (take n forms)) (Some c.rest))
-
-abbrev pub same_flat : FlatForm → FlatForm → Bool
-same_flat (flat.Scalar k) (flat.Scalar l) = is_same_kind k l
-same_flat (flat.Tuple ks) (flat.Tuple ls) = nat_eq ks.digits ls.digits
-same_flat (flat.Table ks) (flat.Table ls) = nat_eq ks.digits ls.digits
-same_flat flat.Delta flat.Delta = true
-same_flat _ _ = false
 
 abbrev pub is_flat_table : FlatForm → Bool
 is_flat_table (flat.Table ks) = true

@@ -12,7 +12,7 @@ use Rattle.hera_typed.specs.Points.{Seen, Point, with, when, first, agrees}
 use Rattle.hera_typed.specs.Effects.{Body_note, Goal, with_operands, pushed_result, slot, result, is_set_at}
 use Rattle.std.specs.Option.{option_map}
 use Rattle.hera_effects.specs.declared.plain.Plain.{Plain}
-use Rattle.hera_effects.specs.Flat.{flat_form}
+use Rattle.hera_stacks.specs.Flat.{flat_form}
 use Rattle.hera_effects.specs.Ways.{listed, all_to}
 
 -- takes an operand of a form, or none, gives a value of a form, or none, and goes on to these addresses

@@ -2,9 +2,9 @@
 use Rattle.std.specs.Prelude.{◌≡◌, ℕ, List, [], ◌∷◌, map, Option, Some, None}
 use Rattle.hera_typed.specs.Points.{Point}
 use Rattle.hera_typed.specs.Effects.{Goal}
-use Rattle.hera_effects.specs.declared.stacks.Node.{Node}
+use Rattle.hera_stacks.specs.declared.stacks.Node.{Node}
 use Rattle.hera_effects.specs.declared.spots.Ways.{Ways}
-use Rattle.hera_effects.specs.Stacked.{IsSpot}
+use Rattle.hera_effects.specs.Spots.{IsSpot}
 
 -- both are there and stand so, or neither is there
 abbrev pub Both : {A B : Type 0} → (A → B → Type 0) → Option A → Option B → Type 0

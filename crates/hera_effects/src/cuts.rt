@@ -4,15 +4,14 @@ ghost use Rattle.hera_meaning.specs.Forms.{kinds_of, of_scalar};
 ghost use Rattle.hera_typed.specs.Points.{Seen, cut};
 ghost use Rattle.hera_typed.specs.Effects.{slot_forms};
 ghost use Rattle.hera_typed.specs.Notes.{body_note};
-ghost use Rattle.hera_effects.specs.Flat.{flat_form};
-ghost use Rattle.hera_effects.specs.Stacked.{AreOperands};
+ghost use Rattle.hera_stacks.specs.Flat.{flat_form};
+ghost use Rattle.hera_stacks.specs.Stacked.{AreOperands};
 ghost use Rattle.hera_effects.specs.Ways.{Both};
 ghost use Rattle.hera_effects.specs.Operations.{IsCut, called_off, flat_agrees, flat_all_agree, flat_tuples, one_of, two_of};
 
-use crate::forms::{FlatForm, FlatSeen, form_of};
 use crate::moves::{agrees, take};
-use crate::stacks::Stacks;
 use hera_meaning::Schema;
+use hera_stacks::{FlatForm, FlatSeen, Stacks, form_of};
 use hera_typed::BodyNote;
 use std::alloc::{AllocError, Global};
 

@@ -8,23 +8,23 @@ ghost use Rattle.hera_typed.specs.Points.{Point, Cut as PlainCut, cut as plain_c
 ghost use Rattle.hera_typed.specs.Notes.{body_note, notes_of};
 ghost use Rattle.hera_typed.specs.Effects.{Slot_note, slot, slot_forms, goes, pushed_result, with_operands as plain_with_operands, gathered_by, effect};
 ghost use Rattle.hera_host.specs.Tables.{specs_of};
-ghost use Rattle.hera_effects.specs.Flat.{flat_form, flat_kinds};
-ghost use Rattle.hera_effects.specs.Stacked.{IsSpot, Grows};
+ghost use Rattle.hera_stacks.specs.Flat.{flat_form, flat_kinds};
+ghost use Rattle.hera_stacks.specs.Stacked.{Grows};
+ghost use Rattle.hera_effects.specs.Spots.{IsSpot};
 ghost use Rattle.hera_effects.specs.Ways.{Both, AreWays};
 ghost use Rattle.hera_effects.specs.Plain.{is_plain};
 ghost use Rattle.hera_effects.specs.Operations.{IsCut};
 
 use crate::cuts::{Cut, call_off, cut_off};
-use crate::forms::{FlatForm, FlatSeen, Kinds, form_of, kinds_of, no_kinds};
 use crate::moves::{move_on, push_if};
 use crate::plain::{Around, plain_of, slot_of};
 use crate::prims::seen_by;
 use crate::spots::{Spot, Ways};
-use crate::stacks::{Node, Stacks};
 use crate::walks::{drop_walk, enter, gather, keep, leave, next_tuple, on, open_walk, yield_walk};
 use hera_code::Instr;
 use hera_fits::{arity, is_good_op};
 use hera_meaning::{Op, Schema};
+use hera_stacks::{FlatForm, Kinds, Node, Stacks, form_of, kinds_of, no_kinds};
 use hera_typed::{BodyNote, Notes, SlotNote};
 use std::alloc::{AllocError, Global};
 

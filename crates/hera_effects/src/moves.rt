@@ -4,16 +4,16 @@ ghost use Rattle.std.specs.Option.{option_map};
 ghost use Rattle.hera_meaning.specs.Forms.{Form};
 ghost use Rattle.hera_typed.specs.Points.{Seen, Point, is_table, agrees};
 ghost use Rattle.hera_typed.specs.Effects.{pushed_result};
-ghost use Rattle.hera_effects.specs.Flat.{flat_form, flat_seen};
-ghost use Rattle.hera_effects.specs.Stacked.{AreOperands, IsSpot, Grows};
+ghost use Rattle.hera_stacks.specs.Flat.{flat_form, flat_seen};
+ghost use Rattle.hera_stacks.specs.Stacked.{AreOperands, Grows};
+ghost use Rattle.hera_effects.specs.Spots.{IsSpot};
 ghost use Rattle.hera_effects.specs.Ways.{Both, AreWays};
 ghost use Rattle.hera_effects.specs.Plain.{Plain_effect, IsPlain, taken, moved};
 ghost use Rattle.hera_effects.specs.Operations.{is_flat_table, flat_agrees};
 
-use crate::forms::{FlatForm, FlatSeen, no_kinds, same_form};
 use crate::plain::Plain;
 use crate::spots::{Spot, Ways};
-use crate::stacks::{Node, Stacks};
+use hera_stacks::{FlatForm, FlatSeen, Node, Stacks, no_kinds, same_form};
 use std::alloc::AllocError;
 
 /// Whether the form is that of relations.

@@ -12,14 +12,14 @@ ghost use Rattle.hera_meaning.specs.Sound.{const_form, is_const};
 ghost use Rattle.hera_typed.specs.Notes.{slot_note, notes_of};
 ghost use Rattle.hera_typed.specs.Effects.{Body_note, slot, result as noted_result, is_set_at, params};
 ghost use Rattle.hera_host.specs.Tables.{specs_of, takes_at, gives_at};
-ghost use Rattle.hera_effects.specs.Flat.{flat_form};
+ghost use Rattle.hera_stacks.specs.Flat.{flat_form};
 ghost use Rattle.hera_effects.specs.Ways.{Both, listed};
 ghost use Rattle.hera_effects.specs.Plain.{plain, is_plain, IsPlain};
 
-use crate::forms::{FlatForm, form_of, kinds_of};
 use hera_code::{Code, Instr};
 use hera_host::HostTable;
 use hera_meaning::{Const, Kind, RelDecl, RelId, Scalar, Shape};
+use hera_stacks::{FlatForm, form_of, kinds_of};
 use hera_typed::{BodyNote, Notes, SlotNote};
 use std::alloc::AllocError;
 

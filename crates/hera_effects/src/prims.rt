@@ -4,13 +4,13 @@ ghost use Rattle.hera_meaning.specs.Schemas.{names_of};
 ghost use Rattle.hera_meaning.specs.Forms.{of_scalar, of_tuple, of_table, kinds_of, project_kinds, group_kinds, join_kinds};
 ghost use Rattle.hera_typed.specs.Points.{with, when};
 ghost use Rattle.hera_typed.specs.Effects.{is_width, is_apart};
-ghost use Rattle.hera_effects.specs.Flat.{flat_form};
+ghost use Rattle.hera_stacks.specs.Flat.{flat_form};
 ghost use Rattle.hera_effects.specs.Operations.{flat_agrees, flat_alike, flat_one, flat_two, flat_takes, flat_compares, flat_orders, flat_counted, flat_found, flat_combined, flat_gathered, flat_gathers, flat_tuple, flat_table, flat_seen_by, one_of, two_of};
 
 use crate::cuts::{all_agree, all_of, attr_forms, one, two};
-use crate::forms::{FlatForm, FlatSeen, group_kinds, join_kinds, kind_at, kinds_of, project_kinds};
 use crate::moves::{agrees, is_table};
 use hera_meaning::{Agg, Kind, Op, RelDecl, RelId, Schema};
+use hera_stacks::{FlatForm, FlatSeen, group_kinds, join_kinds, kind_at, kinds_of, project_kinds};
 use std::alloc::{AllocError, Global};
 
 /// One operand of a form.

@@ -8,17 +8,17 @@ ghost use Rattle.hera_meaning.specs.Hosts.{Hosts};
 ghost use Rattle.hera_code.specs.declared.instrs.Code.{Code};
 ghost use Rattle.hera_typed.specs.Points.{Seen, Point, with, when, first};
 ghost use Rattle.hera_typed.specs.Effects.{Body_note, effect, is_relation, walks_into, goes_or, opened_point};
-ghost use Rattle.hera_effects.specs.declared.stacks.Node.{Node as PlainNode};
-ghost use Rattle.hera_effects.specs.Flat.{flat_form, flat_kinds, flat_seen};
-ghost use Rattle.hera_effects.specs.Stacked.{IsSpot, Grows};
+ghost use Rattle.hera_stacks.specs.declared.stacks.Node.{Node as PlainNode};
+ghost use Rattle.hera_stacks.specs.Flat.{flat_form, flat_kinds, flat_seen};
+ghost use Rattle.hera_stacks.specs.Stacked.{Grows};
+ghost use Rattle.hera_effects.specs.Spots.{IsSpot};
 ghost use Rattle.hera_effects.specs.Ways.{Both, AreWays};
 
-use crate::forms::{FlatForm, FlatSeen, Kinds, no_kinds};
 use crate::moves::{agrees, take};
 use crate::spots::{Spot, Ways};
-use crate::stacks::{Node, Stacks};
 use hera_code::Instr;
 use hera_meaning::Kind;
+use hera_stacks::{FlatForm, FlatSeen, Kinds, Node, Stacks, no_kinds};
 use std::alloc::AllocError;
 
 /// On to one address.

@@ -18,12 +18,13 @@ use Rattle.hera_code.specs.declared.instrs.Instr.{Instr}
 use Rattle.hera_code.specs.declared.instrs.Instr.TheVariants.{Call}
 use Rattle.hera_typed.specs.Points.{Seen, Point, Cut, cut, with, when, all_agree}
 use Rattle.hera_typed.specs.Effects.{Body_note, Goal, goal, goes, with_operands, pushed_result, slot_forms, seen_by, effect}
-use Rattle.hera_effects.specs.declared.stacks.Node.{Node}
+use Rattle.hera_stacks.specs.declared.stacks.Node.{Node}
 use Rattle.hera_effects.specs.declared.spots.Spot.{Spot}
 use Rattle.hera_effects.specs.declared.spots.Ways.{Ways}
-use Rattle.hera_effects.specs.Stacked.{AreOperands, AreWalks, IsSpot, Grows}
+use Rattle.hera_stacks.specs.Stacked.{AreOperands, AreWalks, Grows}
+use Rattle.hera_effects.specs.Spots.{IsSpot}
 use Rattle.hera_effects.specs.Ways.{Both, AreWays, listed, all_to}
-use Rattle.hera_effects.proofs.Stacking.{operands_grow, operands_one}
+use Rattle.hera_stacks.proofs.Stacking.{operands_grow, operands_one}
 use Rattle.hera_effects.proofs.Walking.{one_way}
 use Rattle.hera_verify.specs.declared.calls.Calls.{Calls}
 use Rattle.hera_verify.specs.Calls.{order, call_of, making_of, Replaces, Leaves, AreLeft, AreCalls}

@@ -11,12 +11,12 @@ use Rattle.hera_code.specs.declared.instrs.Code.{Code}
 use Rattle.hera_typed.specs.Points.{Point, nothing}
 use Rattle.hera_typed.specs.Effects.{Body_note, Goal, home, effect, is_placed}
 use Rattle.hera_typed.specs.Pass.{Found, stopped, through, from_point, follow_ways, follow_all, gathers_behind, behind_walk, step, starts_at, begun_with, passed_on, pass_from, pass, broken_behind, IsLeast, PassIsExact}
-use Rattle.hera_effects.specs.declared.stacks.Node.{Node}
+use Rattle.hera_stacks.specs.declared.stacks.Node.{Node}
 use Rattle.hera_effects.specs.declared.spots.Spot.{Spot}
 use Rattle.hera_effects.specs.declared.spots.Ways.{Ways}
-use Rattle.hera_effects.specs.Stacked.{IsSpot}
+use Rattle.hera_effects.specs.Spots.{IsSpot}
 use Rattle.hera_effects.specs.Ways.{Both, AreWays}
-use Rattle.hera_effects.proofs.Flattened.{drop_at}
+use Rattle.hera_stacks.proofs.Flattened.{drop_at}
 use Rattle.hera_verify.specs.declared.tables.Table.{Table}
 use Rattle.hera_verify.specs.declared.flow.Walker.{Walker}
 use Rattle.hera_verify.specs.Looks.{FindsFlow}
@@ -48,9 +48,6 @@ replicated (suc n) (suc c) x o h = replicated n c x o h
 long_replicated : {A : Type 0} (n : ℕ) (x : A) → length (replicate n x) ≡ n
 long_replicated zero x = refl
 long_replicated (suc n) x = ap suc (long_replicated n x)
-
-pub no_starts : (len : ℕ) (bodies : List BodyInfo) → AreStarts len bodies 0 (replicate len None)
-no_starts len bodies = record { long = long_replicated len None; at = λ c o get. replicated len c None o get }
 
 or_true : (v : Bool) → v || true ≡ true
 or_true true = refl

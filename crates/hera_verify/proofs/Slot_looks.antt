@@ -203,21 +203,7 @@ covered code s width some there' h =
       omega (arith, small, long),
     )
 
--- ---- one slot
-
-pub no_look : (code : Code) (width k i : ℕ) (s : Slot_note) → (s.from < s.to → is_of_width (size code s) width ≡ true → ⊥) → Finds (NoteFineTo code width k i s) None
-no_look code width k i s never n some wide le = absurd (never some wide)
-
-pub slot_good : (code : Code) (width k i : ℕ) (s : Slot_note) → IsSlotFine code k i s → Finds (NoteFineTo code width k i s) None
-slot_good code width k i s h n some wide le = h
-
-pub slot_bad : (code : Code) (width k i : ℕ) (s : Slot_note) → s.from < s.to → is_of_width (size code s) width ≡ true → (IsSlotFine code k i s → ⊥) → Finds (NoteFineTo code width k i s) (Some s.from)
-slot_bad code width k i s some wide never = (λ h. never (h some wide (omega arith)), λ n lt some wide le. absurd (omega (arith, lt, le)))
-
 -- ---- the slots of a body
-
-pub slots_begin : (code : Code) (width k first : ℕ) (slots : List Slot_note) → Finds (FirstSlotsFineTo code width k first slots first) None
-slots_begin code width k first slots n i s lt get le = absurd (omega (arith, lt, le))
 
 pub slots_on : (code : Code) (width k first i : ℕ) (slots : List Slot_note) (s : Slot_note) (found one : Option ℕ) → first ≤ i → slice_get slots i ≡ Some s
     → Finds (FirstSlotsFineTo code width k first slots i) found → Finds (NoteFineTo code width k i s) one → Finds (FirstSlotsFineTo code width k first slots (i + 1)) (least found one)
@@ -272,9 +258,6 @@ no_body_slots code notes width k none n i s get low = absurd (none-some s (sym (
 
 -- ---- all bodies
 
-pub bodies_begin : (code : Code) (notes : List Body_note) (width : ℕ) → Finds (FirstBodiesFineTo code notes width 0) None
-bodies_begin code notes width n k lt = absurd (omega (arith, lt))
-
 pub bodies_on : (code : Code) (notes : List Body_note) (width k : ℕ) (found one : Option ℕ) → Finds (FirstBodiesFineTo code notes width k) found → Finds (BodySlotsFineTo code notes width k) one → Finds (FirstBodiesFineTo code notes width (k + 1)) (least found one)
 bodies_on code notes width k found one h g = finds_map (λ n. FirstBodiesFineTo code notes width k n × BodySlotsFineTo code notes width k n) (FirstBodiesFineTo code notes width (k + 1)) (least found one) joined parted (both_finds (FirstBodiesFineTo code notes width k) (BodySlotsFineTo code notes width k) found one h g)
   where
@@ -297,9 +280,6 @@ bodies_end code notes width k found end few h = finds_map (FirstBodiesFineTo cod
     (λ n f j lt. f j) h
 
 -- ---- all widths
-
-pub narrow_begins : (code : Code) (notes : List Body_note) → Finds (NarrowFineTo code notes 1) None
-narrow_begins code notes n k i s get low some wide small le = absurd (omega (arith, wide))
 
 pub narrow_on : (code : Code) (notes : List Body_note) (width : ℕ) (found one : Option ℕ) → 1 ≤ width → Finds (NarrowFineTo code notes width) found → Finds (WidthFineTo code notes width) one → Finds (NarrowFineTo code notes (width + width)) (least found one)
 narrow_on code notes width found one some h g = finds_map (λ n. NarrowFineTo code notes width n × WidthFineTo code notes width n) (NarrowFineTo code notes (width + width)) (least found one) joined parted (both_finds (NarrowFineTo code notes width) (WidthFineTo code notes width) found one h g)

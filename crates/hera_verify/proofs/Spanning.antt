@@ -31,11 +31,6 @@ there [] i x h = absurd (none-some x h)
 there (y ∷ xs) zero x h = omega arith
 there (y ∷ xs) (suc i) x h = let more = there xs i x h in omega (arith, more)
 
-pub get_is : {A : Type 0} (xs : List A) (i : ℕ) (x d : A) → slice_get xs i ≡ Some x → slice_index_or xs i d ≡ x
-get_is [] i x d h = absurd (none-some x h)
-get_is (y ∷ xs) zero x d h = same_Some y x h
-get_is (y ∷ xs) (suc i) x d h = get_is xs i x d h
-
 pub read : {A : Type 0} (xs : List A) (i : ℕ) (d : A) → i < length xs → slice_get xs i ≡ Some (slice_index_or xs i d)
 read [] i d lt = absurd (omega (arith, lt))
 read (y ∷ xs) zero d lt = refl

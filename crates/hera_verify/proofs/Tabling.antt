@@ -10,12 +10,13 @@ use Rattle.hera_typed.specs.Points.{Point}
 use Rattle.hera_typed.specs.Effects.{Body_note, Goal, home}
 use Rattle.hera_typed.specs.Pass.{same_point, Found, with_point, with_broken, fails, meets_point, follows_point, follow, follow_next, follow_all}
 use Rattle.hera_typed.proofs.Passes.{point_same, point_differs}
-use Rattle.hera_effects.specs.declared.stacks.Node.{Node}
+use Rattle.hera_stacks.specs.declared.stacks.Node.{Node}
 use Rattle.hera_effects.specs.declared.spots.Spot.{Spot}
 use Rattle.hera_effects.specs.declared.spots.Ways.{Ways}
-use Rattle.hera_effects.specs.Stacked.{IsSpot, IsShared, Grows}
+use Rattle.hera_stacks.specs.Stacked.{IsShared, Grows}
+use Rattle.hera_effects.specs.Spots.{IsSpot}
 use Rattle.hera_effects.specs.Ways.{Both, AreWays, listed, all_to}
-use Rattle.hera_effects.proofs.Stacking.{spot_grows, spot_one, spots_same}
+use Rattle.hera_effects.proofs.Spotting.{spot_grows, spot_one, spots_same}
 use Rattle.hera_verify.specs.declared.tables.Table.{Table}
 use Rattle.hera_verify.specs.Tables.{IsNearest, IsTable, Keeps}
 use Rattle.hera_verify.proofs.Spanning.{set_same, set_other, set_long, there}
@@ -34,15 +35,6 @@ still_marked f to c e = by (nat_eq c to)
     by : (v : Bool) → cond v true (f.broken c) ≡ true
     by true = refl
     by false = e
-
-pub nearest_first : (len to : ℕ) (f : Found) → len ≤ to → IsNearest len f.broken None → IsNearest len (with_broken to f).broken (Some to)
-nearest_first len to f le h = (le, marked f to, λ c low lt. unmarked f to c (λ e. absurd (omega (arith, e, lt))) ∙ h c low)
-
-pub nearest_less : (len to far : ℕ) (f : Found) → len ≤ to → to < far → IsNearest len f.broken (Some far) → IsNearest len (with_broken to f).broken (Some to)
-nearest_less len to far f le less h = (le, marked f to, λ c low lt. unmarked f to c (λ e. absurd (omega (arith, e, lt))) ∙ h.2 c low (omega (arith, lt, less)))
-
-pub nearest_kept : (len to far : ℕ) (f : Found) → far ≤ to → IsNearest len f.broken (Some far) → IsNearest len (with_broken to f).broken (Some far)
-nearest_kept len to far f le h = (h.0, still_marked f to far h.1, λ c low lt. unmarked f to c (λ e. absurd (omega (arith, e, lt, le))) ∙ h.2 c low lt)
 
 nearest_below : (len to : ℕ) (f : Found) (far : Option ℕ) → to < len → IsNearest len f.broken far → IsNearest len (with_broken to f).broken far
 nearest_below len to f None lt h = λ c low. unmarked f to c (λ e. absurd (omega (arith, e, lt, low))) ∙ h c low

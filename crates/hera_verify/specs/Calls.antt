@@ -11,9 +11,9 @@ use Rattle.hera_code.specs.declared.instrs.Instr.{Instr}
 use Rattle.hera_code.specs.declared.instrs.Instr.TheVariants.{Call, Prim}
 use Rattle.hera_typed.specs.Points.{Seen, Point, with}
 use Rattle.hera_typed.specs.Effects.{Body_note, Goal, goes, with_operands, effect}
-use Rattle.hera_effects.specs.declared.stacks.Node.{Node}
+use Rattle.hera_stacks.specs.declared.stacks.Node.{Node}
 use Rattle.hera_effects.specs.declared.spots.Ways.{Ways}
-use Rattle.hera_effects.specs.Stacked.{AreOperands}
+use Rattle.hera_stacks.specs.Stacked.{AreOperands}
 use Rattle.hera_effects.specs.Ways.{Both, AreWays}
 use Rattle.hera_verify.specs.declared.calls.Calls.{Calls}
 

@@ -6,9 +6,9 @@ use Rattle.hera_code.specs.declared.instrs.BodyInfo.{BodyInfo}
 use Rattle.hera_code.specs.declared.instrs.Code.{Code}
 use Rattle.hera_typed.specs.Effects.{Body_note}
 use Rattle.hera_typed.specs.Pass.{Found, behind_walk, stopped, pass_from, pass}
-use Rattle.hera_effects.specs.declared.stacks.Node.{Node}
+use Rattle.hera_stacks.specs.declared.stacks.Node.{Node}
 use Rattle.hera_effects.specs.declared.spots.Spot.{Spot}
-use Rattle.hera_effects.specs.Stacked.{IsSpot}
+use Rattle.hera_effects.specs.Spots.{IsSpot}
 use Rattle.hera_effects.specs.Ways.{Both}
 use Rattle.hera_verify.specs.declared.tables.Table.{Table}
 use Rattle.hera_verify.specs.declared.flow.Place.{Place}

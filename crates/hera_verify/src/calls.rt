@@ -8,32 +8,44 @@ ghost use Rattle.hera_typed.specs.Points.{Point};
 ghost use Rattle.hera_typed.specs.Notes.{notes_of};
 ghost use Rattle.hera_typed.specs.Effects.{Body_note, effect};
 ghost use Rattle.hera_host.specs.Tables.{specs_of};
-ghost use Rattle.hera_effects.specs.declared.stacks.Node.{Node};
-ghost use Rattle.hera_effects.specs.Stacked.{AreOperands, IsSpot, Grows};
+ghost use Rattle.hera_stacks.specs.declared.stacks.Node.{Node};
+ghost use Rattle.hera_stacks.specs.Stacked.{AreOperands, Grows};
+ghost use Rattle.hera_effects.specs.Spots.{IsSpot};
 ghost use Rattle.hera_effects.specs.Ways.{Both, AreWays};
 ghost use Rattle.hera_verify.specs.Calls.{IsKnown, call_of, making_of, Replaces, AreLeft, AreCalls};
 
 use hera_code::Instr;
-use hera_effects::{Around, Spot, Stacks, Ways, effect};
+use hera_effects::{Around, Spot, Ways, effect};
 use hera_meaning::Op;
+use hera_stacks::Stacks;
 use std::alloc::{AllocError, Global};
 use std::collections::BTreeMap;
 
-/// What calls leave, by the number of the body and that of the operands, and what makings of relations leave, by the
-/// count of tuples and the number of the operands.
+/// How many operands of calls and makings of relations are looked at for each instruction of the code, at most. Code of
+/// a script needs one, since each operand there is taken once.
+const LOOKS_PER_INSTR: usize = 16;
+/// How many are looked at beside, however short the code is.
+const FREE_LOOKS: usize = 1_048_576;
+
+/// What calls leave, by the number of the body and that of the operands, what makings of relations leave, by the count
+/// of tuples and the number of the operands, and how many operands may still be looked at.
 #[derive(Drop)]
 pub(crate) struct Calls {
     pub left: BTreeMap<(u32, u32), u32>,
     pub made: BTreeMap<(u32, u32), u32>,
+    pub looks: usize,
 }
 
-/// None was looked at.
-pub(crate) fn no_calls(alloc: Global) -> Calls
+/// None was looked at, of code with so many instructions.
+pub(crate) fn no_calls(alloc: Global, instrs: usize) -> Calls
     ensures { (code : PlainCode) → (rels : List RelDecl) → (hosts : Hosts) → (notes : List Body_note) → (nodes : List Node) → AreCalls code rels hosts notes nodes result }
 {
     Calls {
         left: BTreeMap::new(alloc),
         made: BTreeMap::new(alloc),
+        looks: instrs
+            .saturating_mul(LOOKS_PER_INSTR)
+            .saturating_add(FREE_LOOKS),
     }
 }
 
@@ -130,6 +142,31 @@ fn once(
     }
 }
 
+/// Counts a look at so many operands, of which there are no more than instructions before the address, where there was
+/// none at them. Too many are refused, so that the time grows with the code alone.
+fn allow(
+    left: &BTreeMap<(u32, u32), u32>,
+    looks: &mut usize,
+    a: usize,
+    number: u32,
+    spot: Spot,
+    taken: u32,
+) -> Result<(), AllocError> {
+    if left.get(&(number, spot.operands)).is_none() {
+        let taken = a.min(taken as usize);
+        *looks = looks.checked_sub(taken).ok_or(AllocError)?;
+    }
+    Ok(())
+}
+
+/// How many parameters a body has, if there is one of this number.
+fn params_of(around: &Around, body: u32) -> u32 {
+    match around.code.bodies.get(body as usize) {
+        Some(body) => body.params,
+        None => 0,
+    }
+}
+
 /// Where a call goes on.
 fn call_once(
     alloc: Global,
@@ -149,6 +186,8 @@ fn call_once(
     ensures effect { (p : Point) → IsSpot stacks.old spot p → IfOk result (λ r. Both (AreWays stacks.new) r (effect around.now.code.now around.now.relations.now (specs_of around.now.hosts.now.names) (notes_of around.now.notes.now) k a instr.now p)) }
     ensures kept { (p : Point) → IsSpot stacks.old spot p → IfOk result (λ r. AreCalls around.now.code.now around.now.relations.now (specs_of around.now.hosts.now.names) (notes_of around.now.notes.now) stacks.new calls.new) }
 {
+    let taken = params_of(around, j);
+    allow(&calls.left, &mut calls.looks, a, j, spot, taken)?;
     once(alloc, around, stacks, &mut calls.left, k, a, instr, j, spot)
 }
 
@@ -171,6 +210,7 @@ fn make_once(
     ensures effect { (p : Point) → IsSpot stacks.old spot p → IfOk result (λ r. Both (AreWays stacks.new) r (effect around.now.code.now around.now.relations.now (specs_of around.now.hosts.now.names) (notes_of around.now.notes.now) k a instr.now p)) }
     ensures kept { (p : Point) → IsSpot stacks.old spot p → IfOk result (λ r. AreCalls around.now.code.now around.now.relations.now (specs_of around.now.hosts.now.names) (notes_of around.now.notes.now) stacks.new calls.new) }
 {
+    allow(&calls.made, &mut calls.looks, a, count, spot, count)?;
     once(
         alloc,
         around,

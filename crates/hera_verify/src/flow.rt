@@ -5,7 +5,8 @@ ghost use Rattle.hera_typed.specs.Points.{Point};
 ghost use Rattle.hera_typed.specs.Effects.{home};
 ghost use Rattle.hera_typed.specs.Pass.{Found, behind_walk, from_point, step, begun_with};
 ghost use Rattle.hera_host.specs.Tables.{specs_of};
-ghost use Rattle.hera_effects.specs.Stacked.{IsSpot, Grows};
+ghost use Rattle.hera_stacks.specs.Stacked.{Grows};
+ghost use Rattle.hera_effects.specs.Spots.{IsSpot};
 ghost use Rattle.hera_verify.specs.Calls.{AreCalls};
 ghost use Rattle.hera_verify.specs.Looks.{FindsFlow};
 ghost use Rattle.hera_verify.specs.Slots.{IsReach};
@@ -15,7 +16,8 @@ use crate::calls::{Calls, effect_once, no_calls};
 use crate::reaches::{Reach, first_reach};
 use crate::tables::Table;
 use hera_code::{Bodies, Code, Instr};
-use hera_effects::{Around, Spot, Stacks, gathers_behind, is_placed};
+use hera_effects::{Around, Spot, gathers_behind, is_placed};
+use hera_stacks::Stacks;
 use hera_typed::pass_is_exact;
 use std::alloc::{AllocError, Global};
 
@@ -111,7 +113,7 @@ fn first(alloc: Global, around: &Around) -> Result<Walker, AllocError>
             broken,
             far: None,
         },
-        calls: no_calls(alloc),
+        calls: no_calls(alloc, count),
         place: Place {
             body: 0,
             reach: first_reach(around.code),
@@ -243,9 +245,10 @@ pub(crate) fn look(alloc: Global, around: &Around) -> Result<Option<u32>, AllocE
     ensures { IfOk result (λ found. FindsFlow around.now.code.now around.now.relations.now (specs_of around.now.hosts.now.names) (notes_of around.now.notes.now) found) }
 {
     pass_is_exact();
-    let mut stacks = Stacks::new(alloc);
+    let count = around.code.instrs.len();
+    let mut stacks = Stacks::with_capacity(alloc, count)?;
     let mut walker = first(alloc, around)?;
-    for a in 0..around.code.instrs.len() {
+    for a in 0..count {
         let Some(instr) = around.code.instrs.get(a) else {
             unreachable!();
         };
@@ -254,5 +257,5 @@ pub(crate) fn look(alloc: Global, around: &Around) -> Result<Option<u32>, AllocE
             return Ok(Some(a as u32));
         }
     }
-    Ok(broken_behind(&walker, around.code.instrs.len()))
+    Ok(broken_behind(&walker, count))
 }

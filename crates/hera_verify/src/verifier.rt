@@ -53,7 +53,9 @@ fn answer(alloc: Global, file: &CodeFile, hosts: &HostTable) -> Result<Option<u3
 /// Whether code with its notes is typed code over its relations and these hosts. It takes one pass over the
 /// instructions, bodies and slots, and one for each doubling of a slot's range. A call takes a step for each parameter,
 /// once for each body and list of operands, a relation made of tuples one for each tuple, once for each count and list
-/// of operands, and another operation one for each operand. Lists of operands share their ends.
+/// of operands, and another operation one for each operand. Lists of operands share their ends. Code whose calls and
+/// relations would take more than 16 steps for each instruction, and 1,048,576 beside, is refused as if memory ran out;
+/// code of a script takes one for each instruction at most.
 pub fn verify(alloc: Global, file: &CodeFile, hosts: &HostTable) -> Result<(), VerifyFault>
     requires short { length file.now.code.instrs < 2 ^ 32 }
     requires noted { AreNoted file.now.code.bodies file.now.notes.bodies.items }

@@ -1,5 +1,5 @@
 //! A small file, verified as it is and spoiled.
-ghost use Rattle.std.specs.Prelude.{IfOk};
+ghost use Rattle.std.specs.Prelude.{◌≤◌, IfOk};
 ghost use Rattle.hera_code_file.specs.Files.{AreNoted};
 
 use hera_code_file::{CodeFile, read_code};
@@ -29,6 +29,59 @@ fn spoiled(alloc: Global, place: usize, value: u8) -> Result<CodeFile, Fail>
     }
 }
 
+/// Puts numbers of four bytes behind the others.
+fn put(bytes: &mut Vec<u8>, numbers: &[u32]) -> Result<(), Fail> {
+    for number in numbers {
+        bytes.extend_from_slice(&number.to_be_bytes())?;
+    }
+    Ok(())
+}
+
+/// Two bodies, of which the second has so many bools as parameters and begins at an address.
+fn put_bodies(bytes: &mut Vec<u8>, params: u32, at: u32) -> Result<(), Fail> {
+    bytes.extend_from_slice(b"HERACODE\0\0")?;
+    put(bytes, &[2, 0, 0])?;
+    bytes.extend_from_slice(&[0, 0])?;
+    put(bytes, &[0, at, params])?;
+    bytes.extend_from_slice(&[0, 0])?;
+    put(bytes, &[params])?;
+    for _ in 0..params {
+        bytes.extend_from_slice(&[1, 0, 0, 0, 0, 0, 0, 0, 0, 0])?;
+    }
+    Ok(())
+}
+
+/// So many branches, each with one operand more below its call of the second body.
+fn put_branches(bytes: &mut Vec<u8>, count: u32) -> Result<(), Fail>
+    requires { count ≤ 10000 }
+{
+    for branch in 0..count {
+        bytes.extend_from_slice(&[0, 1, 1, 0, 1, 1, 7])?;
+        put(bytes, &[count + 5 * branch + 5])?;
+        bytes.extend_from_slice(&[0x11, 0, 0, 0, 1, 0x19])?;
+    }
+    Ok(())
+}
+
+/// A file with so many branches, in which each call looks at as many operands.
+fn branched(alloc: Global, count: u32) -> Result<CodeFile, Fail>
+    requires { count ≤ 10000 }
+    ensures { IfOk result (λ file. AreNoted file.code.bodies file.notes.bodies.items) }
+{
+    let mut bytes = Vec::new(alloc);
+    put_bodies(&mut bytes, count, 6 * count + 1)?;
+    put(&mut bytes, &[6 * count + 2])?;
+    for _ in 0..count {
+        bytes.extend_from_slice(&[0, 1, 1])?;
+    }
+    put_branches(&mut bytes, count)?;
+    bytes.extend_from_slice(&[0x19, 0x12])?;
+    match read_code(alloc, &bytes) {
+        Ok(file) => Ok(file),
+        Err(_) => Err("the bytes are no file".into()),
+    }
+}
+
 /// Where the file is rejected. None where it is verified.
 fn rejected_at(alloc: Global, file: &CodeFile) -> Result<Option<u32>, Fail>
     requires { AreNoted file.now.code.bodies file.now.notes.bodies.items }
@@ -40,6 +93,19 @@ fn rejected_at(alloc: Global, file: &CodeFile) -> Result<Option<u32>, Fail>
         Ok(()) => Ok(None),
         Err(VerifyFault::Rejected { at }) => Ok(Some(at)),
         Err(VerifyFault::Memory) => Err("memory ran out".into()),
+    }
+}
+
+/// Whether the verifier gives up for want of memory.
+fn gives_up(alloc: Global, file: &CodeFile) -> Result<bool, Fail>
+    requires { AreNoted file.now.code.bodies file.now.notes.bodies.items }
+{
+    if file.code.instrs.len() >= 1 << 32 {
+        return Err("the file is too long".into());
+    }
+    match verify(alloc, file, &HostTable::new(alloc)) {
+        Err(VerifyFault::Memory) => Ok(true),
+        _ => Ok(false),
     }
 }
 
@@ -58,5 +124,17 @@ fn code_is_verified_or_rejected_where_it_breaks(rt: HostRuntime) -> Result<(), F
         assert_eq!(rt; rejected_at(rt.alloc(), &file)?, at);
         drop(file);
     }
+    Ok(())
+}
+
+#[test]
+fn calls_take_a_bounded_number_of_looks(rt: HostRuntime) -> Result<(), Fail> {
+    let few = branched(rt.alloc(), 1_000)?;
+    assert_eq!(rt; rejected_at(rt.alloc(), &few)?, None);
+    drop(few);
+    // 1,690,000 looks, where 1,048,576 and 16 for each of 7,802 instructions are taken.
+    let many = branched(rt.alloc(), 1_300)?;
+    assert!(rt; gives_up(rt.alloc(), &many)?);
+    drop(many);
     Ok(())
 }

@@ -1,7 +1,7 @@
 use Rattle.std.proofs.Common.{refl, ◌∙◌, arith}
 use Rattle.hera_meaning.specs.declared.schemas.Attr.{Attr}
 use Rattle.hera_meaning.specs.Forms.{of_scalar}
-use Rattle.hera_effects.specs.Flat.{flat_form}
+use Rattle.hera_stacks.specs.Flat.{flat_form}
 use Rattle.hera_effects.proofs.Cutting.{forms_more, take_over, attr_forms_is}
 use Rattle.hera_effects.proofs.cuts.attr_forms.Goals as goal
 

@@ -2,7 +2,7 @@ use Rattle.std.proofs.Common.{◌-◌, List}
 use Rattle.hera_typed.specs.Notes.{body_note}
 use Rattle.hera_typed.specs.Points.{Seen}
 use Rattle.hera_typed.specs.Effects.{slot_forms}
-use Rattle.hera_effects.specs.Stacked.{AreOperands}
+use Rattle.hera_stacks.specs.Stacked.{AreOperands}
 use Rattle.hera_effects.proofs.Calling.{IsCalling}
 use Rattle.hera_effects.proofs.cuts.call_off.Given as goal
 

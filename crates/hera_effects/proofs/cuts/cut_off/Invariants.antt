@@ -1,6 +1,6 @@
 use Rattle.std.proofs.Common.{◌-◌, List}
 use Rattle.hera_typed.specs.Points.{Seen}
-use Rattle.hera_effects.specs.Stacked.{AreOperands}
+use Rattle.hera_stacks.specs.Stacked.{AreOperands}
 use Rattle.hera_effects.proofs.Effecting.{IsTaking}
 use Rattle.hera_effects.proofs.cuts.cut_off.Given as goal
 

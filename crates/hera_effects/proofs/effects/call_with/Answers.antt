@@ -1,7 +1,7 @@
 use Rattle.std.proofs.Common.{subst}
 use Rattle.hera_typed.specs.Notes.{body_note}
 use Rattle.hera_typed.specs.Effects.{slot_forms}
-use Rattle.hera_effects.specs.Stacked.{AreOperands}
+use Rattle.hera_stacks.specs.Stacked.{AreOperands}
 use Rattle.hera_effects.specs.Ways.{Both}
 use Rattle.hera_effects.specs.Operations.{called_off}
 use Rattle.hera_effects.proofs.Calling.{calls_so}

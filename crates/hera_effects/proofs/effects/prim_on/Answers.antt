@@ -2,7 +2,7 @@ use Rattle.std.proofs.Common.{sym, ap, ◌∙◌, ◌+◌, [], Some}
 use Rattle.hera_meaning.specs.Fits.{arity}
 use Rattle.hera_typed.specs.Points.{cut}
 use Rattle.hera_effects.specs.Operations.{flat_seen_by}
-use Rattle.hera_effects.proofs.Declared.{kinds_are}
+use Rattle.hera_stacks.proofs.Flattened.{kinds_are}
 use Rattle.hera_effects.proofs.Effecting.{prim_not, prim_so}
 use Rattle.hera_effects.proofs.effects.prim_on.Goals as goal
 

@@ -1,7 +1,7 @@
 use Rattle.std.proofs.Common.{sym, ap, ◌∙◌, Some}
 use Rattle.std.proofs.lemmas.Result.{IfOk-weaker}
-use Rattle.hera_effects.specs.declared.forms.FlatSeen.TheVariants as flat_seens
-use Rattle.hera_effects.proofs.Declared.{kinds_are}
+use Rattle.hera_stacks.specs.declared.forms.FlatSeen.TheVariants as flat_seens
+use Rattle.hera_stacks.proofs.Flattened.{kinds_are}
 use Rattle.hera_effects.proofs.Stepping.{pushed_so}
 use Rattle.hera_effects.proofs.moves.push_if.Goals as goal
 

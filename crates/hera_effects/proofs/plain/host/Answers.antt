@@ -1,5 +1,5 @@
 use Rattle.std.proofs.Common.{ap, Some, refl, arith}
-use Rattle.hera_effects.specs.declared.forms.FlatForm.TheVariants as flat
+use Rattle.hera_stacks.specs.declared.forms.FlatForm.TheVariants as flat
 use Rattle.hera_effects.proofs.Declared.{host_past, host_there}
 use Rattle.hera_effects.proofs.plain.host.Goals as goal
 

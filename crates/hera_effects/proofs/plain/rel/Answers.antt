@@ -2,7 +2,7 @@ use Rattle.std.proofs.Common.{sym, ap, ◌∙◌, refl, length, subst, Some, ◌
 use Rattle.std.proofs.lemmas.Option.{slice_get_read}
 use Rattle.std.proofs.lemmas.Bool.{ltb-true}
 use Rattle.hera_meaning.specs.Forms.{of_table, kinds_of}
-use Rattle.hera_effects.specs.declared.forms.FlatForm.TheVariants as flat
+use Rattle.hera_stacks.specs.declared.forms.FlatForm.TheVariants as flat
 use Rattle.hera_effects.proofs.Declared.{declared}
 use Rattle.hera_effects.specs.Ways.{Both}
 use Rattle.hera_effects.specs.Plain.{IsPlain, gives_on}

@@ -3,8 +3,8 @@ use Rattle.std.proofs.lemmas.Option.{slice_get_read}
 use Rattle.std.proofs.lemmas.Bool.{ltb-true}
 use Rattle.std.proofs.lemmas.Result.{IfOk-weaker}
 use Rattle.hera_meaning.specs.Forms.{of_tuple, kinds_of}
-use Rattle.hera_effects.specs.declared.forms.FlatForm.TheVariants as flat
-use Rattle.hera_effects.specs.Flat.{flat_form}
+use Rattle.hera_stacks.specs.declared.forms.FlatForm.TheVariants as flat
+use Rattle.hera_stacks.specs.Flat.{flat_form}
 use Rattle.hera_effects.proofs.Declared.{declared}
 use Rattle.hera_effects.specs.Operations.{flat_one}
 use Rattle.hera_effects.proofs.prims.atom.Goals as goal

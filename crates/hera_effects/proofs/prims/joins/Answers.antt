@@ -2,8 +2,8 @@ use Rattle.std.proofs.Common.{sym, ap, ◌∙◌}
 use Rattle.hera_meaning.specs.Schemas.{names_of}
 use Rattle.hera_meaning.specs.Forms.{of_table, kinds_of, join_kinds}
 use Rattle.hera_typed.specs.Points.{when}
-use Rattle.hera_effects.specs.declared.forms.FlatForm.TheVariants as flat
-use Rattle.hera_effects.specs.Flat.{flat_form}
+use Rattle.hera_stacks.specs.declared.forms.FlatForm.TheVariants as flat
+use Rattle.hera_stacks.specs.Flat.{flat_form}
 use Rattle.hera_effects.specs.Operations.{flat_two}
 use Rattle.hera_effects.proofs.Declared.{apart_so}
 use Rattle.hera_effects.proofs.prims.joins.Goals as goal

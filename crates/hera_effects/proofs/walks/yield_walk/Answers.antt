@@ -1,7 +1,7 @@
 use Rattle.std.proofs.Common.{sym, ap, ◌∙◌, Some}
-use Rattle.hera_effects.specs.declared.forms.FlatForm.TheVariants as flat
-use Rattle.hera_effects.specs.declared.forms.FlatSeen.TheVariants as flat_seens
-use Rattle.hera_effects.proofs.Declared.{kinds_are}
+use Rattle.hera_stacks.specs.declared.forms.FlatForm.TheVariants as flat
+use Rattle.hera_stacks.specs.declared.forms.FlatSeen.TheVariants as flat_seens
+use Rattle.hera_stacks.proofs.Flattened.{kinds_are}
 use Rattle.hera_effects.proofs.Stepping.{yields}
 use Rattle.hera_effects.proofs.walks.yield_walk.Goals as goal
 

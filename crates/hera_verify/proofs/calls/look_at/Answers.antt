@@ -3,7 +3,7 @@ use Rattle.hera_host.specs.Tables.{specs_of}
 use Rattle.hera_typed.specs.Notes.{notes_of}
 use Rattle.hera_typed.specs.Effects.{effect}
 use Rattle.hera_effects.specs.Ways.{Both, AreWays}
-use Rattle.hera_effects.proofs.Stacking.{operands_grow}
+use Rattle.hera_stacks.proofs.Stacking.{operands_grow}
 use Rattle.hera_verify.proofs.Calling.{left_grow}
 use Rattle.hera_verify.proofs.calls.look_at.Goals as goal
 

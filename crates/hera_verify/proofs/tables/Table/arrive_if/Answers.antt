@@ -1,5 +1,5 @@
 use Rattle.std.proofs.Common.{subst}
-use Rattle.hera_effects.specs.Stacked.{IsSpot}
+use Rattle.hera_effects.specs.Spots.{IsSpot}
 use Rattle.hera_effects.specs.Ways.{Both}
 use Rattle.hera_verify.proofs.Tabling.{arrives_not, arrives_so}
 use Rattle.hera_verify.proofs.tables.Table.arrive_if.Goals as goal
