@@ -2,7 +2,7 @@
 use delta_atoms::Delta;
 use hera_meaning::{RelId, Sign};
 use smash_merge::{merge, merge_into, smash, smash_into, smash_under};
-use std::alloc::AllocError;
+use std::alloc::{AllocError, Global};
 use std::test::Fail;
 
 /// A copy of the first delta that was made the smash of both.
@@ -42,6 +42,22 @@ fn fails(found: Result<Delta, AllocError>) -> bool {
     }
 }
 
+/// Whether the smash of an atom and its opposite is the second one, in place too, and their merge fails.
+fn second_wins(alloc: Global, plus: &Delta, minus: &Delta) -> bool {
+    is(smash(alloc, plus, minus), minus)
+        && is(smashed(plus, minus), minus)
+        && is(smashed_below(plus, minus), minus)
+        && fails(merge(alloc, plus, minus))
+}
+
+/// Whether the merge of two atoms in place is both, and fails with the opposite of one.
+fn both_are_kept(minus: &Delta, other: &Delta, both: &Delta, plus: &Delta) -> bool {
+    if both.is_fail() {
+        return false;
+    }
+    both.count() == 2 && is(merged(minus, other), both) && fails(merged(both, plus))
+}
+
 #[test]
 fn the_second_delta_wins_in_place(rt: HostRuntime) -> Result<(), Fail> {
     let alloc = rt.alloc();
@@ -49,10 +65,13 @@ fn the_second_delta_wins_in_place(rt: HostRuntime) -> Result<(), Fail> {
     let minus = Delta::atom(alloc, Sign::Minus, RelId(0), b"a")?;
     let other = Delta::atom(alloc, Sign::Minus, RelId(1), b"a")?;
     let both = merge(alloc, &other, &minus)?;
-    assert!(rt; is(smash(alloc, &plus, &minus), &minus) && is(smashed(&plus, &minus), &minus));
-    assert!(rt; is(smashed_below(&plus, &minus), &minus));
-    assert!(rt; fails(merge(alloc, &plus, &minus)));
-    assert!(rt; is(merged(&minus, &other), &both) && both.count() == 2);
-    assert!(rt; fails(merged(&both, &plus)));
+    let wins = second_wins(alloc, &plus, &minus);
+    let is_kept = both_are_kept(&minus, &other, &both, &plus);
+    drop(plus);
+    drop(minus);
+    drop(other);
+    drop(both);
+    assert!(rt; wins);
+    assert!(rt; is_kept);
     Ok(())
 }

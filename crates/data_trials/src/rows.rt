@@ -23,34 +23,57 @@ fn fill(rt: &impl Abort, set: &mut RowSet, count: u16, step: u16) -> Result<(), 
     Ok(())
 }
 
-/// Walks all rows, from a spot that is none.
-fn walk(rt: &impl Abort, set: &RowSet) {
+/// Whether a walk finds all rows, from a spot that is none and without spots.
+fn walk_finds_all(set: &RowSet) -> bool {
     let mut last: Option<&[u8]> = None;
     let mut near = set.above_near(None, Spot { block: 7, row: 7 });
     for i in 0..set.len() {
         let row = set.row(i);
-        assert_eq!(rt; set.above(last), Some(row));
-        assert_eq!(rt; near.row, Some(row));
+        if set.above(last) != Some(row) || near.row != Some(row) {
+            return false;
+        }
         near = set.above_near(Some(row), near.spot);
         last = Some(row);
     }
-    assert!(rt; near.row.is_none());
+    near.row.is_none()
+}
+
+/// Whether each of so many rows, of numbers that are so far apart, is there and taken out.
+fn empty(set: &mut RowSet, count: u16, step: u16) -> bool {
+    for i in 0..count {
+        if !set.remove(&i.wrapping_mul(step).to_be_bytes()) {
+            return false;
+        }
+    }
+    true
+}
+
+/// Whether all rows are taken out of the set, and none out of its copy.
+fn copy_stays(set: &mut RowSet) -> Result<bool, AllocError> {
+    let copy = set.copy()?;
+    let was_same = copy.equal(set);
+    let is_empty = empty(set, 1100, 40_503) && set.len() == 0 && set.above(None).is_none();
+    let is_same = copy.equal(set);
+    drop(copy);
+    Ok(was_same && is_empty && !is_same)
+}
+
+/// Rows that are put in in any order are walked in order, copied and taken out.
+fn come_in_order(rt: &impl Abort, set: &mut RowSet) -> Result<(), AllocError> {
+    fill(rt, set, 1100, 40_503)?;
+    assert!(rt; !set.insert(&40_503u16.to_be_bytes())?);
+    assert!(rt; last_block(set) > 1 && set.len() == 1100);
+    assert!(rt; walk_finds_all(set));
+    assert!(rt; copy_stays(set)?);
+    Ok(())
 }
 
 #[test]
 fn rows_in_any_order_come_in_order(rt: HostRuntime) -> Result<(), Fail> {
     let mut set = RowSet::new(rt.alloc());
-    fill(&rt, &mut set, 1100, 40_503)?;
-    assert!(rt; !set.insert(&40_503u16.to_be_bytes())?);
-    assert!(rt; last_block(&set) > 1 && set.len() == 1100);
-    walk(&rt, &set);
-    let copy = set.copy()?;
-    assert!(rt; copy.equal(&set));
-    for i in 0..1100u16 {
-        assert!(rt; set.remove(&i.wrapping_mul(40_503).to_be_bytes()));
-    }
-    assert!(rt; set.len() == 0 && set.above(None).is_none() && !copy.equal(&set));
-    Ok(())
+    let tried = come_in_order(&rt, &mut set);
+    drop(set);
+    Ok(tried?)
 }
 
 /// Whether a search that begins at the spot finds what one without it finds, whatever the bound.
@@ -70,29 +93,49 @@ fn finds_all_from(set: &RowSet, spot: Spot) -> bool {
     true
 }
 
+/// The block and the row of the first of some spots from which a search finds something else than without it.
+fn first_wrong_spot(set: &RowSet) -> Option<(usize, usize)> {
+    for block in 0..5 {
+        for row in [0, 1, 100, 511] {
+            if !finds_all_from(set, Spot { block, row }) {
+                return Some((block, row));
+            }
+        }
+    }
+    None
+}
+
 #[test]
 fn rows_from_a_bound_on_are_found_from_any_spot(rt: HostRuntime) -> Result<(), Fail> {
     let mut set = RowSet::new(rt.alloc());
-    fill(&rt, &mut set, 1100, 40_504)?;
-    for block in 0..5 {
-        for row in [0, 1, 100, 511] {
-            assert!(rt;
-                finds_all_from(&set, Spot { block, row }),
-                "block {block}, row {row}"
-            );
-        }
+    let filled = fill(&rt, &mut set, 1100, 40_504);
+    let wrong = first_wrong_spot(&set);
+    drop(set);
+    filled?;
+    assert_eq!(rt; wrong, None);
+    Ok(())
+}
+
+/// Takes out all rows of the numbers up to 8,999 but each 500th.
+fn thin(rt: &impl Abort, set: &mut RowSet) {
+    for i in 0..9000u16 {
+        assert!(rt; i % 500 == 0 || set.remove(&i.to_be_bytes()));
     }
+}
+
+/// A row that is put in where most blocks have few rows packs all rows into one.
+fn is_packed(rt: &impl Abort, set: &mut RowSet) -> Result<(), AllocError> {
+    fill(rt, set, 9000, 1)?;
+    thin(rt, set);
+    assert!(rt; last_block(set) > 7);
+    assert!(rt; set.insert(&7u16.to_be_bytes())? && last_block(set) == 0 && set.len() == 19);
     Ok(())
 }
 
 #[test]
 fn thin_blocks_are_packed_anew(rt: HostRuntime) -> Result<(), Fail> {
     let mut set = RowSet::new(rt.alloc());
-    fill(&rt, &mut set, 9000, 1)?;
-    for i in 0..9000u16 {
-        assert!(rt; i % 500 == 0 || set.remove(&i.to_be_bytes()));
-    }
-    assert!(rt; last_block(&set) > 7);
-    assert!(rt; set.insert(&7u16.to_be_bytes())? && last_block(&set) == 0 && set.len() == 19);
-    Ok(())
+    let tried = is_packed(&rt, &mut set);
+    drop(set);
+    Ok(tried?)
 }

@@ -1,5 +1,6 @@
 //! Schemas and sets of rows to try things on.
-use hera_meaning::{Attr, Kind, Schema, Text};
+use hera_meaning::{Attr, Kind, RelId, Schema, Text};
+use hera_row::{Catalogue, CatalogueFault, has_names, is_name};
 use hera_rows::RowSet;
 use std::alloc::{AllocError, Global};
 use std::test::Fail;
@@ -14,6 +15,36 @@ pub(crate) fn schema_of(alloc: Global, attrs: &[(&str, Kind)]) -> Result<Schema,
         })?;
     }
     Ok(Schema::new(all)?)
+}
+
+/// Adds a relation and gives its number, and `None` where a name is none.
+pub(crate) fn add(
+    catalogue: &mut Catalogue,
+    name: Text,
+    schema: Schema,
+) -> Result<Option<RelId>, CatalogueFault> {
+    if !is_name(name.bytes()) || !has_names(&schema) {
+        drop(name);
+        drop(schema);
+        return Ok(None);
+    }
+    Ok(Some(catalogue.add(name, schema)?))
+}
+
+/// Adds a relation of this name with one int, `a`, and gives its number, and `None` where the name is none.
+pub(crate) fn add_int(
+    alloc: Global,
+    catalogue: &mut Catalogue,
+    name: &[u8],
+) -> Result<Option<RelId>, Fail> {
+    let schema = schema_of(alloc, &[("a", Kind::Int)])?;
+    match Text::new(alloc, name) {
+        Ok(name) => Ok(add(catalogue, name, schema)?),
+        Err(e) => {
+            drop(schema);
+            Err(e.into())
+        }
+    }
 }
 
 /// The set of these rows.

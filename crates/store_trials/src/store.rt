@@ -155,16 +155,24 @@ fn stopped(rt: &impl Abort, alloc: Global, rels: &Catalogue, stop: u64, fill: u8
     Left { far, select, row }
 }
 
-#[test]
-fn a_stop_at_each_call_leaves_before_or_after(rt: HostRuntime) -> Result<(), Fail> {
-    let alloc = rt.alloc();
-    let rels = catalogue_of(alloc, &RELATIONS)?;
+/// The first stop of a run, and the byte, that leave something else than is expected.
+fn first_wrong_stop(rt: &impl Abort, alloc: Global, rels: &Catalogue) -> Option<(u64, u8)> {
     for stop in 0..28 {
         for fill in [0, 1, 255] {
-            let left = stopped(&rt, alloc, &rels, stop, fill);
-            assert!(rt; left == expected(stop, fill), "stop {stop}, fill {fill}");
+            if stopped(rt, alloc, rels, stop, fill) != expected(stop, fill) {
+                return Some((stop, fill));
+            }
         }
     }
+    None
+}
+
+#[test]
+fn a_stop_at_each_call_leaves_before_or_after(rt: HostRuntime) -> Result<(), Fail> {
+    let rels = catalogue_of(rt.alloc(), &RELATIONS)?;
+    let wrong = first_wrong_stop(&rt, rt.alloc(), &rels);
+    drop(rels);
+    assert_eq!(rt; wrong, None);
     Ok(())
 }
 
@@ -186,10 +194,30 @@ fn damage_of<W: Outside>(alloc: Global, outside: &mut W) -> Option<(FileId, u64)
     }
 }
 
-#[test]
-fn damaged_files_tell_their_place(rt: HostRuntime) -> Result<(), Fail> {
-    let alloc = rt.alloc();
-    let rels = catalogue_of(alloc, &RELATIONS)?;
+/// Whether no database is made, since there is one.
+fn is_there<W: Outside>(alloc: Global, outside: &mut W, rels: &Catalogue) -> bool {
+    matches!(init_store(alloc, outside, rels), Err(InitFault::Exists))
+}
+
+/// Whether these bytes in `select` and in the right half are a database that is damaged at this place, and stay.
+fn are_damaged(
+    alloc: Global,
+    rels: &Catalogue,
+    select: &[u8],
+    half: &[u8],
+    place: (FileId, u64),
+) -> bool {
+    let mut outside = MemOutside::new(alloc, Vec::new(alloc), None, Vec::new(alloc));
+    let are_damaged = put(&mut outside, select, half).is_ok()
+        && is_there(alloc, &mut outside, rels)
+        && damage_of(alloc, &mut outside) == Some(place)
+        && outside.file(FileId::Right) == half;
+    drop(outside);
+    are_damaged
+}
+
+/// Each damage is told with its file and its place.
+fn damages_are_told(rt: &impl Abort, alloc: Global, rels: &Catalogue) {
     let table: [(&[u8], &[u8], FileId, u64); 4] = [
         (b"\x01\x01", b"", FileId::Select, 1),
         (b"\x01", b"HERA000", FileId::Right, 0),
@@ -207,16 +235,18 @@ fn damaged_files_tell_their_place(rt: HostRuntime) -> Result<(), Fail> {
         ),
     ];
     for (select, half, damaged, place) in table {
-        let mut outside = MemOutside::new(alloc, Vec::new(alloc), None, Vec::new(alloc));
-        assert!(rt; put(&mut outside, select, half).is_ok());
-        let made = init_store(alloc, &mut outside, &rels);
-        assert!(rt; matches!(made, Err(InitFault::Exists)));
         assert!(rt;
-            damage_of(alloc, &mut outside) == Some((damaged, place)),
+            are_damaged(alloc, rels, select, half, (damaged, place)),
             "place {place}"
         );
-        assert_eq!(rt; outside.file(FileId::Right), half);
     }
+}
+
+#[test]
+fn damaged_files_tell_their_place(rt: HostRuntime) -> Result<(), Fail> {
+    let rels = catalogue_of(rt.alloc(), &RELATIONS)?;
+    damages_are_told(&rt, rt.alloc(), &rels);
+    drop(rels);
     Ok(())
 }
 
@@ -251,18 +281,21 @@ fn needs<W: Outside>(
     Ok((first, second))
 }
 
+/// Whether a commit and a checkpoint with one byte too few tell their needs, and write nothing.
+fn needs_are_told(alloc: Global, rels: &Catalogue) -> Result<bool, Fail> {
+    let mut outside = MemOutside::new(alloc, Vec::new(alloc), None, Vec::new(alloc));
+    let told = needs(alloc, &mut outside, rels);
+    let stays = outside.calls() == 21 && outside.file(FileId::Left).len() == 26;
+    drop(outside);
+    Ok(told? == (26, 21) && stays)
+}
+
 #[test]
 fn what_is_too_long_is_not_written(rt: HostRuntime) -> Result<(), Fail> {
-    let alloc = rt.alloc();
-    let rels = catalogue_of(alloc, &RELATIONS)?;
-    let mut outside = MemOutside::new(alloc, Vec::new(alloc), None, Vec::new(alloc));
-    let told = needs(alloc, &mut outside, &rels);
-    let calls = outside.calls();
-    let bytes = outside.file(FileId::Left).len();
-    drop(outside);
-    assert!(rt; told? == (26, 21));
-    assert_eq!(rt; calls, 21);
-    assert_eq!(rt; bytes, 26);
+    let rels = catalogue_of(rt.alloc(), &RELATIONS)?;
+    let are_told = needs_are_told(rt.alloc(), &rels);
+    drop(rels);
+    assert!(rt; are_told?);
     Ok(())
 }
 
@@ -331,21 +364,43 @@ fn stopped_width(alloc: Global, old: &Catalogue, new: &Catalogue, stop: u64, fil
     Width { done, narrow, wide }
 }
 
-#[test]
-fn a_stop_at_each_call_leaves_narrow_or_wide(rt: HostRuntime) -> Result<(), Fail> {
-    let alloc = rt.alloc();
-    let old = catalogue_of(alloc, &RELATIONS)?;
-    let mut new = catalogue_of(alloc, &[("S", Kind::Bool)])?;
-    assert!(rt; narrows(alloc, &old, &new));
-    add(alloc, &mut new, "R", &[("a", Kind::Int), ("b", Kind::Text)])?;
+/// The first stop of a widening, and the byte, that leave something else than is expected.
+fn first_wrong_width(alloc: Global, old: &Catalogue, new: &Catalogue) -> Option<(u64, u8)> {
     for stop in 21..27 {
         for fill in [0, 1, 255] {
-            let left = stopped_width(alloc, &old, &new, stop, fill);
-            assert!(rt;
-                left == expected_width(stop, fill),
-                "stop {stop}, fill {fill}"
-            );
+            if stopped_width(alloc, old, new, stop, fill) != expected_width(stop, fill) {
+                return Some((stop, fill));
+            }
         }
     }
+    None
+}
+
+/// A catalogue without R is refused, and with R, wider, what a stop leaves is expected.
+fn widenings_are_tried(
+    rt: &impl Abort,
+    alloc: Global,
+    old: &Catalogue,
+    new: &mut Catalogue,
+) -> Result<(), Fail> {
+    assert!(rt; narrows(alloc, old, new));
+    add(alloc, new, "R", &[("a", Kind::Int), ("b", Kind::Text)])?;
+    assert_eq!(rt; first_wrong_width(alloc, old, new), None);
     Ok(())
+}
+
+/// The database of a catalogue is widened to one of S(a bool), and then to one with R too.
+fn is_widened(rt: &impl Abort, alloc: Global, old: &Catalogue) -> Result<(), Fail> {
+    let mut new = catalogue_of(alloc, &[("S", Kind::Bool)])?;
+    let tried = widenings_are_tried(rt, alloc, old, &mut new);
+    drop(new);
+    tried
+}
+
+#[test]
+fn a_stop_at_each_call_leaves_narrow_or_wide(rt: HostRuntime) -> Result<(), Fail> {
+    let old = catalogue_of(rt.alloc(), &RELATIONS)?;
+    let tried = is_widened(&rt, rt.alloc(), &old);
+    drop(old);
+    tried
 }

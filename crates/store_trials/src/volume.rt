@@ -1,6 +1,7 @@
 //! Calls over files in memory, and what a crash leaves of them.
 use hera_causes::{Failed, Output, Piece};
 use hera_volume::{FileId, MemOutside, Outside, rewrite_and_sync, say, sync_all, write_and_sync};
+use std::alloc::{AllocError, Global};
 use std::test::Fail;
 
 /// Each call once. The number is that of the bytes read.
@@ -13,18 +14,28 @@ fn walk<W: Outside>(outside: &mut W, front: &mut [u8]) -> Result<usize, Failed> 
     outside.read(FileId::Right, 1, front)
 }
 
+/// Whether ten calls are made, which read four bytes.
+fn reads_four(outside: &mut MemOutside) -> bool {
+    let mut front = [0u8; 8];
+    walk(outside, &mut front) == Ok(4) && front == *b"ello\0\0\0\0" && outside.calls() == 10
+}
+
+/// Whether the right half and what was said are there.
+fn has_all(found: &MemOutside) -> bool {
+    found.file(FileId::Right) == b"hello".as_slice() && found.bytes() == b"done\n".as_slice()
+}
+
 #[test]
 fn each_call_does_its_work(rt: HostRuntime) -> Result<(), Fail> {
     let alloc = rt.alloc();
     let pieces = [Piece::Take(1), Piece::Take(0)].to_vec(alloc)?;
     let mut outside = MemOutside::new(alloc, Vec::new(alloc), None, pieces);
-    let mut front = [0u8; 8];
-    assert_eq!(rt; walk(&mut outside, &mut front), Ok(4));
-    assert!(rt; front == *b"ello\0\0\0\0" && outside.calls() == 10);
+    let reads = reads_four(&mut outside);
     let found = outside.crash(b'.');
-    assert!(rt;
-        found.file(FileId::Right) == b"hello".as_slice() && found.bytes() == b"done\n".as_slice()
-    );
+    let has_all = has_all(&found);
+    drop(found);
+    assert!(rt; reads);
+    assert!(rt; has_all);
     Ok(())
 }
 
@@ -35,9 +46,20 @@ fn change<W: Outside>(outside: &mut W) -> Result<(), Failed> {
     rewrite_and_sync(outside, FileId::Left, b"")
 }
 
+/// Whether a change over an outside that stops at one call and fails at another leaves these bytes behind a crash.
+fn leaves(alloc: Global, stop: u64, fails: u64, left: &[u8]) -> Result<bool, AllocError> {
+    let fails = [fails].to_vec(alloc)?;
+    let mut outside = MemOutside::new(alloc, fails, Some(stop), Vec::new(alloc));
+    let goes = change(&mut outside).is_ok();
+    let says = outside.emit(b"!").is_ok();
+    let found = outside.crash(b'.');
+    let is_left = found.file(FileId::Left) == left;
+    drop(found);
+    Ok(is_left && goes == left.is_empty() && says == (stop == 7))
+}
+
 #[test]
 fn a_crash_fills_what_no_sync_has_settled(rt: HostRuntime) -> Result<(), Fail> {
-    let alloc = rt.alloc();
     let table: [(u64, u64, &[u8]); 9] = [
         (0, 9, b".."),
         (1, 9, b".."),
@@ -50,16 +72,7 @@ fn a_crash_fills_what_no_sync_has_settled(rt: HostRuntime) -> Result<(), Fail> {
         (7, 9, b""),
     ];
     for (stop, fails, left) in table {
-        let fails = [fails].to_vec(alloc)?;
-        let mut outside = MemOutside::new(alloc, fails, Some(stop), Vec::new(alloc));
-        let goes = change(&mut outside).is_ok();
-        let says = outside.emit(b"!").is_ok();
-        let found = outside.crash(b'.');
-        assert!(rt;
-            goes == left.is_empty() && says == (stop == 7),
-            "stop {stop}"
-        );
-        assert_eq!(rt; found.file(FileId::Left), left, "stop {stop}");
+        assert!(rt; leaves(rt.alloc(), stop, fails, left)?, "stop {stop}");
     }
     Ok(())
 }

@@ -65,21 +65,43 @@ fn need_of(answer: &Result<Vec<u8>, HalfFault>) -> Option<(u64, u64)> {
     }
 }
 
+/// Whether the bytes are a half of two pages, each of one row.
+fn has_two_pages(answer: &Result<Vec<u8>, HalfFault>) -> bool {
+    let Ok(bytes) = answer else {
+        return false;
+    };
+    if bytes.len() != 65_563 {
+        return false;
+    }
+    let head = b"HERA0002\0\x02\x01R\x01\x01a\x02\x01S\x01\x01a\x02\0\0\0\x02\0\0\0\x01\x01";
+    let second = b"\0\x01\0\x01\x01";
+    bytes.as_slice().split_at(31).0 == head.as_slice()
+        && bytes.as_slice().split_at(32794).1.split_at(5).0 == second.as_slice()
+}
+
+/// The rows of true.
+fn rows_of_true(alloc: Global) -> Result<RowSet, Fail>
+    ensures { IfOk result (λ rows. AreRows rows) }
+{
+    let schema = schema_of(alloc, &[("a", Kind::Bool)])?;
+    let rows = one_row(alloc, &schema);
+    drop(schema);
+    Ok(rows?)
+}
+
 #[test]
 fn each_relation_has_pages_of_its_own(rt: HostRuntime) -> Result<(), Fail> {
-    let rows = one_row(rt.alloc(), &schema_of(rt.alloc(), &[("a", Kind::Bool)])?)?;
     let catalogue = catalogue_of(rt.alloc(), &[("R", Kind::Bool), ("S", Kind::Bool)])?;
-    let bytes = half_of(rt.alloc(), &catalogue, &rows, 65_563)?;
-    assert_eq!(rt; bytes.len(), 65_563);
-    assert_eq!(rt;
-        bytes.as_slice().split_at(31).0,
-        b"HERA0002\0\x02\x01R\x01\x01a\x02\x01S\x01\x01a\x02\0\0\0\x02\0\0\0\x01\x01".as_slice()
-    );
-    assert_eq!(rt;
-        bytes.as_slice().split_at(32794).1.split_at(5).0,
-        b"\0\x01\0\x01\x01".as_slice()
-    );
+    let rows = rows_of_true(rt.alloc())?;
+    let written = half_of(rt.alloc(), &catalogue, &rows, 65_563);
     let refused = half_of(rt.alloc(), &catalogue, &rows, 65_562);
-    assert_eq!(rt; need_of(&refused), Some((65_563, 65_562)));
+    drop(rows);
+    drop(catalogue);
+    let has_pages = has_two_pages(&written);
+    let need = need_of(&refused);
+    drop(written);
+    drop(refused);
+    assert!(rt; has_pages);
+    assert!(rt; need == Some((65_563, 65_562)));
     Ok(())
 }

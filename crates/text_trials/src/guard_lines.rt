@@ -6,7 +6,7 @@ ghost use Rattle.hera_guard.specs.Guards.{AreGuards};
 
 use delta_atoms::Delta;
 use hera_guard::{Break, GuardTable, break_line};
-use hera_guard_lines::{LineFault, NameFault, guards_of, read_lines};
+use hera_guard_lines::{GuardLines, LineFault, NameFault, guards_of, read_lines};
 use hera_host::HostTable;
 use hera_lexer::lex;
 use hera_meaning::{Line, RelId, Scalar, Sign};
@@ -27,24 +27,65 @@ const SEVEN: [u8; 8] = [128, 0, 0, 0, 0, 0, 0, 7];
 
 const FIVE_HUNDRED: [u8; 8] = [128, 0, 0, 0, 0, 0, 1, 244];
 
-/// A base in which R holds two ints, the lesser first, and T one text.
-fn base(alloc: Global, low: &[u8], high: &[u8], text: &[u8]) -> Result<Base, Fail> {
-    let mut bytes = Vec::from_slice(
-        alloc,
-        b"HERA0001\0\x02\x01R\x01\x01a\x01\x01T\x01\x01t\x03\0\0\0\x02",
-    )?;
+/// Puts a page of R with two ints, the lesser first, one of T with a text, and a closed gate behind the bytes.
+fn put_pages(bytes: &mut Vec<u8>, low: &[u8], high: &[u8], text: &[u8]) -> Result<(), AllocError> {
     bytes.extend_from_slice(b"\0\0\0\x02")?;
     bytes.extend_from_slice(low)?;
     bytes.extend_from_slice(high)?;
-    for _ in bytes.len()..8218 {
-        bytes.push(0)?;
-    }
+    bytes.resize(8218, 0)?;
     bytes.extend_from_slice(b"\0\x01\0\x01")?;
     bytes.extend_from_slice(text)?;
-    for _ in bytes.len()..16_411 {
-        bytes.push(0)?;
+    bytes.resize(16_411, 0)
+}
+
+/// A base in which R holds two ints, the lesser first, and T one text.
+fn base(alloc: Global, low: &[u8], high: &[u8], text: &[u8]) -> Result<Base, Fail> {
+    let head = b"HERA0001\0\x02\x01R\x01\x01a\x01\x01T\x01\x01t\x03\0\0\0\x02";
+    let mut bytes = Vec::from_slice(alloc, head)?;
+    match put_pages(&mut bytes, low, high, text) {
+        Ok(()) => Ok(read_half(alloc, bytes)?),
+        Err(e) => {
+            drop(bytes);
+            Err(e.into())
+        }
     }
-    Ok(read_half(alloc, bytes)?)
+}
+
+/// The guards that lines mean, or what their names are refused for and where.
+fn named(
+    alloc: Global,
+    lines: &GuardLines,
+    catalogue: &Catalogue,
+    hosts: &HostTable,
+) -> Result<GuardTable, (&'static str, u32)>
+    ensures { IfOk result (AreGuards catalogue.now hosts.now.names) }
+{
+    match guards_of(alloc, lines, catalogue, hosts) {
+        Ok(table) => Ok(table),
+        Err(NameFault::Unknown { at }) => Err(("Unknown", at)),
+        Err(NameFault::Mismatch { at }) => Err(("Mismatch", at)),
+        Err(NameFault::Memory) => Err(("Memory", 0)),
+    }
+}
+
+/// The guards that lines mean where they were read, or what they are refused for and where.
+fn meant(
+    alloc: Global,
+    lines: Result<GuardLines, LineFault>,
+    catalogue: &Catalogue,
+    hosts: &HostTable,
+) -> Result<GuardTable, (&'static str, u32)>
+    ensures { IfOk result (AreGuards catalogue.now hosts.now.names) }
+{
+    match lines {
+        Ok(lines) => {
+            let table = named(alloc, &lines, catalogue, hosts);
+            drop(lines);
+            table
+        }
+        Err(LineFault::Syntax { at }) => Err(("Syntax", at)),
+        Err(LineFault::Memory) => Err(("Memory", 0)),
+    }
 }
 
 /// The guards that a text means, or what it is refused for and where.
@@ -60,46 +101,54 @@ fn guards(
         return Ok(Err(("TooLong", 0)));
     }
     let tokens = lex(alloc, text)?;
-    let lines = match read_lines(alloc, &tokens) {
-        Ok(lines) => lines,
-        Err(LineFault::Syntax { at }) => return Ok(Err(("Syntax", at))),
-        Err(LineFault::Memory) => return Ok(Err(("Memory", 0))),
-    };
-    Ok(match guards_of(alloc, &lines, catalogue, hosts) {
-        Ok(table) => Ok(table),
-        Err(NameFault::Unknown { at }) => Err(("Unknown", at)),
-        Err(NameFault::Mismatch { at }) => Err(("Mismatch", at)),
-        Err(NameFault::Memory) => Err(("Memory", 0)),
-    })
+    let lines = read_lines(alloc, &tokens);
+    drop(tokens);
+    Ok(meant(alloc, lines, catalogue, hosts))
 }
+
+/// What a text is refused for and where, or that it is read.
+fn refusal_of(
+    alloc: Global,
+    text: &[u8],
+    catalogue: &Catalogue,
+    hosts: &HostTable,
+) -> Result<(&'static str, u32), Fail> {
+    match guards(alloc, text, catalogue, hosts)? {
+        Ok(table) => {
+            drop(table);
+            Ok(("read", 0))
+        }
+        Err(refusal) => Ok(refusal),
+    }
+}
+
+/// Texts, and for what and where each is refused.
+const REFUSED: &[(&[u8], &str, u32)] = &[
+    (b"R a: band;", "Syntax", 2),
+    (b"R.a band;", "Syntax", 4),
+    (b"R.a: ;", "Syntax", 5),
+    (b"R.a: in;", "Syntax", 5),
+    (b"R.a: band", "Syntax", 9),
+    (b"R.a: band; R", "Syntax", 12),
+    (b"R.a: band; ;", "Syntax", 11),
+    (b"Q.a: band;", "Unknown", 0),
+    (b"R.b: band;", "Unknown", 2),
+    (b"R.a: bond;", "Unknown", 5),
+    (b"R.a: band; R.b: bond;", "Unknown", 13),
+    (b"R.a: bucket;", "Mismatch", 5),
+    (b"T.t: band; Q.a: band;", "Mismatch", 5),
+    (b"R.a: is_sku;", "Mismatch", 5),
+];
 
 /// Each text is refused for this cause, at this offset.
 fn lines_are_refused_at_the_first_fault(
     rt: &impl Abort,
     alloc: Global,
+    catalogue: &Catalogue,
     hosts: &HostTable,
 ) -> Result<(), Fail> {
-    let base = base(alloc, &FIVE, &SEVEN, b"x")?;
-    for (text, cause, at) in [
-        (b"R a: band;".as_slice(), "Syntax", 2),
-        (b"R.a band;", "Syntax", 4),
-        (b"R.a: ;", "Syntax", 5),
-        (b"R.a: in;", "Syntax", 5),
-        (b"R.a: band", "Syntax", 9),
-        (b"R.a: band; R", "Syntax", 12),
-        (b"R.a: band; ;", "Syntax", 11),
-        (b"Q.a: band;", "Unknown", 0),
-        (b"R.b: band;", "Unknown", 2),
-        (b"R.a: bond;", "Unknown", 5),
-        (b"R.a: band; R.b: bond;", "Unknown", 13),
-        (b"R.a: bucket;", "Mismatch", 5),
-        (b"T.t: band; Q.a: band;", "Mismatch", 5),
-        (b"R.a: is_sku;", "Mismatch", 5),
-    ] {
-        match guards(alloc, text, base.catalogue(), hosts)? {
-            Ok(_) => assert!(rt; false),
-            Err((name, place)) => assert!(rt; name == cause && place == at),
-        }
+    for (text, cause, at) in REFUSED {
+        assert!(rt; refusal_of(alloc, *text, catalogue, hosts)? == (*cause, *at));
     }
     Ok(())
 }
@@ -283,6 +332,26 @@ fn only_rows_that_are_put_in_are_tested(
     }
 }
 
+/// Lines over a base are refused or read, and their guards test the rows that are put in.
+fn lines_are_tried(
+    rt: &impl Abort,
+    alloc: Global,
+    hosts: &HostTable,
+    base: &Base,
+) -> Result<(), Fail> {
+    lines_are_refused_at_the_first_fault(rt, alloc, base.catalogue(), hosts)?;
+    only_rows_that_are_put_in_are_tested(rt, alloc, hosts, base)
+}
+
+/// Guards over these hosts are read, and test rows that are put in and rows that are stored.
+fn guards_are_tried(rt: &impl Abort, alloc: Global, hosts: &HostTable) -> Result<(), Fail> {
+    let base = base(alloc, &MINUS_ONE, &FIVE, b"x")?;
+    let tried = lines_are_tried(rt, alloc, hosts, &base);
+    drop(base);
+    tried?;
+    the_first_stored_row_that_breaks_a_guard_is_found(rt, alloc, hosts)
+}
+
 #[test]
 fn guards_are_read_and_test_rows(rt: HostRuntime) -> Result<(), Fail> {
     let alloc = rt.alloc();
@@ -293,8 +362,7 @@ fn guards_are_read_and_test_rows(rt: HostRuntime) -> Result<(), Fail> {
         Box::new(alloc, |arg: &Scalar| is_sku(arg))?,
         Box::new(alloc, |arg: &Scalar| clamp(arg))?,
     )?;
-    lines_are_refused_at_the_first_fault(&rt, alloc, &hosts)?;
-    the_first_stored_row_that_breaks_a_guard_is_found(&rt, alloc, &hosts)?;
-    let base = base(alloc, &MINUS_ONE, &FIVE, b"x")?;
-    only_rows_that_are_put_in_are_tested(&rt, alloc, &hosts, &base)
+    let tried = guards_are_tried(&rt, alloc, &hosts);
+    drop(hosts);
+    tried
 }

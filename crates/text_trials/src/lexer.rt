@@ -36,12 +36,20 @@ fn reads(rt: &impl Abort, alloc: Global, script: &[u8], text: &str) -> Result<()
     Ok(())
 }
 
-/// Compares the refusal of a script.
-fn refuses(rt: &impl Abort, alloc: Global, script: &[u8], fault: LexFault) {
-    assert!(rt; script.len() <= SCRIPT_LIMIT);
+/// Why a script is refused, and where; or that it is read.
+fn told_of(alloc: Global, script: &[u8]) -> (&'static str, u32) {
+    if script.len() > SCRIPT_LIMIT {
+        return ("too long", 0);
+    }
     match lex(alloc, script) {
-        Ok(_) => assert!(rt; false),
-        Err(found) => assert!(rt; found == fault),
+        Ok(tokens) => {
+            drop(tokens);
+            ("read", 0)
+        }
+        Err(LexFault::BadUtf8 { at }) => ("BadUtf8", at),
+        Err(LexFault::BadToken { at }) => ("BadToken", at),
+        Err(LexFault::TooDeep { at }) => ("TooDeep", at),
+        Err(LexFault::Memory) => ("no memory", 0),
     }
 }
 
@@ -61,76 +69,97 @@ fn row_of(
     Ok(bytes)
 }
 
+/// Scripts, and the tokens of each as text.
+const SCRIPTS: &[(&[u8], &str)] = &[
+    (b"", ""),
+    (b" \t\n\r", ""),
+    (b"1 // c", "n1@0 "),
+    (b"/* a */2/**/", "n2@7 "),
+    (
+        b"< <= == = =>",
+        "Less@0 LessEqual@2 EqualEqual@5 Equals@8 Equals@10 Greater@11 ",
+    ),
+    (
+        b"&&& || != >= ! > &",
+        "AndAnd@0 And@2 OrOr@4 NotEqual@7 GreaterEqual@10 Bang@13 Greater@15 And@17 ",
+    ),
+    (
+        b"()[]{},;:.+-*/%",
+        "OpenParen@0 CloseParen@1 OpenSquare@2 CloseSquare@3 OpenBrace@4 CloseBrace@5 Comma@6 Semicolon@7 Colon@8 Dot@9 Plus@10 Minus@11 Star@12 Slash@13 Percent@14 ",
+    ),
+    (b"9223372036854775807 007", "n9223372036854775807@0 n7@20 "),
+    (b"\"a\\\"\\\\\\n\\t\"", "t5@0 "),
+    (b"_x \xc3\xa9t\xc3\xa9 main1", "i2@0 i5@3 i5@9 "),
+    (
+        b"relation func proc main int bool text delta rel tuple if else while foreach in print apply commit rollback assert return true false",
+        "Relation@0 Func@9 Proc@14 Main@19 Int@24 Bool@28 Text@33 Delta@38 Rel@44 Tuple@48 If@54 Else@57 While@62 Foreach@68 In@76 Print@79 Apply@85 Commit@91 Rollback@98 Assert@107 Return@114 True@121 False@126 ",
+    ),
+    (
+        b"fail when rows select map project rename union minus inter join group by count empty sum min max isfail bulk ins del",
+        "Fail@0 When@5 Rows@10 Select@15 Map@22 Project@26 Rename@34 Union@41 Minus@47 Inter@53 Join@59 Group@64 By@70 Count@73 Empty@79 Sum@85 Min@89 Max@93 IsFail@97 Bulk@104 Ins@109 Del@113 ",
+    ),
+];
+
 #[test]
 fn scripts_are_cut_into_tokens(rt: HostRuntime) -> Result<(), Fail> {
-    let rows: [(&[u8], &str); 12] = [
-        (b"", ""),
-        (b" \t\n\r", ""),
-        (b"1 // c", "n1@0 "),
-        (b"/* a */2/**/", "n2@7 "),
-        (
-            b"< <= == = =>",
-            "Less@0 LessEqual@2 EqualEqual@5 Equals@8 Equals@10 Greater@11 ",
-        ),
-        (
-            b"&&& || != >= ! > &",
-            "AndAnd@0 And@2 OrOr@4 NotEqual@7 GreaterEqual@10 Bang@13 Greater@15 And@17 ",
-        ),
-        (
-            b"()[]{},;:.+-*/%",
-            "OpenParen@0 CloseParen@1 OpenSquare@2 CloseSquare@3 OpenBrace@4 CloseBrace@5 Comma@6 Semicolon@7 Colon@8 Dot@9 Plus@10 Minus@11 Star@12 Slash@13 Percent@14 ",
-        ),
-        (b"9223372036854775807 007", "n9223372036854775807@0 n7@20 "),
-        (b"\"a\\\"\\\\\\n\\t\"", "t5@0 "),
-        (b"_x \xc3\xa9t\xc3\xa9 main1", "i2@0 i5@3 i5@9 "),
-        (
-            b"relation func proc main int bool text delta rel tuple if else while foreach in print apply commit rollback assert return true false",
-            "Relation@0 Func@9 Proc@14 Main@19 Int@24 Bool@28 Text@33 Delta@38 Rel@44 Tuple@48 If@54 Else@57 While@62 Foreach@68 In@76 Print@79 Apply@85 Commit@91 Rollback@98 Assert@107 Return@114 True@121 False@126 ",
-        ),
-        (
-            b"fail when rows select map project rename union minus inter join group by count empty sum min max isfail bulk ins del",
-            "Fail@0 When@5 Rows@10 Select@15 Map@22 Project@26 Rename@34 Union@41 Minus@47 Inter@53 Join@59 Group@64 By@70 Count@73 Empty@79 Sum@85 Min@89 Max@93 IsFail@97 Bulk@104 Ins@109 Del@113 ",
-        ),
-    ];
-    for (script, text) in rows {
-        reads(&rt, rt.alloc(), script, text)?;
+    for (script, text) in SCRIPTS {
+        reads(&rt, rt.alloc(), *script, *text)?;
     }
     Ok(())
 }
+
+/// Scripts, and for what and where each is refused.
+const REFUSED: &[(&[u8], &str, u32)] = &[
+    (b"/*/", "BadToken", 0),
+    (b"1 /* a", "BadToken", 2),
+    (b"9223372036854775808", "BadToken", 0),
+    (b"\"\\q\"", "BadToken", 0),
+    (b"1 \"a", "BadToken", 2),
+    (b"\xff", "BadUtf8", 0),
+    (b"a\xc3", "BadUtf8", 1),
+    (b"1 ?", "BadToken", 2),
+];
 
 #[test]
 fn scripts_are_refused_at_their_place(rt: HostRuntime) -> Result<(), Fail> {
-    let rows: [(&[u8], LexFault); 8] = [
-        (b"/*/", LexFault::BadToken { at: 0 }),
-        (b"1 /* a", LexFault::BadToken { at: 2 }),
-        (b"9223372036854775808", LexFault::BadToken { at: 0 }),
-        (b"\"\\q\"", LexFault::BadToken { at: 0 }),
-        (b"1 \"a", LexFault::BadToken { at: 2 }),
-        (b"\xff", LexFault::BadUtf8 { at: 0 }),
-        (b"a\xc3", LexFault::BadUtf8 { at: 1 }),
-        (b"1 ?", LexFault::BadToken { at: 2 }),
-    ];
-    for (script, fault) in rows {
-        refuses(&rt, rt.alloc(), script, fault);
+    for (script, fault, at) in REFUSED {
+        assert!(rt; told_of(rt.alloc(), *script) == (*fault, *at));
     }
     Ok(())
 }
 
+/// A script of as many bytes between two marks has these tokens.
+fn row_reads(
+    rt: &impl Abort,
+    alloc: Global,
+    mark: &[u8],
+    byte: u8,
+    n: usize,
+    text: &str,
+) -> Result<(), Fail> {
+    let script = row_of(alloc, mark, byte, n, mark)?;
+    let read = reads(rt, alloc, &script, text);
+    drop(script);
+    read
+}
+
+/// Scripts of as many bytes between two others, and what is told of each.
+const LIMITS: &[(&[u8], u8, usize, &[u8], (&str, u32))] = &[
+    (b"\"", b'a', 1024, b"\"", ("BadToken", 0)),
+    (b" ", b'a', 256, b"", ("BadToken", 1)),
+    (b")", b'(', 65, b"", ("TooDeep", 65)),
+    (b"]", b'[', 64, b")]{", ("read", 0)),
+];
+
 #[test]
 fn limits_are_kept(rt: HostRuntime) -> Result<(), Fail> {
-    let alloc = rt.alloc();
-    let text = row_of(alloc, b"\"", b'a', 1023, b"\"")?;
-    reads(&rt, alloc, &text, "t1023@0 ")?;
-    let text = row_of(alloc, b"\"", b'a', 1024, b"\"")?;
-    refuses(&rt, alloc, &text, LexFault::BadToken { at: 0 });
-    let name = row_of(alloc, b"", b'a', 255, b"")?;
-    reads(&rt, alloc, &name, "i255@0 ")?;
-    let name = row_of(alloc, b" ", b'a', 256, b"")?;
-    refuses(&rt, alloc, &name, LexFault::BadToken { at: 1 });
-    let brackets = row_of(alloc, b")", b'(', 65, b"")?;
-    refuses(&rt, alloc, &brackets, LexFault::TooDeep { at: 65 });
-    let brackets = row_of(alloc, b"]", b'[', 64, b")]{")?;
-    assert!(rt; brackets.len() <= SCRIPT_LIMIT);
-    assert!(rt; lex(alloc, &brackets).is_ok());
+    row_reads(&rt, rt.alloc(), b"\"", b'a', 1023, "t1023@0 ")?;
+    row_reads(&rt, rt.alloc(), b"", b'a', 255, "i255@0 ")?;
+    for (first, byte, n, last, told) in LIMITS {
+        let script = row_of(rt.alloc(), *first, *byte, *n, *last)?;
+        let found = told_of(rt.alloc(), &script);
+        drop(script);
+        assert!(rt; found == *told);
+    }
     Ok(())
 }
