@@ -194,6 +194,15 @@ def many_calls():
     return file_of(bodies, code + [HALT, RET]), (b"turns spent\n", 4)
 
 
+def calls_of_others():
+    """The same with one operand more below each next branch: more looks at operands than are taken."""
+    code = [TRUE] * SLOTS
+    for _ in range(2000):
+        code += [TRUE, TRUE, unless(len(code) + 5), call_of(1), HALT]
+    bodies = [body_of(0, 0, []), body_of(len(code) + 1, SLOTS, slots_of(SLOTS, lambda place: 0, 0))]
+    return file_of(bodies, code + [HALT, RET]), (b"", 9)
+
+
 def near(at):
     return [jump(at + 1)]
 
@@ -218,6 +227,7 @@ LARGE = {
     "instructions of a byte": lambda: (alone(HALT), (b"", 0)),
     "1,600,000 operands": lambda: (alone(PUSH), (b"", 0)),
     "65,535 operands, taken in each of 2,000 branches": many_calls,
+    "65,535 others, taken in each of 2,000 branches": calls_of_others,
 }
 
 
