@@ -1,24 +1,13 @@
 //! The program `hera`: its words, real files and standard output. What each form of the words does stands at [`hera_top::hera`].
 #![tactic(auto)]
 
-ghost use Rattle.std.specs.Prelude.{◌≡◌, IfOk, length};
+ghost use Rattle.std.specs.Prelude.{◌≡◌, ◌+◌, IfOk, length};
+ghost use Rattle.hera_words.specs.Words.{command_of, files_in, words_of};
 
-mod file_outside;
-mod file_source;
-mod folder;
-mod names;
-mod retried;
-mod standard_output;
-mod standard_streams;
-mod unsynced;
-
-use file_outside::FileOutside;
-use file_source::FileSource;
-use folder::Paths;
+use hera_edge::{FileOutside, FileSource, Paths, take_closed};
 use hera_meaning::Scalar;
 use hera_top::{files_of, folder_of, hera};
 use program_hosts::{band, bucket, clamp, is_sku, program_hosts};
-use standard_streams::take_closed;
 use std::alloc::{AllocError, Global};
 use std::fs::Files;
 use std::io;
@@ -70,12 +59,15 @@ fn paths_of(alloc: Global, words: &Vec<String>) -> Result<Option<Paths>, AllocEr
     }
 }
 
-/// Carries out the command line, and gives the exit status.
-fn status<R: Env + Files + Print + AllocGlobal + Drop>(rt: &R) -> Result<u8, AllocError> {
-    let words = words_of(rt)?;
-    let (first, last) = files_of(&words);
-    let mut sources = sources_of(rt.alloc(), rt, &words[first..last])?;
-    let paths = paths_of(rt.alloc(), &words)?;
+/// Carries out the command of the words with the program's hosts, and gives the exit status.
+fn answer<R: Files + Print + AllocGlobal + Drop>(
+    rt: &R,
+    words: &Vec<String>,
+    sources: &mut Vec<FileSource<'_, R>>,
+    outside: &mut FileOutside<'_, R>,
+) -> Result<u8, AllocError>
+    requires sources { length sources.old.items + (files_in (command_of (words_of words.now.items))).0 ≡ (files_in (command_of (words_of words.now.items))).1 }
+{
     let hosts = program_hosts(
         rt.alloc(),
         Box::new(rt.alloc(), |arg: &Scalar| band(arg))?,
@@ -83,13 +75,16 @@ fn status<R: Env + Files + Print + AllocGlobal + Drop>(rt: &R) -> Result<u8, All
         Box::new(rt.alloc(), |arg: &Scalar| is_sku(arg))?,
         Box::new(rt.alloc(), |arg: &Scalar| clamp(arg))?,
     )?;
-    Ok(hera(
-        rt.alloc(),
-        &words,
-        &mut sources,
-        &mut FileOutside::new(rt, paths),
-        &hosts,
-    ))
+    Ok(hera(rt.alloc(), words, sources, outside, &hosts))
+}
+
+/// Carries out the command line, and gives the exit status.
+fn status<R: Env + Files + Print + AllocGlobal + Drop>(rt: &R) -> Result<u8, AllocError> {
+    let words = words_of(rt)?;
+    let (first, last) = files_of(&words);
+    let mut sources = sources_of(rt.alloc(), rt, &words[first..last])?;
+    let paths = paths_of(rt.alloc(), &words)?;
+    answer(rt, &words, &mut sources, &mut FileOutside::new(rt, paths))
 }
 
 /// Carries out the command line with no file behind a standard stream, and gives the exit status.

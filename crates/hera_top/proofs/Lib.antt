@@ -6,17 +6,6 @@ mod Dumped
 mod Making
 mod Renewing
 mod Running
-mod Statuses
+pub mod Statuses
 mod Widening
-mod Accepting
-mod Complete
-mod Covered
-mod Evaluated
-mod OneOutcome
-mod OneGuarded
-mod OneWoven
-mod OneCoded
-mod Packed
-mod OneComes
 mod Weaving
-mod Wholes

@@ -8,7 +8,6 @@ mod drill;
 mod dumping;
 mod folders;
 mod guard;
-pub mod laws;
 mod run;
 mod script;
 mod top;

@@ -1,0 +1,11 @@
+mod Wholes
+mod OneOutcome
+mod Accepting
+mod OneGuarded
+mod OneWoven
+mod OneCoded
+mod OneComes
+mod Complete
+mod Covered
+mod Evaluated
+mod Packed
