@@ -3,19 +3,23 @@
 
     tools/first_build.py [PROCESS]
 
-`rt` proves one crate at a time in a checkout, since it locks the crates below. So each worker has the sources in a folder of its own
-(links, where it can), and what is built goes to `out/` of the crates in this checkout, from where each worker takes the libraries that it needs.
+`rt` proves one crate at a time in a checkout, and what it builds for the next check keeps each proof, which a check of
+the crates above then takes long to read. So this calls the compiler `rattle` as the gate does: a library holds what
+other crates can cite, and no proof. The libraries lie in `out/rlib` of the program's crate, each beside a sum of all
+that it is made from, so that a build goes on where an earlier one was stopped. They go once the program is built.
+
 Of the crates that can be begun, the one comes first from which the longest way leads up to the program, counted in lines
 of code; where fewer can be begun than there are processors, a crate is given several.
 
-Meanwhile the crates of this checkout are locked as `rt` locks them, so that a second build or a gate waits for this one,
-and this one for them. Where standard error is a terminal, it shows how far the build is.
+Meanwhile the program's crate is locked as `rt` locks it, so that a second build or a gate waits for this one, and this
+one for them. Where standard error is a terminal, it shows how far the build is.
 
-It ends with 0 where the program is built, and with 1 where a crate fails, with what `rt` said of it. It ends, and its
-workers with it, when a signal tells it to or when the process that started it (number PROCESS) has ended.
+It ends with 0 where the program is built, and with 1 where a crate fails, with what `rattle` said of it. It ends, and the
+proofs with it, when a signal tells it to or when the process that started it (number PROCESS) has ended.
 """
 
 import fcntl
+import hashlib
 import os
 import shutil
 import signal
@@ -25,164 +29,227 @@ import tempfile
 import time
 
 TOP = os.path.dirname(os.path.dirname(os.path.abspath(__file__)))
+CRATES = os.path.join(TOP, "crates")
 PROGRAM = "hera_shell"
+OUT = os.path.join(CRATES, PROGRAM, "out")
+LIBRARIES = os.path.join(OUT, "rlib")
 STARTED_BY = int(sys.argv[1]) if len(sys.argv) > 1 else os.getppid()
 
 
+class Kit:
+    """Where the toolchain's files are."""
+
+    def __init__(self):
+        command = shutil.which("rt")
+        if not command:
+            sys.exit("hera: the kit's command rt is not on the path")
+        self.top = os.path.dirname(os.path.dirname(os.path.realpath(command)))
+        self.rattle = self.path("bin", "rattle")
+
+    def path(self, *names):
+        return os.path.join(self.top, *names)
+
+    def library(self, name):
+        return ["--extern", f"{name}={self.path('rlibs', name)}.rlib"]
+
+    def identity(self):
+        with open(self.path("WHAT"), "rb") as text:
+            return text.read()
+
+
+class Crate:
+    """A crate of this repository over the libraries that it names: crates of this repository, and libraries of the kit."""
+
+    def __init__(self, name, crates, of_kit):
+        self.name, self.crates, self.of_kit = name, crates, of_kit
+        self.folder = os.path.join(CRATES, name)
+        self.is_program = name == PROGRAM
+        self.above = []
+        for it in crates:
+            it.above.append(self)
+        self.files = self.read_files()
+
+    def read_files(self):
+        """What its sources hold, by their paths."""
+        files = {}
+        for part in ("src", "specs", "proofs"):
+            for folder, _, names in os.walk(os.path.join(self.folder, part)):
+                for path in (os.path.join(folder, name) for name in names):
+                    with open(path, "rb") as source:
+                        files[os.path.relpath(path, self.folder)] = source.read()
+        return files
+
+    def lines(self):
+        """How many lines of code it has."""
+        return sum(text.count(b"\n") for path, text in self.files.items() if path.endswith(".rt"))
+
+    def way(self):
+        """The lines of code on the longest way from it up to the program."""
+        if not hasattr(self, "known_way"):
+            self.known_way = self.lines() + max((it.way() for it in self.above), default=0)
+        return self.known_way
+
+    def sum(self, kit):
+        """A sum of all that it is made from."""
+        if not hasattr(self, "known_sum"):
+            below = [(it.name, it.sum(kit)) for it in self.crates]
+            parts = kit.identity(), sorted(self.files.items()), below, self.of_kit
+            self.known_sum = hashlib.sha256(repr(parts).encode()).hexdigest()
+        return self.known_sum
+
+    def made(self):
+        """The library, or the program, that is made of it."""
+        if self.is_program:
+            return os.path.join(OUT, self.name)
+        return os.path.join(LIBRARIES, f"{self.name}.rlib")
+
+    def sum_file(self):
+        return os.path.join(LIBRARIES, f"{self.name}.sum")
+
+    def is_built(self, kit):
+        """Whether what is made of it is there, of what it is made from now."""
+        try:
+            with open(self.sum_file()) as text:
+                return text.read() == self.sum(kit) and os.path.exists(self.made())
+        except FileNotFoundError:
+            return False
+
+    def command(self, kit, jobs):
+        """The words that prove and build it."""
+        words = [kit.rattle, "build", "--crate-name", self.name]
+        words += ["src/main.rt" if self.is_program else "src/lib.rt"]
+        for name in self.of_kit:
+            words += kit.library(name)
+        for it in self.crates:
+            words += ["--extern", f"{it.name}={it.made()}"]
+        words += ["-L", f"dependency={kit.path('rlibs')}", "-L", f"dependency={LIBRARIES}"]
+        words += ["--antt-project", kit.path("rattle", "logic", "antt-project.json")]
+        words += ["--logic-built", kit.path("logic_built"), "--links", f"{self.name}="]
+        words += ["--jobs", str(jobs)]
+        if self.is_program:
+            return words + ["--toolchain", kit.path("toolchain"), "-o", f"{self.made()}.o"]
+        return words + ["--statements", "-o", self.made()]
+
+    def link(self, kit, log):
+        """Makes the program of what was compiled. Whether that worked."""
+        words = [kit.path("bin", "rattle-link"), "--target", "x86_64-unknown-linux-gnu"]
+        words += ["--toolchain", kit.path("toolchain"), "-o", f"{self.made()}.new", f"{self.made()}.o"]
+        words += [kit.path("c", "libos_c.a"), kit.path("c", "liblibc_c.a")]
+        if subprocess.run(words, stdout=log, stderr=subprocess.STDOUT).returncode:
+            return False
+        os.replace(f"{self.made()}.new", self.made())
+        return True
+
+
 def crates_below(program):
-    """For each crate on which the program stands: those on which it stands itself, by crates.txt."""
-    stands_on = {}
+    """The crates on which the program stands, by crates.txt, and its own."""
+    uses = {}
     with open(os.path.join(TOP, "crates.txt")) as lines:
         for line in lines:
             name, colon, rest = line.partition("#")[0].partition(":")
             if colon:
-                stands_on[name.split()[0]] = rest.split()
-    needed, found = {}, [program]
-    while found:
-        name = found.pop()
-        if name not in needed:
-            needed[name] = [it for it in stands_on[name] if it in stands_on]
-            found += needed[name]
-    return needed
+                uses[name.split()[0]] = rest.split()
+    found = {}
+
+    def find(name):
+        if name not in found:
+            crates = [find(it) for it in uses[name] if it in uses]
+            of_kit = dict.fromkeys(["std", *(it for it in uses[name] if it not in uses)])
+            found[name] = Crate(name, crates, list(of_kit))
+        return found[name]
+
+    find(program)
+    return list(found.values())
 
 
-def lines_of(name):
-    """How many lines of code the crate has."""
-    count = 0
-    for folder, _, files in os.walk(os.path.join(TOP, "crates", name, "src")):
-        for file in files:
-            with open(os.path.join(folder, file), "rb") as source:
-                count += source.read().count(b"\n")
-    return count
+class Proof:
+    """The proof and the building of one crate, at work."""
 
-
-def ways_up(needed):
-    """For each crate: the lines of code on the longest way from it up to the program."""
-    lines = {name: lines_of(name) for name in needed}
-    way = {}
-
-    def measure(name):
-        if name not in way:
-            above = [it for it in needed if name in needed[it]]
-            way[name] = lines[name] + max(map(measure, above), default=0)
-        return way[name]
-
-    for name in needed:
-        measure(name)
-    return way
-
-
-def library(top, name):
-    return os.path.join(top, "crates", name, "out", "rlib")
-
-
-def link_or_copy(source, target):
-    """Links a file, or copies it where the folders are on two file systems."""
-    try:
-        os.link(source, target)
-    except OSError:
-        shutil.copy2(source, target)
-
-
-def made(top, name):
-    """What stands there once the crate is built."""
-    if name == PROGRAM:
-        return os.path.join(top, "crates", name, "out", name)
-    return os.path.join(library(top, name), "stamp")
-
-
-def is_built(name):
-    return os.path.exists(made(TOP, name))
-
-
-def hand_over(name, top):
-    """Gives what was built of a crate in a copy of the sources to this checkout."""
-    if name == PROGRAM:
-        target = made(TOP, name)
-        os.makedirs(os.path.dirname(target), exist_ok=True)
-        shutil.copy2(made(top, name), target + ".new")
-        os.replace(target + ".new", target)
-    else:
-        target = library(TOP, name)
-        shutil.rmtree(target, ignore_errors=True)
-        shutil.copytree(library(top, name), target, copy_function=link_or_copy)
-
-
-class Worker:
-    """A copy of the sources in which one crate at a time is proved."""
-
-    def __init__(self, folder):
-        self.folder = folder
-        self.name = self.process = self.log = None
-        self.jobs = 0
-        os.makedirs(folder)
-        shutil.copy(os.path.join(TOP, "crates.txt"), folder)
-        shutil.copytree(
-            os.path.join(TOP, "crates"),
-            os.path.join(folder, "crates"),
-            ignore=shutil.ignore_patterns("out"),
-            copy_function=link_or_copy,
-        )
-        end_with_starter()
-
-    def begin(self, name, below, jobs):
-        """Begins to prove a crate over the libraries below, which are built."""
-        for it in below:
-            target = library(self.folder, it)
-            if not os.path.exists(target):
-                shutil.copytree(library(TOP, it), target, copy_function=link_or_copy)
-        self.name, self.jobs = name, jobs
-        self.log = tempfile.TemporaryFile("w+")
-        # `rt run` ends with a run of the program, here without words.
+    def __init__(self, crate, kit, jobs):
+        self.crate, self.kit, self.jobs = crate, kit, jobs
+        self.log = tempfile.TemporaryFile("w+", errors="replace")
         self.process = subprocess.Popen(
-            ["rt", "run" if name == PROGRAM else "lib", "--jobs", str(jobs)],
-            cwd=os.path.join(self.folder, "crates", name),
+            crate.command(kit, jobs),
+            cwd=crate.folder,
             stdin=subprocess.DEVNULL,
             stdout=self.log,
             stderr=subprocess.STDOUT,
             start_new_session=True,
         )
 
+    def has_ended(self):
+        return self.process.poll() is not None
+
+    def was_killed(self):
+        """Whether something killed one of its processes, as a system does that is short of memory."""
+        return self.process.returncode == -signal.SIGKILL
+
     def stop(self):
-        """Ends the proof, with the processes that rt started."""
-        if self.name:
+        """Ends it with all processes that it started."""
+        if not self.has_ended():
             os.killpg(self.process.pid, signal.SIGTERM)
 
     def finish(self):
-        """Hands over what was built. None, or what rt said where that failed."""
-        name, self.name = self.name, None
-        if os.path.exists(made(self.folder, name)):
-            hand_over(name, self.folder)
+        """Notes what the crate was made from. None, or what was said where it failed."""
+        crate = self.crate
+        if crate.read_files() != crate.files:
+            return f"{crate.name}: its sources changed while it was proved"
+        if self.process.returncode == 0 and (not crate.is_program or crate.link(self.kit, self.log)):
+            with open(crate.sum_file(), "w") as text:
+                text.write(crate.sum(self.kit))
             return None
         self.log.seek(0)
-        return f"{name}:\n{self.log.read()}"
+        return f"{crate.name}:\n{self.log.read()}"
 
 
-def all_below(needed, name):
-    """The crates below a crate, with those below them."""
-    found = set()
-    left = list(needed[name])
-    while left:
-        it = left.pop()
-        if it not in found:
-            found.add(it)
-            left += needed[it]
-    return found
+class Build:
+    """The crates that are built, at work, or to be begun."""
 
+    def __init__(self, crates, kit, processors):
+        self.kit, self.processors = kit, processors
+        self.built = [it for it in crates if it.is_built(kit)]
+        self.left = [it for it in crates if it not in self.built]
+        self.at_work = []
 
-def begin_some(workers, needed, begun, way, processors):
-    """Gives the free processors to crates that can be begun."""
-    free = processors - sum(it.jobs for it in workers if it.name)
-    ready = [it for it in needed if it not in begun and all(map(is_built, needed[it]))]
-    ready.sort(key=lambda it: -way[it])
-    for worker in workers:
-        if worker.name or not ready or free < 1:
-            continue
-        name = ready.pop(0)
-        jobs = max(1, min(4, free - len(ready)))
-        begun.add(name)
-        worker.begin(name, all_below(needed, name), jobs)
-        free -= jobs
+    def begin_some(self):
+        """Gives the free processors to crates that can be begun."""
+        ready = [it for it in self.left if all(below in self.built for below in it.crates)]
+        ready.sort(key=lambda it: -it.way())
+        free = self.processors - sum(it.jobs for it in self.at_work)
+        while ready and free > 0:
+            crate = ready.pop(0)
+            jobs = max(1, min(4, free - len(ready)))
+            self.left.remove(crate)
+            self.at_work.append(Proof(crate, self.kit, jobs))
+            free -= jobs
+
+    def end_some(self):
+        """Takes the crates whose proofs have ended. None, or what was said of one that failed."""
+        for proof in [it for it in self.at_work if it.has_ended()]:
+            self.at_work.remove(proof)
+            if proof.was_killed() and proof.jobs > 1:
+                self.at_work.append(Proof(proof.crate, self.kit, 1))
+                continue
+            failed = proof.finish()
+            if failed:
+                return failed
+            self.built.append(proof.crate)
+        return None
+
+    def run(self, progress):
+        """Proves and builds all crates. None, or what was said of one that failed."""
+        failed = None
+        try:
+            while not failed and (self.left or self.at_work):
+                self.begin_some()
+                progress.show(len(self.built))
+                pause()
+                failed = self.end_some()
+        finally:
+            progress.end()
+            for it in self.at_work:
+                it.stop()
+        return failed
 
 
 class Progress:
@@ -204,75 +271,43 @@ class Progress:
             print(file=sys.stderr)
 
 
-def build(workers, needed, processors, progress):
-    """Proves and builds all crates. What rt said of one that failed, if one did."""
-    way = ways_up(needed)
-    begun = {name for name in needed if is_built(name)}
-    while True:
-        begin_some(workers, needed, begun, way, processors)
-        at_work = [it for it in workers if it.name]
-        if not at_work:
-            return None
-        progress.show(len(begun) - len(at_work))
-        pause()
-        for worker in at_work:
-            if worker.process.poll() is not None:
-                failed = worker.finish()
-                if failed:
-                    return failed
-
-
-def end_with_starter():
-    """Ends this process where the one that started it has ended."""
+def pause():
+    """Waits for half a second, and ends this process where the one that started it has ended."""
+    time.sleep(0.5)
     if os.getppid() != STARTED_BY:
         sys.exit(1)
 
 
-def pause():
-    time.sleep(0.5)
-    end_with_starter()
-
-
-def lock_crates():
-    """Waits until no other build, gate or `rt` works in this checkout, and keeps others out until this process ends."""
-    crates = os.path.join(TOP, "crates")
-    held = [os.open(os.path.join(crates, name), os.O_RDONLY) for name in sorted(os.listdir(crates))]
+def lock_program():
+    """Waits until no other build, gate or `rt` works on the program's crate, and keeps others out until this process ends."""
+    folder = os.open(os.path.join(CRATES, PROGRAM), os.O_RDONLY)
     waits = False
-    for folder in held:
-        while True:
-            try:
-                fcntl.flock(folder, fcntl.LOCK_EX | fcntl.LOCK_NB)
-                break
-            except BlockingIOError:
-                if not waits:
-                    print("hera: waiting for another build or gate in this checkout to end", file=sys.stderr, flush=True)
-                waits = True
-                pause()
-            except OSError:
-                # Some file systems have no locks.
-                break
+    while True:
+        try:
+            return fcntl.flock(folder, fcntl.LOCK_EX | fcntl.LOCK_NB)
+        except BlockingIOError:
+            if not waits:
+                print("hera: waiting for another build or gate in this checkout to end", file=sys.stderr, flush=True)
+            waits = True
+            pause()
+        except OSError:
+            # Some file systems have no locks.
+            return None
 
 
 def main():
     for number in (signal.SIGTERM, signal.SIGHUP, signal.SIGINT):
         signal.signal(number, lambda number, _: sys.exit(128 + number))
-    lock_crates()
-    processors = len(os.sched_getaffinity(0))
-    needed = crates_below(PROGRAM)
-    progress = Progress(len(needed))
-    with tempfile.TemporaryDirectory(prefix="hera-build-") as folder:
-        workers = []
-        try:
-            for number in range(processors):
-                workers.append(Worker(os.path.join(folder, str(number))))
-            failed = build(workers, needed, processors, progress)
-        finally:
-            progress.end()
-            for worker in workers:
-                worker.stop()
+    lock_program()
+    os.makedirs(LIBRARIES, exist_ok=True)
+    crates = crates_below(PROGRAM)
+    build = Build(crates, Kit(), len(os.sched_getaffinity(0)))
+    failed = build.run(Progress(len(crates)))
     if failed:
         print(failed, file=sys.stderr)
-    return 1 if failed else 0
+        return 1
+    shutil.rmtree(LIBRARIES)
+    return 0
 
 
 if __name__ == "__main__":
