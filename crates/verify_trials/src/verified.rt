@@ -109,6 +109,14 @@ fn gives_up(alloc: Global, file: &CodeFile) -> Result<bool, Fail>
     }
 }
 
+/// Where the file with another byte at a place is rejected. None where it is verified.
+fn spoiled_is_rejected_at(alloc: Global, place: usize, value: u8) -> Result<Option<u32>, Fail> {
+    let file = spoiled(alloc, place, value)?;
+    let at = rejected_at(alloc, &file);
+    drop(file);
+    at
+}
+
 #[test]
 fn code_is_verified_or_rejected_where_it_breaks(rt: HostRuntime) -> Result<(), Fail> {
     // As it is; Mul made Not; a bool printed; Halt made Ret, which stands in main; Halt made Commit, which ends no code.
@@ -120,21 +128,31 @@ fn code_is_verified_or_rejected_where_it_breaks(rt: HostRuntime) -> Result<(), F
         (76, 0x16, Some(7)),
     ];
     for (place, value, at) in cases {
-        let file = spoiled(rt.alloc(), place, value)?;
-        assert_eq!(rt; rejected_at(rt.alloc(), &file)?, at);
-        drop(file);
+        assert!(rt; spoiled_is_rejected_at(rt.alloc(), place, value)? == at);
     }
     Ok(())
 }
 
+/// Where a file with 1,000 branches is rejected. None where it is verified.
+fn few_are_rejected_at(alloc: Global) -> Result<Option<u32>, Fail> {
+    let few = branched(alloc, 1_000)?;
+    let at = rejected_at(alloc, &few);
+    drop(few);
+    at
+}
+
+/// Whether the verifier gives up on a file with 1,300 branches: 1,690,000 looks, where 1,048,576 and 16 for each of 7,802
+/// instructions are taken.
+fn many_are_given_up(alloc: Global) -> Result<bool, Fail> {
+    let many = branched(alloc, 1_300)?;
+    let are_given_up = gives_up(alloc, &many);
+    drop(many);
+    are_given_up
+}
+
 #[test]
 fn calls_take_a_bounded_number_of_looks(rt: HostRuntime) -> Result<(), Fail> {
-    let few = branched(rt.alloc(), 1_000)?;
-    assert_eq!(rt; rejected_at(rt.alloc(), &few)?, None);
-    drop(few);
-    // 1,690,000 looks, where 1,048,576 and 16 for each of 7,802 instructions are taken.
-    let many = branched(rt.alloc(), 1_300)?;
-    assert!(rt; gives_up(rt.alloc(), &many)?);
-    drop(many);
+    assert!(rt; few_are_rejected_at(rt.alloc())?.is_none());
+    assert!(rt; many_are_given_up(rt.alloc())?);
     Ok(())
 }
