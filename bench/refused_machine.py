@@ -3,7 +3,7 @@
 
     bench/refused_machine.py [PROGRAM]
 
-PROGRAM is the tests of `hera_trials`, which `rt test` there builds. The two tests count and join a relation under a
+PROGRAM is the tests of `machine_trials`, which `rt test` there builds. The two tests count and join a relation under a
 delta, and differ only in the rows that their base has of it: 10 or 10,000. What the machine copies of a relation would
 be more allocations over many rows than over few, so the two counts have to be equal.
 """
@@ -14,7 +14,7 @@ import sys
 from common import Folder, call
 from memory import Refuser
 
-TESTS = os.path.join(os.path.dirname(os.path.abspath(__file__)), "..", "crates/hera_trials/out/hera_trials_tests")
+TESTS = os.path.join(os.path.dirname(os.path.abspath(__file__)), "..", "crates/machine_trials/out/machine_trials_tests")
 FEW, MANY = "machine::few_rows_are_counted_and_joined", "machine::many_rows_are_counted_and_joined"
 
 

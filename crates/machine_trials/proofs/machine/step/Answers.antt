@@ -1,7 +1,7 @@
 use Rattle.std.proofs.Common.{◌≡◌, ◌∙◌, Result, Ok, IfOk, ap, subst}
 use Rattle.hera_machine.specs.Standing.{status_by, WaitsBy}
 use Rattle.hera_machine.proofs.Counted.{counted_quiet, counted_out}
-use Rattle.hera_trials.proofs.machine.step.Goals as goal
+use Rattle.machine_trials.proofs.machine.step.Goals as goal
 
 -- what holds of the value of a good answer
 of_value : {T E : Type 0} (P : T → Type 0) (r : Result T E) (x : T) → r ≡ Ok x → IfOk r P → P x

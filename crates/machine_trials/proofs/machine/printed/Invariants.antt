@@ -2,7 +2,7 @@ use Rattle.std.proofs.Common.{◌≡◌, [], None}
 use Rattle.hera_machine.specs.Counted.{AreCountsOver}
 use Rattle.hera_machine.specs.Over.{state_over}
 use Rattle.hera_machine.specs.declared.events.Status.TheVariants.{Working}
-use Rattle.hera_trials.proofs.machine.printed.Given as goal
+use Rattle.machine_trials.proofs.machine.printed.Given as goal
 
 abbrev pub invariant-steps : goal.invariant-steps
 invariant-steps g l = record {

@@ -4,12 +4,13 @@ ghost use Rattle.hera_machine.specs.Counted.{AreCountsOver};
 ghost use Rattle.hera_machine.specs.Over.{state_over};
 ghost use Rattle.hera_machine.specs.declared.events.Status.TheVariants.{Working};
 
+use crate::samples::numbers;
 use delta_atoms::Value;
 use hera_code::{Bodies, BodyInfo, Code, Instr, Instrs};
 use hera_fits::fits_rel;
 use hera_host::HostTable;
 use hera_machine::{End, Event, Machine};
-use hera_meaning::{Attr, Const, Kind, Op, RelDecl, RelId, Scalar, Schema, Shape, Sign, Text};
+use hera_meaning::{Const, Op, RelDecl, RelId, Scalar, Shape, Sign, Text};
 use hera_prims::prim_rel;
 use hera_reads::Counts;
 use hera_rows::RowSet;
@@ -33,17 +34,6 @@ impl From<AllocError> for Starved {
     fn from(_: AllocError) -> Starved {
         Starved::Other
     }
-}
-
-/// The schema of one int.
-fn numbers(alloc: Global) -> Result<Schema, Fail> {
-    let attrs = vec![in alloc;
-        Attr {
-            name: Text::new(alloc, b"a")?,
-            kind: Kind::Int
-        },
-    ]?;
-    Ok(Schema::new(attrs)?)
 }
 
 /// A relation of one int.
