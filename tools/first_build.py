@@ -14,8 +14,9 @@ of code; where fewer can be begun than there are processors, a crate is given se
 Meanwhile the program's crate is locked as `rt` locks it, so that a second build or a gate waits for this one, and this
 one for them. Where standard error is a terminal, it shows how far the build is.
 
-It ends with 0 where the program is built, and with 1 where a crate fails, with what `rattle` said of it. It ends, and the
-proofs with it, when a signal tells it to or when the process that started it (number PROCESS) has ended.
+It ends with 0 where the program is built, and with 1 where a crate fails, with what `rattle` said of it, or where the
+sources of a crate changed while it was proved. It ends, and the proofs with it, when a signal tells it to or when the
+process that started it (number PROCESS) has ended.
 """
 
 import fcntl
@@ -190,7 +191,7 @@ class Proof:
             os.killpg(self.process.pid, signal.SIGTERM)
 
     def finish(self):
-        """Notes what the crate was made from. None, or what was said where it failed."""
+        """Notes what the crate was made from. None, or what was said where it failed, or that its sources changed meanwhile."""
         crate = self.crate
         if crate.read_files() != crate.files:
             return f"{crate.name}: its sources changed while it was proved"
