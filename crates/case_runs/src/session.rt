@@ -12,7 +12,7 @@ use std::io::{self, ErrorKind};
 
 /// A folder, and an outside whose files it has.
 #[derive(Drop)]
-pub(crate) struct Session {
+pub struct Session {
     folder: String,
     outside: MemOutside,
     /// How many bytes were emitted before the last call.
@@ -20,8 +20,8 @@ pub(crate) struct Session {
 }
 
 impl Session {
-    /// A folder of empty files.
-    pub(crate) fn new(alloc: Global, folder: &str) -> Result<Session, AllocError> {
+    /// A folder of this name with empty files, as a `Select`, a `Left` and a `Right` that no call has touched.
+    pub fn new(alloc: Global, folder: &str) -> Result<Session, AllocError> {
         Ok(Session {
             folder: String::from_str(alloc, folder)?,
             outside: MemOutside::new(alloc, Vec::new(alloc), None, Vec::new(alloc)),

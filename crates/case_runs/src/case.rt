@@ -13,7 +13,7 @@ pub(crate) enum Shown {
 
 /// A name with a command line, the texts of its files, and lines that say what else is to be done.
 #[derive(Drop)]
-pub(crate) struct Case {
+pub struct Case {
     pub(crate) heading: String,
     /// The texts of the files before the last.
     pub(crate) before: Vec<Vec<u8>>,
@@ -24,8 +24,8 @@ pub(crate) struct Case {
 }
 
 impl Case {
-    /// A case of this heading, with no script and no setting yet.
-    pub(crate) fn new(alloc: Global, heading: &str) -> Result<Case, AllocError> {
+    /// A case of this heading, `NAME: WORDS`, with no script and no setting yet.
+    pub fn new(alloc: Global, heading: &str) -> Result<Case, AllocError> {
         Ok(Case {
             heading: String::from_str(alloc, heading)?,
             before: Vec::new(alloc),
@@ -35,8 +35,9 @@ impl Case {
         })
     }
 
-    /// Appends a line to the script, or takes it as a setting where it begins with `=> `.
-    pub(crate) fn add_line(&mut self, alloc: Global, line: &str) -> io::Result<()> {
+    /// Appends a line to the script, or takes it as a setting where it begins with `=> `. The error is want of memory, or that
+    /// the digits of a line `=> code HEX` are none.
+    pub fn add_line(&mut self, alloc: Global, line: &str) -> io::Result<()> {
         if let Some(setting) = line.strip_prefix("=> ") {
             return self.add_setting(alloc, setting);
         }
