@@ -1,8 +1,9 @@
-ghost use Rattle.std.specs.Prelude.{◌≡◌, None};
+ghost use Rattle.std.specs.Prelude.{◌≡◌, None, IfOk, length};
 ghost use Rattle.std.specs.Io.{ReadsAtMost};
 
 use crate::retried::read_some;
 use hera_causes::{Failed, Source};
+use std::alloc::{AllocError, Global};
 use std::fs::{self, Files};
 use std::io;
 use std::marker::Model;
@@ -36,6 +37,21 @@ impl<'a, R: Files> FileSource<'a, R> {
             file: None,
             faults: 0,
         }
+    }
+
+    /// A source for each of these paths. None is opened yet.
+    pub fn all(
+        alloc: Global,
+        rt: &'a R,
+        paths: &'a [String],
+    ) -> Result<Vec<FileSource<'a, R>>, AllocError>
+        ensures { IfOk result (λ sources. length sources.items ≡ length paths.now) }
+    {
+        let mut sources = Vec::new(alloc);
+        for path in paths {
+            sources.push(FileSource::new(rt, path.as_str()))?;
+        }
+        Ok(sources)
     }
 
     /// One read of the file, which is opened where it is not open.
@@ -76,15 +92,19 @@ mod tests {
 
     #[test]
     fn a_file_is_opened_at_its_first_read(rt: HostRuntime) -> Result<(), Fail> {
+        let alloc = rt.alloc();
+        let paths = vec![in alloc;
+            String::from_str(alloc, "no such file")?,
+            String::from_str(alloc, "/proc/self/exe")?,
+        ]?;
+        let mut sources = FileSource::all(alloc, &rt, &paths)?;
         let mut front = [0u8; 4];
-        let mut missing = FileSource::new(&rt, "no such file");
-        assert_eq!(rt; missing.faults, 0);
-        assert!(rt; missing.read(&mut front).is_err());
-        assert_eq!(rt; missing.faults, 1);
-        let mut program = FileSource::new(&rt, "/proc/self/exe");
-        assert_eq!(rt; program.read(&mut front)?, 4);
+        assert_eq!(rt; sources[0].faults, 0);
+        assert!(rt; sources[0].read(&mut front).is_err());
+        assert_eq!(rt; sources[0].faults, 1);
+        assert_eq!(rt; sources[1].read(&mut front)?, 4);
         assert_eq!(rt; front.as_slice(), b"\x7fELF".as_slice());
-        assert_eq!(rt; program.faults, 0);
+        assert_eq!(rt; sources[1].faults, 0);
         Ok(())
     }
 }

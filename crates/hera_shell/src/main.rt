@@ -1,7 +1,7 @@
 //! The program `hera`: its words, real files and standard output. What each form of the words does stands at [`hera_top::hera`].
 #![tactic(auto)]
 
-ghost use Rattle.std.specs.Prelude.{◌≡◌, ◌+◌, IfOk, length};
+ghost use Rattle.std.specs.Prelude.{◌≡◌, ◌+◌, length};
 ghost use Rattle.hera_words.specs.Words.{command_of, files_in, words_of};
 
 use hera_edge::{FileOutside, FileSource, Paths, take_closed};
@@ -36,21 +36,6 @@ fn words_of<R: Env + AllocGlobal>(rt: &R) -> Result<Vec<String>, AllocError> {
     }
 }
 
-/// A source for each FILE word.
-fn sources_of<'a, R: Files + Drop>(
-    alloc: Global,
-    rt: &'a R,
-    files: &'a [String],
-) -> Result<Vec<FileSource<'a, R>>, AllocError>
-    ensures { IfOk result (λ sources. length sources.items ≡ length files.now) }
-{
-    let mut sources = Vec::new(alloc);
-    for file in files {
-        sources.push(FileSource::new(rt, file.as_str()))?;
-    }
-    Ok(sources)
-}
-
 /// The paths of the folder of the DIR word, where there is one.
 fn paths_of(alloc: Global, words: &Vec<String>) -> Result<Option<Paths>, AllocError> {
     match folder_of(words) {
@@ -82,7 +67,7 @@ fn answer<R: Files + Print + AllocGlobal + Drop>(
 fn status<R: Env + Files + Print + AllocGlobal + Drop>(rt: &R) -> Result<u8, AllocError> {
     let words = words_of(rt)?;
     let (first, last) = files_of(&words);
-    let mut sources = sources_of(rt.alloc(), rt, &words[first..last])?;
+    let mut sources = FileSource::all(rt.alloc(), rt, &words[first..last])?;
     let paths = paths_of(rt.alloc(), &words)?;
     answer(rt, &words, &mut sources, &mut FileOutside::new(rt, paths))
 }
