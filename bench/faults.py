@@ -457,8 +457,8 @@ def work(part, options, library, number, answers):
         try:
             PARTS[part](box, options, number, options.processes)
             answers.put((box.made, None))
-        except Wrong as wrong:
-            answers.put((box.made, str(wrong)))
+        except Exception as wrong:
+            answers.put((box.made, str(wrong) or repr(wrong)))
 
 
 def run_part(part, options, library):

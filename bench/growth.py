@@ -40,7 +40,7 @@ def literal(k):
 
 
 def shuffled(k):
-    """Applies in an order that jumps about: 5 divides no k of the sizes, so each row comes once."""
+    """Applies in an order that jumps about: 7919 is a prime that divides no k, so each row comes once."""
     return "relation R(a int);\n" + loop(k, f"apply {{+R(i * 7919 % {k})}};", after="print count(R);")
 
 

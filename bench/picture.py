@@ -125,8 +125,8 @@ def main():
         works = figures()
         with tempfile.TemporaryDirectory() as folder:
             for work, those in measured(program, folder):
-                kept = {"hera": works[work]["hera"]} if not program and work in works else {}
-                works[work] = {**kept, **those}
+                # Who was not measured keeps the figures of an earlier run.
+                works[work] = {**works.get(work, {}), **those}
         with open(FIGURES, "w") as target:
             target.writelines(f"{work}\t{who}\t{it:.2f}\n" for work, those in works.items() for who, it in those.items())
     with open(PICTURE, "w") as target:

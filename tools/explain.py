@@ -5,7 +5,8 @@
 
 Standard output and the status are the program's own, and what it prints goes on as it comes. Where its last line is
 `refused NAME at OFFSET` or `trap NAME at OFFSET`, what follows on standard error is the place as FILE:LINE:COLUMN (columns
-count characters), that line with a caret under it, and a sentence on what the name means. Of a file of comma-separated
+count characters), that line with a caret under it, and a sentence on what the name means. A status that has no line of
+its own is told by a sentence. Of a file of comma-separated
 values it is the line on which the record begins; of a code file, whose script isn't there, the file and the sentence
 alone. Of a guarded run, and of woven scripts, a refusal may be that of any file:
 it is the one of the first script of which `check` says the same, and else of the guards.
@@ -61,11 +62,26 @@ OF_CODE = {
     "Rejected": "The instruction at this address, from 0, breaks a rule of code that may be run.",
 }
 
+# What the statuses mean behind which nothing else says why.
+SILENT = {
+    6: "a call on a file of the folder failed: is DIR a folder that may be read and written, and is there room?",
+    9: "there was no memory, or a code file asks for too many looks at operands.",
+    10: "a half would pass 268,435,456 bytes: `checkpoint` may make room.",
+}
+
 WORDS = (
     "relation func proc main int bool text delta rel tuple if else while foreach in print apply commit rollback assert "
     "return true false fail select map project rename union minus inter join group by count sum min max empty rows bulk "
     "ins del isfail when"
 ).split()
+
+# The keywords with which a declaration or a statement begins, and those that are values.
+STARTS = (
+    "relation func proc main int bool text delta rel tuple if while foreach print apply commit rollback assert return"
+).split()
+VALUES = ("true", "false", "fail")
+
+DECLARED_FIRST = " Relations come first, then funcs, then procs, and then one `main`."
 
 
 def script_of(words):
@@ -74,14 +90,26 @@ def script_of(words):
     return words[place] if place is not None and len(words) == place + 1 else None
 
 
-def what_is_there(name, rest):
+def why_no_keyword(word, before):
+    """Why this keyword can't stand here, behind what stands before it."""
+    found = re.search(r"(\w+|\S)\s*\Z", before)
+    last = found.group(1) if found else ""
+    if last == "}" and word in ("relation", "func", "proc", "main"):
+        return DECLARED_FIRST
+    ends_value = last in VALUES or (last not in WORDS and re.search(r"[\w\")\]}]\Z", last))
+    if word in STARTS and ends_value:
+        return f" Is a `;` missing before `{word}`?"
+    return f" `{word}` is a keyword, and can be no name."
+
+
+def what_is_there(name, before, rest):
     """What stands at the fault, where that tells more, or an empty text."""
     found = re.match(r"[^\W\d]\w*", rest)
     word = found.group() if found else rest[:1]
     if not rest:
         return " The script ends here."
     if name == "Syntax" and word in WORDS:
-        return f" `{word}` is a keyword, and can be no name."
+        return why_no_keyword(word, before)
     if name in ("Unknown", "Repeated") and found:
         return f" The name is `{word}`."
     return ""
@@ -96,11 +124,12 @@ def explained(file, name, offset):
     start = script.rfind(b"\n", 0, offset) + 1
     end = script.find(b"\n", offset)
     line = script[start : len(script) if end < 0 else end].decode(errors="replace").rstrip("\r")
-    before = script[start:offset].decode(errors="replace")
+    before = script[:offset].decode(errors="replace")
+    beside = before[before.rfind("\n") + 1 :]
     number = script.count(b"\n", 0, offset) + 1
-    under = "".join("\t" if it == "\t" else " " for it in before)
-    meaning = MEANINGS.get(name, "") + what_is_there(name, script[offset:].decode(errors="replace"))
-    return f"{file}:{number}:{len(before) + 1}: {name}\n{line}\n{under}^\n{meaning}\n"
+    under = "".join("\t" if it == "\t" else " " for it in beside)
+    meaning = MEANINGS.get(name, "") + what_is_there(name, before, script[offset:].decode(errors="replace"))
+    return f"{file}:{number}:{len(beside) + 1}: {name}\n{line}\n{under}^\n{meaning}\n"
 
 
 def explained_record(file, number):
@@ -138,6 +167,24 @@ def faulty_file(program, words, fault):
     return file
 
 
+def files_among(words):
+    """The files that the words have the program read, in their order."""
+    if words[:1] == ["weave"]:
+        return words[4:]
+    return words[3:5] if words[0] == "guard" else [script_of(words)]
+
+
+def unread(words):
+    """Which file can't be read, and why, or an empty text."""
+    for file in filter(None, files_among(words)):
+        try:
+            with open(file, "rb") as source:
+                source.read(1)
+        except OSError as fault:
+            return f"hera: {file}: {fault.strerror}\n"
+    return ""
+
+
 def explain(program, words, tail):
     """Says what the last line means, where it is a fault of the script."""
     fault = FAULT.fullmatch(tail)
@@ -156,9 +203,14 @@ def explain(program, words, tail):
         pass
 
 
+def fail_past_the_limit():
+    """Makes a file that would grow past `ulimit -f` a failed call, and not a signal, as the launcher does."""
+    signal.signal(signal.SIGXFSZ, signal.SIG_IGN)
+
+
 def start(command, output):
-    """Starts the program with its own signals, and hands on to it what ends this process."""
-    program = subprocess.Popen(command, stdout=output, restore_signals=True)
+    """Starts the program with its own signals and all files that are open, and hands on to it what ends this process."""
+    program = subprocess.Popen(command, stdout=output, close_fds=False, preexec_fn=fail_past_the_limit)
     for number in (signal.SIGTERM, signal.SIGHUP, signal.SIGQUIT):
         signal.signal(number, lambda number, _: program.send_signal(number))
     # From a terminal the program gets it too.
@@ -217,8 +269,13 @@ def main():
         os.execv(command[0], command)
     if status in (1, 3):
         explain(command[0], command[1:], tail)
+    if status == 7:
+        sys.stderr.write(unread(command[1:]))
+    if status in SILENT:
+        sys.stderr.write(f"hera: {SILENT[status]}\n")
     if status < 0:
-        signal.signal(-status, signal.SIG_DFL)
+        if -status != signal.SIGKILL:
+            signal.signal(-status, signal.SIG_DFL)
         os.kill(os.getpid(), -status)
     return status
 

@@ -182,7 +182,7 @@ class Proof:
         return self.process.poll() is not None
 
     def was_killed(self):
-        """Whether something killed one of its processes, as a system does that is short of memory."""
+        """Whether something killed it, as a system does that is short of memory."""
         return self.process.returncode == -signal.SIGKILL
 
     def stop(self):
@@ -300,6 +300,9 @@ def main():
     for number in (signal.SIGTERM, signal.SIGHUP, signal.SIGINT):
         signal.signal(number, lambda number, _: sys.exit(128 + number))
     lock_program()
+    if os.access(os.path.join(CRATES, PROGRAM, "out", PROGRAM), os.X_OK):
+        # Another build, for which this one waited, has made it.
+        return 0
     os.makedirs(LIBRARIES, exist_ok=True)
     crates = crates_below(PROGRAM)
     build = Build(crates, Kit(), len(os.sched_getaffinity(0)))

@@ -20,6 +20,9 @@ TOP = os.path.dirname(os.path.dirname(os.path.abspath(__file__)))
 FAULTS = [
     ("unknown", "main {\n  int n = 1;\n\tprint n + m;\n}\n", "s.hera:3:12: Unknown\n\tprint n + m;\n\t          ^\n"),
     ("keyword", "main { int map = 1; }\n", "`map` is a keyword"),
+    ("a keyword as an attribute", "relation R(int int);\n", "`int` is a keyword"),
+    ("a mark that is missing", "main { print 1\nprint 2; }\n", "Is a `;` missing before `print`?"),
+    ("a relation behind main", "main { }\nrelation R(a int);\n", "Relations come first"),
     ("characters", "main { print \"äö\" + 1; }\n", "s.hera:1:19: Mismatch\n"),
     ("the end", "main {", "The script ends here."),
     ("trap", "main { print 1;\nprint 1 / 0; }\n", "s.hera:2:9: DivZero\nprint 1 / 0; }\n        ^\n"),
@@ -93,6 +96,24 @@ def wrong_in(program, folder):
     os.close(held)
     if run([hera, "dump", used], folder) != (5, b"no database\n", ""):
         yield "a folder that is free again"
+    yield from wrong_in_ways(hera, folder)
+
+
+def wrong_in_ways(hera, folder):
+    """The ways to call it that were not right: through a link, on the working folder, and with a file that a shell opened."""
+    os.symlink(hera, os.path.join(folder, "linked"))
+    if run([os.path.join(folder, "linked"), "help"], folder) != run([hera, "help"], folder):
+        yield "through a link"
+    held = os.open(folder, os.O_RDONLY)
+    fcntl.flock(held, fcntl.LOCK_EX)
+    if run([hera, "dump", ""], folder) != (6, b"", "hera: another command is using the folder .\n"):
+        yield "the working folder in use"
+    os.close(held)
+    write(folder, "s.hera", "main { print 5; }")
+    command = ["bash", "-c", f"{hera} eval 1 <(cat s.hera)"]
+    for told in (run(command, folder), on_a_terminal(command, folder, subprocess.PIPE)):
+        if told != (0, b"5\n", ""):
+            yield f"a file that a shell opened: {told}"
 
 
 def write(folder, name, text):
@@ -117,6 +138,8 @@ def wrong_in_files(program, hera, folder):
     told = "code: DivZero\nSomething is divided by 0. Byte 34 of the script of which it was packed is the place.\n"
     tries.append(("", told, ["exec", "1", "code"]))
     tries.append(("", "s.hera: BadCode\nThe field that begins", ["exec", "1", "s.hera"]))
+    tries.append(("", "hera: none.hera: No such file", ["check", "none.hera"]))
+    tries.append(("", "hera: a call on a file of the folder failed", ["dump", "s.hera"]))
     for text, told, words in tries:
         write(folder, "s.csv", text)
         own = run([program, *words], folder)
