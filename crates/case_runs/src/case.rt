@@ -19,6 +19,8 @@ pub struct Case {
     pub(crate) before: Vec<Vec<u8>>,
     /// The script, which is the text of the last file.
     pub(crate) script: Vec<u8>,
+    /// Whether the script has a line, which may be empty.
+    has_line: bool,
     pub(crate) settings: Vec<String>,
     pub(crate) shown: Shown,
 }
@@ -30,6 +32,7 @@ impl Case {
             heading: String::from_str(alloc, heading)?,
             before: Vec::new(alloc),
             script: Vec::new(alloc),
+            has_line: false,
             settings: Vec::new(alloc),
             shown: Shown::AsItIs,
         })
@@ -41,9 +44,10 @@ impl Case {
         if let Some(setting) = line.strip_prefix("=> ") {
             return self.add_setting(alloc, setting);
         }
-        if !self.script.is_empty() {
+        if self.has_line {
             self.script.push(b'\n')?;
         }
+        self.has_line = true;
         self.script.extend_from_slice(line.as_bytes())?;
         Ok(())
     }

@@ -63,19 +63,17 @@ impl Session {
         write_file(&mut self.outside, file_named(name)?, &bytes)
     }
 
-    /// Cuts a file by a line `FILE LENGTH`.
+    /// Cuts a file by a line `FILE LENGTH`. It is an error where the file has fewer bytes.
     fn cut_file(&mut self, alloc: Global, line: &str) -> io::Result<()> {
         let (name, digits) = parted(line)?;
         let file = file_named(name)?;
         let Ok(length) = digits.parse::<usize>() else {
             return Err(unread());
         };
-        let bytes = self
-            .outside
-            .file(file)
-            .get(..length)
-            .unwrap_or(b"")
-            .to_vec(alloc)?;
+        let Some(left) = self.outside.file(file).get(..length) else {
+            return Err(unread());
+        };
+        let bytes = left.to_vec(alloc)?;
         write_file(&mut self.outside, file, &bytes)
     }
 

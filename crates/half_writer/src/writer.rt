@@ -4,6 +4,7 @@ ghost use Rattle.rel_format.specs.declared.version.TheConstants.{HALF_LIMIT, PAG
 ghost use Rattle.std.specs.Int.{to_be_bytes, w32};
 ghost use Rattle.rel_format.specs.Pages.{format_two, paged, half_of};
 ghost use Rattle.half_writer.specs.Written.{AreRows, IsFullAt, IsFirstFull, written_of, with_rel, finished, need_of};
+ghost use Rattle.hera_meaning.specs.declared.schemas.TheConstants.{RELATIONS_LIMIT};
 ghost use Rattle.hera_meaning.specs.declared.schemas.RelDecl.{RelDecl};
 ghost use Rattle.hera_meaning.specs.Deltas.{State};
 
@@ -59,7 +60,7 @@ impl HalfWriter {
     /// Appends the pages of the next relation, which has these rows. `Full` tells the first number
     /// of bytes past the limit, as pages are added. After a refusal the writer is of no use.
     pub fn add<S: Sorted>(&mut self, rows: &S) -> Result<(), HalfFault>
-        requires more { self.old.added < 256 }
+        requires more { self.old.added < RELATIONS_LIMIT }
         requires rows { AreRows (S.rows rows.now) }
         ensures add { OnOk result (self.new ≡ with_rel PAGE_TWO self.old (S.rows rows.now)) }
         ensures room { OnOk result (need_of self.new ≤ self.new.limit) }

@@ -36,8 +36,8 @@ where
 }
 
 /// Takes the numbers of the standard streams that are closed, so that no file that is opened later stands behind one.
-/// They are taken as long as the answer is kept. To read and to write them fails, as at a closed stream. The error is that
-/// of an opening, or `OutOfMemory`.
+/// They are taken as long as the answer is kept. To write them fails, as at a closed stream, and to read them too, but where
+/// the root folder can not be opened: then nothing is read. The error is that of an opening, or `OutOfMemory`.
 pub fn take_closed<R: Files>(alloc: Global, rt: &R) -> io::Result<Vec<R::File>>
 where
     R::File: AsRawFd,

@@ -1,5 +1,6 @@
 //! What operations make of their operands.
 ghost use Rattle.std.specs.Prelude.{◌≡◌, ◌&&◌, ◌∷◌, [], IfOk, List, map, nat_le, nat_lt, length};
+ghost use Rattle.hera_meaning.specs.declared.schemas.TheConstants.{ATTRS_LIMIT};
 ghost use Rattle.hera_meaning.specs.Schemas.{names_of};
 ghost use Rattle.hera_meaning.specs.Forms.{of_scalar, of_tuple, of_table, kinds_of, project_kinds, group_kinds, join_kinds};
 ghost use Rattle.hera_typed.specs.Points.{with, when};
@@ -9,7 +10,7 @@ ghost use Rattle.hera_effects.specs.Operations.{flat_agrees, flat_alike, flat_on
 
 use crate::cuts::{all_agree, all_of, attr_forms, one, two};
 use crate::moves::{agrees, is_table};
-use hera_meaning::{Agg, Kind, Op, RelDecl, RelId, Schema};
+use hera_meaning::{ATTRS_LIMIT, Agg, Kind, Op, RelDecl, RelId, Schema};
 use hera_stacks::{FlatForm, FlatSeen, group_kinds, join_kinds, kind_at, kinds_of, project_kinds};
 use std::alloc::{AllocError, Global};
 
@@ -228,9 +229,9 @@ fn takes_tuple(
 
 /// Whether a relation may have so many attributes.
 fn is_width(count: usize) -> bool
-    ensures { result ≡ nat_le 1 count && nat_le count 16 }
+    ensures { result ≡ nat_le 1 count && nat_le count ATTRS_LIMIT }
 {
-    1 <= count && count <= 16
+    1 <= count && count <= ATTRS_LIMIT
 }
 
 /// The fields at these places of each tuple of a relation of the schema.

@@ -2,6 +2,7 @@
 use Rattle.std.specs.Prelude.{◌≡◌, ℕ, ◌+◌, ◌<◌, ◌≤◌, ◌⊎◌, Bool, true, false, ◌||◌, List, [], ◌∷◌, ◌++◌, map, length, Some, None, is_some}
 use Rattle.std.specs.List.{list_all}
 use Rattle.hera_sets.specs.Rows.{holds}
+use Rattle.hera_meaning.specs.declared.schemas.TheConstants.{ATTRS_LIMIT}
 use Rattle.hera_meaning.specs.declared.schemas.Attr.{Attr}
 use Rattle.hera_meaning.specs.declared.trees.Shape.{Shape}
 use Rattle.hera_meaning.specs.declared.trees.Shape.TheVariants.{Rel as rel}
@@ -76,18 +77,18 @@ group_names by aggs = by ++ agg_words aggs
 pub data BreaksGroup (at : ℕ) (by : List Word) (aggs : List Aggregate) (of : Shape) : TypeFault → Type 0 where
   unknown : {f : TypeFault} (s : List Attr) → of ≡ rel s → IsStranger s (group_uses by aggs) f → BreaksGroup at by aggs of f
   repeated : {f : TypeFault} → IsRepeat [] (group_names by aggs) f → BreaksGroup at by aggs of f
-  too_many : 16 < length by + length aggs → BreaksGroup at by aggs of (faults.TooMany at)
+  too_many : ATTRS_LIMIT < length by + length aggs → BreaksGroup at by aggs of (faults.TooMany at)
   no_sum : (s : List Attr) → of ≡ rel s → list_all (λ a. sums_int s a.of) aggs ≡ false → BreaksGroup at by aggs of (faults.Mismatch at)
   no_rel : is_rel of ≡ false → BreaksGroup at by aggs of (faults.Mismatch at)
 
 pub data BreaksJoin (at : ℕ) (left right : Shape) : TypeFault → Type 0 where
-  too_many : (s t : List Attr) → left ≡ rel s → right ≡ rel t → 16 < length s + length (lacking s t) → BreaksJoin at left right (faults.TooMany at)
+  too_many : (s t : List Attr) → left ≡ rel s → right ≡ rel t → ATTRS_LIMIT < length s + length (lacking s t) → BreaksJoin at left right (faults.TooMany at)
   kinds_differ : (s t : List Attr) → left ≡ rel s → right ≡ rel t → kinds_agree s t ≡ false → BreaksJoin at left right (faults.Mismatch at)
   no_rel : (is_rel left ≡ false) ⊎ (is_rel right ≡ false) → BreaksJoin at left right (faults.Mismatch at)
 
 pub data BreaksTuple (at : ℕ) (words : List Word) (values : List Typing) : TypeFault → Type 0 where
   repeated : {f : TypeFault} → IsRepeat [] words f → BreaksTuple at words values f
-  too_many : 16 < length words → BreaksTuple at words values (faults.TooMany at)
+  too_many : ATTRS_LIMIT < length words → BreaksTuple at words values (faults.TooMany at)
   no_scalar : list_all is_scalar (types_of values) ≡ false → BreaksTuple at words values (faults.Mismatch at)
 
 -- a name has a meaning that is no proc

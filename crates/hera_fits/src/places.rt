@@ -2,12 +2,13 @@
 ghost use Rattle.std.specs.Prelude.{◌≡◌, ◌≤◌, cond, not, length};
 ghost use Rattle.std.specs.List.{list_all};
 ghost use Rattle.hera_sets.specs.Rows.{is_same};
+ghost use Rattle.hera_meaning.specs.declared.schemas.TheConstants.{ATTRS_LIMIT};
 ghost use Rattle.hera_meaning.specs.Scalars.{is_same_kind};
 ghost use Rattle.hera_meaning.specs.Relations.{has_name, lacking, can_join};
 ghost use Rattle.hera_meaning.specs.Fits.{is_place, is_int_at, is_good_agg, is_good_op};
 ghost use Rattle.hera_fits.specs.Joins.{goes_with};
 
-use hera_meaning::{Agg, Attr, Kind, Op, Schema};
+use hera_meaning::{ATTRS_LIMIT, Agg, Attr, Kind, Op, Schema};
 use hera_sets::is_same;
 
 /// Whether an attribute stands at the place.
@@ -112,7 +113,7 @@ fn one_if(counts: bool) -> usize
 /// How many attributes of the right schema the left lacks.
 fn lacking_len(left: &Schema, right: &Schema) -> usize
     ensures count { result ≡ length (lacking left.now right.now) }
-    ensures few { result ≤ 16 }
+    ensures few { result ≤ ATTRS_LIMIT }
 {
     let mut count = 0;
     for i in 0..right.len() {
@@ -125,7 +126,7 @@ fn lacking_len(left: &Schema, right: &Schema) -> usize
 fn can_join(left: &Schema, right: &Schema) -> bool
     ensures { result ≡ can_join left.now right.now }
 {
-    all_go_together(left, right) && left.len() + lacking_len(left, right) < 17
+    all_go_together(left, right) && left.len() + lacking_len(left, right) <= ATTRS_LIMIT
 }
 
 /// Whether the operation's places are in range, a place that is summed is an int, and the schemas of a

@@ -28,7 +28,7 @@ use Rattle.hera_outcome.specs.declared.answer.Stop.TheVariants.{Refused, Device,
 use Rattle.hera_outcome.specs.declared.refusal.Refusal.{Refusal}
 use Rattle.hera_outcome.specs.Answers.{number_of, IsFault}
 use Rattle.hera_outcome.specs.Cut.{IsCut}
-use Rattle.hera_outcome.specs.Outcomes.{Outcome, Ended, full, carried, text_of_outcome}
+use Rattle.hera_outcome.specs.Outcomes.{Outcome, Ended, too_long, carried, text_of_outcome}
 use Rattle.hera_outcome.specs.Passages.{Passage, passage, Start, start, LeavesOnceOpened, ReadsAmong, syncs_all}
 use Rattle.hera_outcome.specs.Told.{IsCause, IsDone, IsCutShort, IsToldBehind, IsGivenUp, Tells, Answered}
 use Rattle.hera_outcome.proofs.Passing.{pending_on, given_up_there, cause_by, answered_by}
@@ -158,17 +158,17 @@ module _ {D : Type 0} (q : output.Ghosts D) (w : files.Ghosts D) (hosts : List H
     unready_answered a c Memory (inl up) = inr up
     unready_answered a c Memory (inr (found, cause, same)) = cut_before a c 9 found cause same
     unready_answered a c Full (db, guards, there, over_full, has, mean, pend, stored, still) = inl (
-      carried db [] full,
+      too_long db,
       overflows there over_full has mean,
       record {
         ending = inl (record {
           own_status = refl;
           whole_text = subst (λ (e : Option (List ℕ)). Appends (q.emitted a) e []) (sym pend.unseen.emitted) (Appends-nil (q.emitted a));
-          files = stored;
+          files = pend.unseen.reads;
           output = pend.unseen.output;
           device = pend.device;
         });
-        moments = λ t. once_weaker q w a c _ _ (λ i here. cut_still q w db [] (q.emitted a) i here) (still t);
+        moments = still;
       },
     )
 

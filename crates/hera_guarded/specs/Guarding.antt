@@ -19,7 +19,7 @@ use Rattle.hera_outcome.specs.declared.answer.Stop.{Stop}
 use Rattle.hera_outcome.specs.declared.answer.Stop.TheVariants as stops
 use Rattle.hera_outcome.specs.declared.refusal.Refusal.{Refusal}
 use Rattle.hera_outcome.specs.declared.refusal.Refusal.TheVariants.{Differing, Script}
-use Rattle.hera_outcome.specs.Outcomes.{Outcome, Ended, ends, full, broken, refused, carried}
+use Rattle.hera_outcome.specs.Outcomes.{Outcome, Ended, ends, full, broken, refused, too_long, carried}
 use Rattle.hera_outcome.specs.Passages.{Start}
 use Rattle.hera_run.specs.Fitting.{all_fit, fitting}
 use Rattle.hera_run.specs.Folder.{IsThere, IsClosed, IsStarting, IsOverfull}
@@ -77,6 +77,6 @@ guarded_outcome db gate report = carried db (fitting (Some gate) report.events) 
 -- program runs under the guards that the lines mean
 pub data GuardsTo (hosts : List Host) (lines : List GuardLine) (turns : ℕ) (p : Program_tree) (v : Start) : Outcome → Type 0 where
   barred : {refusal : Refusal} → IsBarred hosts lines p.relations v refusal → GuardsTo hosts lines turns p v (refused refusal)
-  overflows : {db : Database} {guards : List Guard} → IsThere v (held db) → IsOverfull v db → AllHas db.catalogue p.relations → Mean db.catalogue hosts lines guards → GuardsTo hosts lines turns p v (carried db [] full)
+  overflows : {db : Database} {guards : List Guard} → IsThere v (held db) → IsOverfull v db → AllHas db.catalogue p.relations → Mean db.catalogue hosts lines guards → GuardsTo hosts lines turns p v (too_long db)
   runs : {db : Database} {gate : ℕ} {guards : List Guard} → IsThere v (held db) → IsStarting v db gate → AllHas db.catalogue p.relations → Mean db.catalogue hosts lines guards
       → GuardsTo hosts lines turns p v (guarded_outcome db gate (guarded_of (bound p db.catalogue) db.state hosts turns guards))

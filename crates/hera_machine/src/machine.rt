@@ -142,7 +142,7 @@ impl<'c> Machine<'c> {
         }
     }
 
-    /// Executes the instructions at hand that have the quick way, 12,288 at most, and a smash or a merge that is stored. It
+    /// Executes the instructions at hand that have the quick way, 20,480 at most, and a smash or a merge that is stored. It
     /// stops in front of a quick one for which memory is refused, and gives up where a smash or a merge lacks it.
     fn run_quick(&mut self, stored: &Stored<'_>) -> Result<(), AllocError>
         ensures quietly { self.old.status ≡ Status.Working → (hosts : Hosts) → let s = stored.now.state in OnOk result (GoesQuietly self.old.code self.old.relations hosts s (machine_over s self.old) (machine_over s self.new)) }
@@ -183,7 +183,7 @@ impl<'c> Machine<'c> {
         }
     }
 
-    /// Executes instructions that have the quick way, as many as come and 12,288 at most, then a smash or a merge that is
+    /// Executes instructions that have the quick way, as many as come and 20,480 at most, then a smash or a merge that is
     /// stored, a count, and then one as `step` does, with the place for one more operand made before it. A refusal of the
     /// place is want of memory.
     ///

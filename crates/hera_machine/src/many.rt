@@ -29,7 +29,7 @@ pub(crate) fn run_quick(work: &mut Running<'_>, code: &Code, stored: &Stored<'_>
     }
 }
 
-/// Executes the instruction at hand, if that is a common one on ints, bools and tuples, and the next one or two too
+/// Executes the instruction at hand, if that is a common one on ints, bools and tuples, and up to four behind it
 /// where they are done at once. Where memory for it is refused nothing has changed.
 #[inline]
 fn try_some(work: &mut Running<'_>, code: &Code, stored: &Stored<'_>) -> bool

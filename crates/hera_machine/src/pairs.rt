@@ -192,7 +192,7 @@ fn parted_next(work: &mut Running<'_>, code: &Code, n: i64) -> bool
     }
 }
 
-/// Executes the instruction at hand and the next one or two, if these are some that are done at once.
+/// Executes the instruction at hand and those behind it, if these are some that are done at once.
 #[inline]
 pub(crate) fn try_fused(work: &mut Running<'_>, instr: &Instr, code: &Code) -> bool
     requires { slice_get code.now.instrs work.old.at ≡ Some instr.now }

@@ -13,7 +13,7 @@ use std::alloc::{AllocError, Global};
 pub enum Refusal {
     /// The words are no listed form.
     Usage,
-    /// The source of the script failed.
+    /// A source failed: that of a script, of guards, or of a file to import or to execute.
     Unread,
     /// The script is refused, at this offset.
     Script { cause: Cause, at: u32 },

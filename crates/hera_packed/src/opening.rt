@@ -30,7 +30,7 @@ pub enum OpenFault {
     /// to it.
     #[error("the code is rejected")]
     Rejected { at: u32 },
-    /// No memory for what the bytes tell.
+    /// No memory for what the bytes tell, or code that asks `verify` for more looks at operands than it grants.
     #[error("out of memory")]
     Memory,
 }

@@ -1,6 +1,7 @@
 -- The rows of the table of typing for types as written and for statements.
 use Rattle.std.specs.Prelude.{ℕ, Bool, true, false, cond, List, [], ◌∷◌, ◌++◌, length, Option, Some, None, Result, Ok, Err, ◌||◌, nat_lt, is_some}
 use Rattle.hera_sets.specs.Rows.{holds}
+use Rattle.hera_meaning.specs.declared.schemas.TheConstants.{ATTRS_LIMIT}
 use Rattle.hera_meaning.specs.declared.schemas.Attr.{Attr}
 use Rattle.hera_meaning.specs.declared.schemas.RelDecl.{RelDecl}
 use Rattle.hera_meaning.specs.declared.trees.Shape.{Shape}
@@ -30,7 +31,7 @@ named_schema rels at None = Err (unknown at)
 -- an attribute behind these: a name that stands before, then the 17th
 abbrev pub field_row : List Attr → Field → Result Attr TypeFault
 field_row seen f = cond (holds (names_of seen) f.name.name) (Err (repeated f.name.at))
-    (cond (nat_lt (length seen) 16) (Ok (record { name = f.name.name; kind = f.kind })) (Err (too_many f.name.at)))
+    (cond (nat_lt (length seen) ATTRS_LIMIT) (Ok (record { name = f.name.name; kind = f.kind })) (Err (too_many f.name.at)))
 
 -- attributes behind these, each a check of its own
 abbrev pub fields_row : List Attr → List Field → Result (List Attr) TypeFault

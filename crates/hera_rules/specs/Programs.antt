@@ -1,6 +1,7 @@
 -- When a script is accepted: the four passes, each in the order of the text.
 use Rattle.std.specs.Prelude.{◌≡◌, ℕ, Bool, true, false, cond, List, [], ◌∷◌, ◌++◌, map, length, Option, Some, None, Result, Ok, Err, ◌+◌, ◌||◌, nat_lt}
 use Rattle.hera_sets.specs.Rows.{holds}
+use Rattle.hera_meaning.specs.declared.schemas.TheConstants.{RELATIONS_LIMIT}
 use Rattle.hera_meaning.specs.declared.schemas.RelDecl.{RelDecl}
 use Rattle.hera_meaning.specs.declared.trees.Shape.{Shape}
 use Rattle.hera_meaning.specs.Catalogues.{decl_name}
@@ -23,7 +24,7 @@ use Rattle.hera_rules.specs.Statements.{slots_of_acts, ElabActs, FirstActs}
 
 -- the name of a relation: no earlier relation has it, and it is not the 257th
 abbrev pub relation_name : List RelDecl → Word → Result (List ℕ) TypeFault
-relation_name rels w = cond (holds (map decl_name rels) w.name) (Err (repeated w.at)) (cond (nat_lt (length rels) 256) (Ok w.name) (Err (too_many w.at)))
+relation_name rels w = cond (holds (map decl_name rels) w.name) (Err (repeated w.at)) (cond (nat_lt (length rels) RELATIONS_LIMIT) (Ok w.name) (Err (too_many w.at)))
 
 -- relations behind these: the attributes of each, then its name
 abbrev pub relations_row : List RelDecl → List Relation_phrase → Result (List RelDecl) TypeFault

@@ -2,7 +2,7 @@
 --
 -- Where a phrase breaks several rules, the order is Unknown, Repeated, Impure, TooMany, Mismatch; of one kind
 -- the first in the text.
-use Rattle.std.specs.Prelude.{ℕ, find, filter, Bool, true, false, cond, not, List, [], ◌∷◌, ◌++◌, map, length, Option, Some, None, Result, Ok, Err, ◌&&◌, ◌||◌, nat_lt, is_some, ◌+◌}
+use Rattle.std.specs.Prelude.{ℕ, suc, find, filter, Bool, true, false, cond, not, List, [], ◌∷◌, ◌++◌, map, length, Option, Some, None, Result, Ok, Err, ◌&&◌, ◌||◌, nat_lt, is_some, ◌+◌}
 use Rattle.std.specs.List.{list_all}
 use Rattle.hera_sets.specs.Rows.{is_same, holds}
 use Rattle.hera_meaning.specs.declared.scalars.Kind.{Kind}
@@ -12,6 +12,7 @@ use Rattle.hera_meaning.specs.declared.scalars.Scalar.TheVariants.{Int as int_sc
 use Rattle.hera_meaning.specs.declared.scalars.Sign.{Sign}
 use Rattle.hera_meaning.specs.declared.scalars.Sign.TheVariants.{Plus, Minus}
 use Rattle.hera_meaning.specs.declared.scalars.RelId.{RelId}
+use Rattle.hera_meaning.specs.declared.schemas.TheConstants.{ATTRS_LIMIT}
 use Rattle.hera_meaning.specs.declared.schemas.Attr.{Attr}
 use Rattle.hera_meaning.specs.declared.schemas.Agg.{Agg}
 use Rattle.hera_meaning.specs.declared.schemas.Agg.TheVariants.{Count as count_agg, Sum as sum_agg, Min as min_agg, Max as max_agg}
@@ -259,7 +260,7 @@ attrs_of _ _ = []
 
 -- `[a = e]`: distinct names, at most 16, scalar values
 abbrev pub row_row : ℕ → List Word → List Typing → Result Typing TypeFault
-row_row at ws vs = unless (repeat_in [] ws) (cond (nat_lt 16 (length ws)) (Err (too_many at))
+row_row at ws vs = unless (repeat_in [] ws) (cond (nat_lt ATTRS_LIMIT (length ws)) (Err (too_many at))
     (given (list_all is_scalar (types_of vs)) (mismatch at) (typing (tuple (attrs_of ws vs)) (prim (MakeRow (attrs_of ws vs)) (exprs_from vs) at))))
 
 -- the types of a relation's kinds, in order
@@ -414,7 +415,7 @@ kinds_agree left right = list_all (λ a. list_all (λ b. not (is_same a.name b.n
 
 abbrev pub join_type : ℕ → Expr → Expr → Shape → Shape → Result Typing TypeFault
 join_type at e f (rel s) (rel t) =
-    cond (nat_lt (length s + length (lacking s t)) 17)
+    cond (nat_lt (length s + length (lacking s t)) (suc ATTRS_LIMIT))
     (given (kinds_agree s t) (mismatch at) (typing (rel (s ++ lacking s t)) (prim (join_op s t) (two_exprs e f) at)))
     (Err (too_many at))
 join_type at e f _ _ = Err (mismatch at)
@@ -461,7 +462,7 @@ group_attrs s by aggs = attrs_in s by ++ map (agg_attr s) aggs
 
 -- the faults of the results: a name that stands before, more than 16
 abbrev pub result_fault : ℕ → List Word → List Aggregate → Option TypeFault
-result_fault at by aggs = either (repeat_in [] by) (either (repeat_in (word_names by) (agg_words aggs)) (cond (nat_lt 16 (length by + length aggs)) (Some (too_many at)) None))
+result_fault at by aggs = either (repeat_in [] by) (either (repeat_in (word_names by) (agg_words aggs)) (cond (nat_lt ATTRS_LIMIT (length by + length aggs)) (Some (too_many at)) None))
 
 abbrev pub group_type : ℕ → List Word → List Aggregate → Expr → Shape → Result Typing TypeFault
 group_type at by aggs e (rel s) =

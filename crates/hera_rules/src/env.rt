@@ -2,6 +2,7 @@
 
 ghost use Rattle.std.specs.Prelude.{◌≡◌, ◌<◌, ◌≤◌, ◌++◌, [], ◌∷◌, length, IfSome, OnOk};
 ghost use Rattle.std.specs.Option.{option_map};
+ghost use Rattle.hera_meaning.specs.declared.schemas.TheConstants.{RELATIONS_LIMIT};
 ghost use Rattle.hera_meaning.specs.Deltas.{schema_of};
 ghost use Rattle.hera_sets.specs.Rows.{is_same};
 ghost use Rattle.hera_rules.specs.Environments.{relation_named};
@@ -61,13 +62,14 @@ pub struct Relations {
 
 impl Model for Relations {
     ghost use Rattle.std.specs.Prelude.{List, length, ◌≤◌};
+    ghost use Rattle.hera_meaning.specs.declared.schemas.TheConstants.{RELATIONS_LIMIT};
     ghost use Rattle.hera_meaning.specs.declared.schemas.RelDecl.{RelDecl};
 
     ghost Value = { List RelDecl };
 
     ghost view = { λ r. r.decls.items };
 
-    ghost invariant = { λ r. length r.decls.items ≤ 256 };
+    ghost invariant = { λ r. length r.decls.items ≤ RELATIONS_LIMIT };
 }
 
 /// What the global names of a script mean, and the host functions.
@@ -130,7 +132,7 @@ impl Relations {
     /// How many there are.
     pub fn len(&self) -> usize
         ensures count { result ≡ length self.now }
-        ensures few { length self.now ≤ 256 }
+        ensures few { length self.now ≤ RELATIONS_LIMIT }
     {
         self.decls.len()
     }
@@ -156,7 +158,7 @@ impl Relations {
 
     /// One relation more.
     pub fn push(&mut self, decl: RelDecl) -> Result<(), AllocError>
-        requires { length self.old < 256 }
+        requires { length self.old < RELATIONS_LIMIT }
         ensures { OnOk result (self.new ≡ self.old ++ decl ∷ []) }
     {
         self.decls.push(decl)?;
@@ -173,7 +175,7 @@ impl Relations {
     /// The declarations in order.
     pub fn decls(&self) -> &[RelDecl]
         ensures decls { result.now ≡ self.now }
-        ensures few { length self.now ≤ 256 }
+        ensures few { length self.now ≤ RELATIONS_LIMIT }
     {
         &self.decls
     }

@@ -40,7 +40,7 @@ use Rattle.hera_outcome.specs.declared.refusal.Refusal.{Refusal}
 use Rattle.hera_outcome.specs.declared.refusal.Refusal.TheVariants.{Differing}
 use Rattle.hera_outcome.specs.Answers.{number_of, IsFault}
 use Rattle.hera_outcome.specs.Cut.{IsCut}
-use Rattle.hera_outcome.specs.Outcomes.{Outcome, full, carried, text_of_outcome}
+use Rattle.hera_outcome.specs.Outcomes.{Outcome, too_long, text_of_outcome}
 use Rattle.hera_outcome.specs.Passages.{Passage, passage, Start, start, LeavesOnceOpened, ReadsAmong, syncs_all, fails_at}
 use Rattle.hera_outcome.specs.Told.{HasRisen, IsCause, IsDone, IsCutShort, IsToldBehind, IsGivenUp, IsPending, Tells, Answered}
 use Rattle.hera_outcome.proofs.Passing.{pending_on, given_up_there, untouched_by, cause_by, cause_on, answered_by}
@@ -410,17 +410,17 @@ module _ {D : Type 0} (q : output.Ghosts D) (w : files.Ghosts D) where
     unready_answered a c Memory (inl up) = inr up
     unready_answered a c Memory (inr (found, cause, same)) = cut_before a c 9 found cause same
     unready_answered a c Full (db, there, over_full, has, pend, stored, still) = inl (
-      carried db [] full,
+      too_long db,
       overflows there over_full has,
       record {
         ending = inl (record {
           own_status = refl;
           whole_text = subst (λ (e : Option (List ℕ)). Appends (q.emitted a) e []) (sym pend.unseen.emitted) (Appends-nil (q.emitted a));
-          files = stored;
+          files = pend.unseen.reads;
           output = pend.unseen.output;
           device = pend.device;
         });
-        moments = λ t. once_weaker a c _ _ (λ i here. cut_still db [] (q.emitted a) i here) (still t);
+        moments = still;
       },
     )
 

@@ -14,7 +14,7 @@ use Rattle.hera_store.specs.Databases.{Database, Names, FilesFound, IsFound, abs
 use Rattle.hera_store.specs.Faults.{half_with}
 use Rattle.hera_outcome.specs.declared.refusal.Refusal.{Refusal}
 use Rattle.hera_outcome.specs.declared.refusal.Refusal.TheVariants.{NoDatabase, Damaged, Differing}
-use Rattle.hera_outcome.specs.Outcomes.{Outcome, ends, full, refused, carried}
+use Rattle.hera_outcome.specs.Outcomes.{Outcome, ends, full, refused, too_long, carried}
 use Rattle.hera_outcome.specs.Passages.{Start}
 use Rattle.hera_run.specs.Fitting.{all_fit, fitting}
 
@@ -67,6 +67,6 @@ outcome_from db gate report = carried db (fitting (Some gate) report.events) (co
 pub data RunsTo (hosts : List Host) (turns : ℕ) (p : Program_tree) (v : Start) : Outcome → Type 0 where
   closed : {refusal : Refusal} → IsClosed v refusal → RunsTo hosts turns p v (refused refusal)
   differs : {db : Database} {name : List ℕ} → IsThere v (held db) → Differs db.catalogue p.relations name → RunsTo hosts turns p v (refused (Differing name))
-  overflows : {db : Database} → IsThere v (held db) → IsOverfull v db → AllHas db.catalogue p.relations → RunsTo hosts turns p v (carried db [] full)
+  overflows : {db : Database} → IsThere v (held db) → IsOverfull v db → AllHas db.catalogue p.relations → RunsTo hosts turns p v (too_long db)
   runs : {db : Database} {gate : ℕ} → IsThere v (held db) → IsStarting v db gate → AllHas db.catalogue p.relations
       → RunsTo hosts turns p v (outcome_from db gate (run_of (bound p db.catalogue) db.state (specs_of hosts) turns))

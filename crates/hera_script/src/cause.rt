@@ -5,7 +5,7 @@ ghost use Rattle.hera_script.specs.Labels.{label_of};
 /// faults of types, the first in the order of checking counts.
 #[derive(Clone, Copy, PartialEq, Eq, Debug)]
 pub enum Cause {
-    /// It has more than 1,048,576 bytes.
+    /// It has more bytes than are read: 1,048,576 of a script, 67,108,864 of a file to import, 16,777,216 of a code file.
     TooLong,
     /// It is not UTF-8.
     BadUtf8,

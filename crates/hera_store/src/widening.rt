@@ -1,5 +1,6 @@
 //! A database with new relations and new attributes, printed.
 ghost use Rattle.std.specs.Prelude.{◌≡◌, ◌≤◌, ◌<◌, None, Some, length, map, true, All, IfOk, IfErr, IfSome, OnOk};
+ghost use Rattle.hera_meaning.specs.declared.schemas.TheConstants.{RELATIONS_LIMIT};
 ghost use Rattle.hera_meaning.specs.Rows.{IsRow};
 ghost use Rattle.hera_meaning.specs.Catalogues.{IsCatalogue};
 ghost use Rattle.hera_meaning.specs.Wider.{is_prefix, keeps, Wider, first_narrowed, widened_row};
@@ -116,7 +117,7 @@ fn add_rows<S: Sorted>(
     new: &Schema,
     rows: &S,
 ) -> Result<(), HalfFault>
-    requires more { writer.old.added < 256 }
+    requires more { writer.old.added < RELATIONS_LIMIT }
     requires prefix { is_prefix old.now new.now ≡ true }
     requires rows { All (IsRow old.now) (S.rows rows.now) }
     requires wide { AreRows (map (widened_row old.now new.now) (S.rows rows.now)) }
@@ -141,7 +142,7 @@ fn add_relation(
     commits: &[Delta],
     decl: &RelDecl,
 ) -> Result<(), HalfFault>
-    requires more { writer.old.added < 256 }
+    requires more { writer.old.added < RELATIONS_LIMIT }
     requires over { AreOver base.now commits.now }
     requires kept { BeginsAs base.now.catalogue decl.now }
     requires wide { AreRows (rows_under base.now commits.now decl.now) }

@@ -1,5 +1,6 @@
 ghost use Rattle.std.specs.Prelude.{◌≡◌, ◌<◌, false, [], ◌∷◌, ◌++◌, map, length, IfOk, OnOk};
 ghost use Rattle.hera_sets.specs.Rows.{holds};
+ghost use Rattle.hera_meaning.specs.declared.schemas.TheConstants.{RELATIONS_LIMIT};
 ghost use Rattle.hera_meaning.specs.Catalogues.{IsCatalogue, IsDecl, decl_name};
 
 use hera_meaning::RelDecl;
@@ -10,7 +11,7 @@ use std::alloc::{AllocError, Global};
 fn add_relation(catalogue: &mut Catalogue, relation: &RelDecl) -> Result<(), AllocError>
     requires decl { IsDecl relation.now }
     requires new { holds (map decl_name catalogue.old) relation.now.name ≡ false }
-    requires few { length catalogue.old < 256 }
+    requires few { length catalogue.old < RELATIONS_LIMIT }
     ensures { OnOk result (catalogue.new ≡ catalogue.old ++ relation.now ∷ []) }
 {
     match catalogue.add(relation.name.copy()?, relation.schema.copy()?) {

@@ -26,7 +26,7 @@ use Rattle.hera_outcome.specs.declared.answer.Stop.TheVariants.{Refused, Device,
 use Rattle.hera_outcome.specs.declared.refusal.Refusal.TheVariants.{NoRelation}
 use Rattle.hera_outcome.specs.Answers.{number_of, IsFault}
 use Rattle.hera_outcome.specs.Cut.{IsCut}
-use Rattle.hera_outcome.specs.Outcomes.{Outcome, full, carried, text_of_outcome}
+use Rattle.hera_outcome.specs.Outcomes.{Outcome, too_long, text_of_outcome}
 use Rattle.hera_outcome.specs.Passages.{Passage, passage, Start, start, start_of, LeavesOnceOpened, ReadsAmong, Stores, syncs_all}
 use Rattle.hera_outcome.specs.Told.{IsCause, IsDone, IsCutShort, IsToldBehind, IsPending, Tells, Answered}
 use Rattle.hera_outcome.proofs.Passing.{given_up_there, cause_by, answered_by}
@@ -123,18 +123,17 @@ module _ (name file : List ℕ) {D : Type 0} (q : output.Ghosts D) (w : files.Gh
       unready_answered c Full (other, there, past, has, pending, stored, still) =
           let same = same_found other there in
           inl (
-            carried db [] full,
+            too_long db,
             overflows opened.there good_here (λ t. subst (λ (x : Database). Overfills (λ f. (w.disk a f).bytes) x) (same t) (past t)),
             record {
               ending = inl (record {
                 own_status = refl;
                 whole_text = subst (λ (e : Option (List ℕ)). Appends (q.emitted a) e []) (sym pending.unseen.emitted) (Appends-nil (q.emitted a));
-                files = λ t. subst (λ (x : Database). Stores x (over a c)) (same t) (stored t);
+                files = pending.unseen.reads;
                 output = pending.unseen.output;
                 device = pending.device;
               });
-              moments = λ t. once_weaker q w a c (IsStill db (q.emitted a)) (IsCut [] db (q.emitted a)) (λ i here. cut_still q w db [] (q.emitted a) i here)
-                  (subst (λ (x : Database). LeavesOnceOpened w.disk q.emitted w.moment w.left_since w.synced_at a c (IsStill x (q.emitted a))) (same t) (still t));
+              moments = λ t. subst (λ (x : Database). LeavesOnceOpened w.disk q.emitted w.moment w.left_since w.synced_at a c (IsStill x (q.emitted a))) (same t) (still t);
             },
           )
 

@@ -13,7 +13,7 @@ use Rattle.hera_csv.specs.Writers.{csv_of}
 use Rattle.hera_store.specs.Databases.{Database, held}
 use Rattle.hera_outcome.specs.declared.refusal.Refusal.{Refusal}
 use Rattle.hera_outcome.specs.declared.refusal.Refusal.TheVariants.{NoRelation, Record as bad_record}
-use Rattle.hera_outcome.specs.Outcomes.{Outcome, full, refused, prints, carried}
+use Rattle.hera_outcome.specs.Outcomes.{Outcome, refused, prints, too_long}
 use Rattle.hera_outcome.specs.Passages.{Start}
 use Rattle.hera_transfer.specs.declared.adding.TheConstants.{DATA_LIMIT}
 use Rattle.hera_run.specs.Folder.{IsThere, IsClosed, IsStarting, IsOverfull, outcome_from}
@@ -64,5 +64,5 @@ pub data ImportsTo (name file : List ℕ) (v : Start) : Outcome → Type 0 where
   lacks : {db : Database} → IsThere v (held db) → number_named name db.catalogue ≡ None → ImportsTo name file v (refused NoRelation)
   refuses : {db : Database} {rel number : ℕ} → IsThere v (held db) → number_named name db.catalogue ≡ Some rel → bad_in (schema_of db.catalogue rel) (records_of file) ≡ Some number
       → ImportsTo name file v (refused (bad_record number))
-  overflows : {db : Database} {rel : ℕ} → IsThere v (held db) → IsGood db name file rel → IsOverfull v db → ImportsTo name file v (carried db [] full)
+  overflows : {db : Database} {rel : ℕ} → IsThere v (held db) → IsGood db name file rel → IsOverfull v db → ImportsTo name file v (too_long db)
   imports : {db : Database} {rel gate : ℕ} → IsThere v (held db) → IsGood db name file rel → IsStarting v db gate → ImportsTo name file v (outcome_from db gate (import_of db rel file))

@@ -73,47 +73,25 @@ fn bytes_are_refused_before_tokens(rt: HostRuntime) -> Result<(), Fail> {
 const CODE: &[u8] =
     b"HERACODE\0\0\0\0\0\x01\0\0\0\0\0\0\0\0\0\0\0\0\0\0\0\0\0\x05\0\0\x80\0\0\0\0\0\0\x0e\x14\0\0\0\x80\0\0\0\0\0\0\x0f\x14\0\x19";
 
+const SCRIPT: &[u8] = b"main { print 14; print 15; }";
+
 #[test]
-fn faults_end_the_call(rt: HostRuntime) -> Result<(), Fail> {
+fn an_output_that_fails_ends_the_call(rt: HostRuntime) -> Result<(), Fail> {
     let alloc = rt.alloc();
     let eval: &[&str] = &["eval", "100", "f"];
     let exec: &[&str] = &["exec", "100", "f"];
     let pack: &[&str] = &["pack", "f"];
-    let script: &[u8] = b"main { print 14; print 15; }";
-    let cases: [(&[&str], &[u8], &[Piece], &[Piece], &[u8], u8); 8] = [
-        (eval, script, &[], &[Piece::Take(1), Piece::Fail], b"1", 8),
-        (
-            eval,
-            script,
-            &[],
-            &[Piece::Take(3), Piece::Take(1), Piece::Fail],
-            b"14\n1",
-            8,
-        ),
-        (eval, script, &[Piece::Fail], &[], b"script unread\n", 7),
-        (
-            exec,
-            CODE,
-            &[],
-            &[Piece::Take(3), Piece::Take(1), Piece::Fail],
-            b"14\n1",
-            8,
-        ),
-        (exec, CODE, &[Piece::Fail], &[], b"script unread\n", 7),
-        (pack, script, &[], &[], CODE, 0),
-        (
-            pack,
-            script,
-            &[],
-            &[Piece::Take(4), Piece::Fail],
-            b"HERA",
-            8,
-        ),
-        (pack, script, &[Piece::Fail], &[], b"script unread\n", 7),
+    let at_the_second: &[Piece] = &[Piece::Take(3), Piece::Take(1), Piece::Fail];
+    let cases: [(&[&str], &[u8], &[Piece], &[u8], u8); 5] = [
+        (eval, SCRIPT, &[Piece::Take(1), Piece::Fail], b"1", 8),
+        (eval, SCRIPT, at_the_second, b"14\n1", 8),
+        (exec, CODE, at_the_second, b"14\n1", 8),
+        (pack, SCRIPT, &[Piece::Take(4), Piece::Fail], b"HERA", 8),
+        (pack, SCRIPT, &[], CODE, 0),
     ];
-    for (line, text, reads, emissions, output, status) in cases {
+    for (line, text, emissions, output, status) in cases {
         let words = words_in(alloc, line)?;
-        let mut sources = source_of(alloc, text, reads)?;
+        let mut sources = source_of(alloc, text, &[])?;
         check(
             &rt,
             alloc,
@@ -122,6 +100,30 @@ fn faults_end_the_call(rt: HostRuntime) -> Result<(), Fail> {
             emissions.to_vec(alloc)?,
             output,
             status,
+        );
+    }
+    Ok(())
+}
+
+#[test]
+fn a_source_that_fails_ends_the_call(rt: HostRuntime) -> Result<(), Fail> {
+    let alloc = rt.alloc();
+    let cases: [(&[&str], &[u8]); 3] = [
+        (&["eval", "100", "f"], SCRIPT),
+        (&["exec", "100", "f"], CODE),
+        (&["pack", "f"], SCRIPT),
+    ];
+    for (line, text) in cases {
+        let words = words_in(alloc, line)?;
+        let mut sources = source_of(alloc, text, &[Piece::Fail])?;
+        check(
+            &rt,
+            alloc,
+            &words,
+            &mut sources,
+            Vec::new(alloc),
+            b"script unread\n",
+            7,
         );
     }
     Ok(())

@@ -13,7 +13,7 @@ ghost use Rattle.hera_meaning.specs.declared.trees.Op.TheVariants as ops;
 ghost use Rattle.hera_meaning.specs.declared.trees.Shape.TheVariants as shapes;
 ghost use Rattle.hera_rules.specs.declared.fault.TypeFault.TheVariants as fault;
 
-use hera_meaning::{Agg, Aggs, Attr, Kind, Op, Schema, Shape};
+use hera_meaning::{ATTRS_LIMIT, Agg, Aggs, Attr, Kind, Op, Schema, Shape};
 use hera_rules::{Aggregate, Fold, Measured, TypeFault, Typed, Word};
 use hera_types_parts::{
     NameSet, Operation, add_attrs, distinct_names, kind_named, made, measured, on_one,
@@ -59,7 +59,7 @@ fn check_results(alloc: Global, at: u32, by: &[Word], aggs: &[Aggregate]) -> Res
 {
     let names = distinct_names(alloc, by)?;
     distinct_aggs(names, aggs)?;
-    if aggs.len() > 16 || by.len() > 16 - aggs.len() {
+    if aggs.len() > ATTRS_LIMIT || by.len() > ATTRS_LIMIT - aggs.len() {
         return Err(TypeFault::TooMany { at });
     }
     Ok(())

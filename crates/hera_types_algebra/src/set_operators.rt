@@ -14,7 +14,7 @@ ghost use Rattle.hera_meaning.specs.declared.trees.Op.TheVariants as ops;
 ghost use Rattle.hera_meaning.specs.declared.trees.Shape.TheVariants as shapes;
 ghost use Rattle.hera_rules.specs.declared.fault.TypeFault.TheVariants as fault;
 
-use hera_meaning::{Attr, Op, Schema, Shape};
+use hera_meaning::{ATTRS_LIMIT, Attr, Op, Schema, Shape};
 use hera_rules::{Pair, TypeFault, Typed, Word};
 use hera_sets::is_same;
 use hera_types_parts::{
@@ -216,7 +216,7 @@ fn joining(alloc: Global, at: u32, left: &Typed, right: &Typed) -> Result<Operat
         return Err(TypeFault::Mismatch { at });
     };
     let attrs = joined_attrs(alloc, own, other)?;
-    if attrs.len() > 16 {
+    if attrs.len() > ATTRS_LIMIT {
         return Err(TypeFault::TooMany { at });
     }
     if !agree(own, other) {

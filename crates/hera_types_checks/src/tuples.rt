@@ -13,7 +13,7 @@ ghost use Rattle.std.specs.Prelude.{IfErr, IfOk, length, ◌≡◌};
 ghost use Rattle.hera_rules.specs.declared.fault.TypeFault.TheVariants as fault;
 
 use crate::calls::take_kinds;
-use hera_meaning::{Attr, Const, Core, Kind, Link, Op, Schema, Shape, Sign};
+use hera_meaning::{ATTRS_LIMIT, Attr, Const, Core, Kind, Link, Op, Schema, Shape, Sign};
 use hera_rules::{TypeFault, Typed, Word};
 use hera_syntax::Token;
 use hera_types_parts::{
@@ -82,7 +82,7 @@ pub fn check_row(
     ensures { Gives typing_of result (row_row at words.items (typings_of values.items)) }
 {
     distinct_names(alloc, &words)?;
-    if words.len() > 16 {
+    if words.len() > ATTRS_LIMIT {
         return Err(TypeFault::TooMany { at });
     }
     if !all_scalars(&values) {

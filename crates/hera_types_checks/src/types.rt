@@ -8,7 +8,7 @@ ghost use Rattle.hera_rules.specs.ReadActs.{field_of, fields_of, schema_phrase, 
 ghost use Rattle.hera_sets.specs.Rows.{holds};
 ghost use Rattle.std.specs.Prelude.{[], ◌≡◌};
 
-use hera_meaning::{Attr, Schema, Shape};
+use hera_meaning::{ATTRS_LIMIT, Attr, Schema, Shape};
 use hera_rules::{Relations, TypeFault};
 use hera_sets::is_same;
 use hera_syntax::{AttrTree, Attrs, SchemaTree, TypeTree};
@@ -36,7 +36,7 @@ fn check_written(alloc: Global, attrs: &[Attr], tree: &AttrTree) -> Result<Attr,
     if has_attr_of(attrs, name_bytes(&tree.name)) {
         return Err(TypeFault::Repeated { at: tree.name.at });
     }
-    if attrs.len() >= 16 {
+    if attrs.len() >= ATTRS_LIMIT {
         return Err(TypeFault::TooMany { at: tree.name.at });
     }
     let name = name_copy(alloc, &tree.name)?;

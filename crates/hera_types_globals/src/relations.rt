@@ -2,6 +2,7 @@
 
 ghost use Rattle.std.specs.Prelude.{◌≡◌, ◌<◌, [], OnOk, map, length};
 ghost use Rattle.hera_sets.specs.Rows.{holds};
+ghost use Rattle.hera_meaning.specs.declared.schemas.TheConstants.{RELATIONS_LIMIT};
 ghost use Rattle.hera_meaning.specs.Catalogues.{decl_name};
 ghost use Rattle.hera_rules.specs.Agrees.{Gives};
 ghost use Rattle.hera_rules.specs.Programs.{relation_name, relations_row};
@@ -9,7 +10,7 @@ ghost use Rattle.hera_types_globals.specs.Passes.{relation_row};
 ghost use Rattle.hera_rules.specs.Read.{word_of};
 ghost use Rattle.hera_rules.specs.ReadActs.{relation_phrase};
 
-use hera_meaning::{Name, RelDecl};
+use hera_meaning::{Name, RELATIONS_LIMIT, RelDecl};
 use hera_rules::{Relations, TypeFault};
 use hera_syntax::{Relation, Token};
 use hera_types_checks::check_fields;
@@ -26,12 +27,12 @@ fn is_declared(relations: &Relations, name: &[u8]) -> bool
 /// The name of a relation: no earlier relation has it, and it is not the 257th.
 fn relation_name_of(alloc: Global, relations: &Relations, token: &Token) -> Result<Name, TypeFault>
     ensures name { Gives (λ name. name) result (relation_name relations.now (word_of token.now)) }
-    ensures few { OnOk result (length relations.now < 256) }
+    ensures few { OnOk result (length relations.now < RELATIONS_LIMIT) }
 {
     if is_declared(relations, name_bytes(token)) {
         return Err(TypeFault::Repeated { at: token.at });
     }
-    if relations.len() >= 256 {
+    if relations.len() >= RELATIONS_LIMIT {
         return Err(TypeFault::TooMany { at: token.at });
     }
     name_copy(alloc, token)
@@ -40,7 +41,7 @@ fn relation_name_of(alloc: Global, relations: &Relations, token: &Token) -> Resu
 /// The declaration of a relation behind these.
 fn relation_of(alloc: Global, relations: &Relations, tree: &Relation) -> Result<RelDecl, TypeFault>
     ensures decl { Gives (λ decl. decl) result (relation_row relations.now (relation_phrase tree.now)) }
-    ensures few { OnOk result (length relations.now < 256) }
+    ensures few { OnOk result (length relations.now < RELATIONS_LIMIT) }
 {
     let attrs = check_fields(alloc, &tree.attrs)?;
     let name = relation_name_of(alloc, relations, &tree.name)?;

@@ -23,7 +23,8 @@ pub enum VerifyFault {
     /// it.
     #[error("the code is rejected")]
     Rejected { at: u32 },
-    /// No memory for what is known at its addresses.
+    /// No memory for what is known at its addresses, or calls and relations that take more looks at operands than `verify`
+    /// grants the code.
     #[error("out of memory")]
     Memory,
 }

@@ -19,7 +19,7 @@ use Rattle.hera_outcome.specs.declared.answer.Stop.{Stop}
 use Rattle.hera_outcome.specs.declared.answer.Stop.TheVariants.{Refused, Device, Output, Memory, Full}
 use Rattle.hera_outcome.specs.Answers.{number_of, IsFault}
 use Rattle.hera_outcome.specs.Cut.{IsCut}
-use Rattle.hera_outcome.specs.Outcomes.{Outcome, full, carried, text_of_outcome}
+use Rattle.hera_outcome.specs.Outcomes.{Outcome, too_long, text_of_outcome}
 use Rattle.hera_outcome.specs.Passages.{Passage, passage, start, LeavesOnceOpened, ReadsAmong, syncs_all}
 use Rattle.hera_outcome.specs.Told.{IsCause, IsDone, IsCutShort, IsToldBehind, Tells, Answered}
 use Rattle.hera_outcome.proofs.Passing.{given_up_none, given_up_there, cause_by, answered_by}
@@ -77,17 +77,17 @@ module _ {D : Type 0} (q : output.Ghosts D) (w : files.Ghosts D) (read : (a c : 
   unready_answered a c Memory (inl up) = inr up
   unready_answered a c Memory (inr (found, cause, same)) = cut_before a c 9 found cause same
   unready_answered a c Full (db, there, over_full, has, pend, stored, still) = inl (
-    carried db [] full,
+    too_long db,
     overflows there over_full has,
     record {
       ending = inl (record {
         own_status = refl;
         whole_text = subst (λ (e : Option (List ℕ)). Appends (q.emitted a) e []) (sym pend.unseen.emitted) (Appends-nil (q.emitted a));
-        files = stored;
+        files = pend.unseen.reads;
         output = pend.unseen.output;
         device = pend.device;
       });
-      moments = λ t. once_weaker q w a c _ _ (λ i here. cut_still q w db [] (q.emitted a) i here) (still t);
+      moments = still;
     },
   )
 

@@ -14,7 +14,7 @@ use Rattle.hera_sessions.specs.Turns.{open_from, IsOrdered}
 use Rattle.hera_store.specs.Databases.{Database, held}
 use Rattle.hera_outcome.specs.declared.refusal.Refusal.{Refusal}
 use Rattle.hera_outcome.specs.declared.refusal.Refusal.TheVariants.{Differing}
-use Rattle.hera_outcome.specs.Outcomes.{Outcome, full, refused, carried}
+use Rattle.hera_outcome.specs.Outcomes.{Outcome, refused, too_long}
 use Rattle.hera_outcome.specs.Passages.{Start}
 use Rattle.hera_run.specs.Folder.{IsThere, IsClosed, IsStarting, IsOverfull, outcome_from}
 
@@ -48,7 +48,7 @@ report_of tasks s0 schedule hosts = record { events = weave_of tasks s0 schedule
 pub data WeavesTo (hosts : List Host) (turns order : ℕ) (ps : List Program_tree) (v : Start) : Outcome → Type 0 where
   closed : {refusal : Refusal} → IsClosed v refusal → WeavesTo hosts turns order ps v (refused refusal)
   differs : {db : Database} {name : List ℕ} → IsThere v (held db) → Differs db.catalogue (relations_of ps) name → WeavesTo hosts turns order ps v (refused (Differing name))
-  overflows : {db : Database} → IsThere v (held db) → IsOverfull v db → AllHas db.catalogue (relations_of ps) → WeavesTo hosts turns order ps v (carried db [] full)
+  overflows : {db : Database} → IsThere v (held db) → IsOverfull v db → AllHas db.catalogue (relations_of ps) → WeavesTo hosts turns order ps v (too_long db)
   weaves : {db : Database} {gate : ℕ} {schedule : List ℕ} → IsThere v (held db) → IsStarting v db gate → AllHas db.catalogue (relations_of ps)
       → IsWhole (tasks_of turns (all_bound db.catalogue ps)) db.state (specs_of hosts) order schedule
       → WeavesTo hosts turns order ps v (outcome_from db gate (report_of (tasks_of turns (all_bound db.catalogue ps)) db.state schedule (specs_of hosts)))

@@ -9,3 +9,4 @@ mod Complete
 mod Covered
 mod Evaluated
 mod Packed
+mod Serial

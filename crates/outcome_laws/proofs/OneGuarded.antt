@@ -23,7 +23,7 @@ use Rattle.hera_guarded.specs.Reading.{IsWritten, IsRulesRefused, too_long, bad_
 use Rattle.hera_guarded.proofs.Named.{one_mean, one_fault, never_unfit}
 use Rattle.hera_outcome.specs.declared.refusal.Refusal.{Refusal}
 use Rattle.hera_outcome.specs.declared.refusal.Refusal.TheVariants.{Unread, Script, Differing}
-use Rattle.hera_outcome.specs.Outcomes.{Outcome, refused, carried, full}
+use Rattle.hera_outcome.specs.Outcomes.{Outcome, refused, too_long as too_long_half}
 use Rattle.hera_outcome.specs.Passages.{Start}
 use Rattle.hera_run.specs.Folder.{IsThere, StartsAt}
 use Rattle.hera_top.specs.Guarding.{AreLinesOf, misses_rules, refuses_rules, GuardsFor, refuses, performs, misses_script, reads_script, OfRules, no_lines, has_lines}
@@ -144,7 +144,7 @@ module _ (found : OneFound) (end : OneEnd) (version : OneVersion) (files : FileI
     one_guarded _ _ (barred {refusal = r} x) (overflows {db = db} {guards = gs} y over has mean) = absurd (barred_or_fits r db gs x y has mean)
     one_guarded _ _ (barred {refusal = r} x) (runs {db = db} {guards = gs} y ends has mean) = absurd (barred_or_fits r db gs x y has mean)
     one_guarded _ _ (overflows {db = db} {guards = gs} x over has mean) (barred {refusal = r} y) = absurd (fits_or_barred db r gs x has mean y)
-    one_guarded _ _ (overflows {db = db} x over has mean) (overflows {db = other} y past too means) = ap (λ (d : Database). carried d [] full) (same db other x y)
+    one_guarded _ _ (overflows {db = db} x over has mean) (overflows {db = other} y past too means) = ap too_long_half (same db other x y)
     one_guarded _ _ (overflows {db = db} x over has mean) (runs {db = other} {gate = n} y ends too means) =
         absurd (full_or_starts end version files db n (full_first found end version files s t told also first second db over) (subst (λ (d : Database). StartsAt files d n) (sym (same db other x y)) (starts_second found end version files s t told also first second other n ends)))
     one_guarded _ _ (runs {db = db} {guards = gs} x starts has mean) (barred {refusal = r} y) = absurd (fits_or_barred db r gs x has mean y)

@@ -26,7 +26,7 @@ use Rattle.hera_meaning.proofs.WiderLaws.{wider_narrows_none}
 use Rattle.std.proofs.lemmas.Option.{none-some, same_Some}
 use Rattle.hera_outcome.specs.declared.refusal.Refusal.{Refusal}
 use Rattle.hera_outcome.specs.declared.refusal.Refusal.TheVariants.{Unread, Script, Damaged, Differing, Narrows, Record as bad_record}
-use Rattle.hera_outcome.specs.Outcomes.{Outcome, refused, prints, renewed, widened, too_long, carried, full}
+use Rattle.hera_outcome.specs.Outcomes.{Outcome, refused, prints, renewed, widened, too_long}
 use Rattle.hera_outcome.specs.Passages.{Start}
 use Rattle.hera_run.specs.Folder.{IsThere, IsClosed, finds_none, finds_damage, IsReplaced, StartsAt, Overfills, IsStarting, IsOverfull, outcome_from, RunsTo, closed as run_closed, differs, overflows as run_overflows, runs as run_runs}
 use Rattle.hera_row.specs.Numbers.{number_named}
@@ -225,7 +225,7 @@ module _ (one : OneFound) (end : OneEnd) (version : OneVersion) (files : FileId 
     one_run _ _ (run_overflows {db = db} x o h) (run_closed {refusal = r} y) = absurd (held_or_closed db r x y)
     one_run _ _ (run_overflows {db = db} x o h) (differs {db = other} {name = m} y bad) =
         absurd (lacks_none other.catalogue p.relations m bad (subst (λ (d : Database). AllHas d.catalogue p.relations) (same_db db other x y) h))
-    one_run _ _ (run_overflows {db = db} x o h) (run_overflows {db = other} y q g) = ap (λ (d : Database). carried d [] full) (same_db db other x y)
+    one_run _ _ (run_overflows {db = db} x o h) (run_overflows {db = other} y q g) = ap too_long (same_db db other x y)
     one_run _ _ (run_overflows {db = db} x o h) (run_runs {db = other} {gate = m} y f g) =
         absurd (full_or_starts end version files db m (full_first db o) (subst (λ (d : Database). StartsAt files d m) (sym (same_db db other x y)) (starts_second other m f)))
     one_run _ _ (run_runs {db = db} x e h) (run_closed {refusal = r} y) = absurd (held_or_closed db r x y)
@@ -353,7 +353,7 @@ module _ (one : OneFound) (end : OneEnd) (version : OneVersion) (files : FileId 
       one_imported _ _ (import_overflows {db = db} {rel = m} x good past) (import_closed {refusal = q} y) = absurd (held_or_closed db q x y)
       one_imported _ _ (import_overflows {db = db} {rel = m} x good past) (import_lacks {db = other} y nothing) = absurd (named_or_none db other m (same_db db other x y) good.named nothing)
       one_imported _ _ (import_overflows {db = db} {rel = m} x good past) (import_refuses {db = other} {rel = n} {number = j} y also worse) = absurd (bad_or_good other db n m j (sym (same_db db other x y)) also worse good)
-      one_imported _ _ (import_overflows {db = db} {rel = m} x good past) (import_overflows {db = other} {rel = n} y fine over) = ap (λ (d : Database). carried d [] full) (same_db db other x y)
+      one_imported _ _ (import_overflows {db = db} {rel = m} x good past) (import_overflows {db = other} {rel = n} y fine over) = ap too_long (same_db db other x y)
       one_imported _ _ (import_overflows {db = db} {rel = m} x good past) (imports {db = other} {rel = n} {gate = h} y fine ends) = absurd (full_or_starts end version files db h (full_first db past) (subst (λ (d : Database). StartsAt files d h) (sym (same_db db other x y)) (starts_second other h ends)))
       one_imported _ _ (imports {db = db} {rel = m} {gate = g} x good starts) (import_closed {refusal = q} y) = absurd (held_or_closed db q x y)
       one_imported _ _ (imports {db = db} {rel = m} {gate = g} x good starts) (import_lacks {db = other} y nothing) = absurd (named_or_none db other m (same_db db other x y) good.named nothing)

@@ -15,7 +15,7 @@ use Rattle.hera_volume.specs.declared.file_id.FileId.{FileId}
 use Rattle.hera_store.specs.Databases.{Database, held}
 use Rattle.hera_outcome.specs.declared.refusal.Refusal.{Refusal}
 use Rattle.hera_outcome.specs.declared.refusal.Refusal.TheVariants.{Unread, Script, Differing}
-use Rattle.hera_outcome.specs.Outcomes.{Outcome, refused, prints, carried, full}
+use Rattle.hera_outcome.specs.Outcomes.{Outcome, refused, prints, too_long}
 use Rattle.hera_outcome.specs.Passages.{Start}
 use Rattle.hera_run.specs.Folder.{IsThere, StartsAt, outcome_from}
 use Rattle.hera_woven.specs.Weaving.{relations_of, all_bound, tasks_of, IsWhole, report_of, WeavesTo, closed, differs, overflows, weaves}
@@ -119,7 +119,7 @@ module _ (found : OneFound) (end : OneEnd) (version : OneVersion) (files : FileI
     one_woven _ _ (differs {db = db} {name = m} x bad) (weaves {db = other} y ends has whole) = absurd (lacks_or_has db other m (same db other x y) bad has)
     one_woven _ _ (overflows {db = db} x over has) (closed {refusal = r} y) = absurd (held_or_closed found end version files s t told also first second db r x y)
     one_woven _ _ (overflows {db = db} x over has) (differs {db = other} {name = n} y bad) = absurd (lacks_or_has other db n (sym (same db other x y)) bad has)
-    one_woven _ _ (overflows {db = db} x over has) (overflows {db = other} y past too) = ap (λ (d : Database). carried d [] full) (same db other x y)
+    one_woven _ _ (overflows {db = db} x over has) (overflows {db = other} y past too) = ap too_long (same db other x y)
     one_woven _ _ (overflows {db = db} x over has) (weaves {db = other} {gate = n} y ends too whole) =
         absurd (full_or_starts end version files db n (full_first found end version files s t told also first second db over) (subst (λ (d : Database). StartsAt files d n) (sym (same db other x y)) (starts_second found end version files s t told also first second other n ends)))
     one_woven _ _ (weaves {db = db} x starts has whole) (closed {refusal = r} y) = absurd (held_or_closed found end version files s t told also first second db r x y)

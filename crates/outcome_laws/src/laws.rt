@@ -2,7 +2,8 @@
 
 ghost use Rattle.std.specs.Prelude.{◌≡◌, ◌≢◌, ◌≤◌, ◌↔◌, ◌⊎◌, ℕ, true, false, List, [], ◌∷◌, Some, length, codes};
 ghost use Rattle.hera_causes.specs.Causes.{Rose};
-ghost use Rattle.hera_meaning.specs.Run.{Report, run_of};
+ghost use Rattle.hera_meaning.specs.Deltas.{IsState};
+ghost use Rattle.hera_meaning.specs.Run.{Report, run_of, state_after};
 ghost use Rattle.hera_meaning.specs.Trees.{Program_tree};
 ghost use Rattle.hera_host.specs.Tables.{Host, AreHosts, specs_of};
 ghost use Rattle.hera_rules.specs.Accepted.{Accepted};
@@ -11,6 +12,8 @@ ghost use Rattle.hera_bind.specs.Having.{AllHas};
 ghost use Rattle.hera_bind.specs.Meaning.{Means};
 ghost use Rattle.hera_script.specs.Refusing.{IsRefused};
 ghost use Rattle.hera_script.specs.declared.cause.Cause.{Cause};
+ghost use Rattle.hera_sessions.specs.Sessions.{serial_of};
+ghost use Rattle.hera_sessions.specs.Weaving.{AreTasks, woven, weave_of, committers, commit_texts};
 ghost use Rattle.hera_syntax.specs.Tokens.{script_limit};
 ghost use Rattle.hera_store.specs.Databases.{Database, Holds};
 ghost use Rattle.hera_volume.specs.declared.file_id.FileId.{FileId};
@@ -21,11 +24,13 @@ ghost use Rattle.hera_outcome.specs.Told.{IsDone};
 ghost use Rattle.hera_outcome.specs.declared.refusal.Refusal.{Refusal};
 ghost use Rattle.hera_run.specs.Fitting.{all_fit};
 ghost use Rattle.hera_run.specs.Folder.{StartsAt};
+ghost use Rattle.hera_woven.specs.Weaving.{relations_of, all_bound, tasks_of};
 ghost use Rattle.hera_words.specs.declared.command.Command.{Command};
 ghost use Rattle.hera_words.specs.Words.{form_of};
 ghost use Rattle.hera_packed.specs.Executed.{ExecutesTo};
 ghost use Rattle.hera_top.specs.Coding.{PrintsPack, PacksTo};
 ghost use Rattle.hera_top.specs.Commands.{ComesToFor, ComesTo, ReadsScript, Answers};
+ghost use Rattle.hera_top.specs.Scripts.{AreAccepting};
 ghost use Rattle.hera_top.specs.Sources.{Seen, IsRead, OneFailed};
 ghost use Rattle.hera_top.specs.Told.{BeginsWith, full_sources};
 
@@ -36,6 +41,7 @@ use hera_packed::{a_file_comes_to_one_outcome, a_packed_program_does_what_it_mea
 use hera_readings::{faults_have_places, some_tokens, some_tree};
 use hera_rules::typing_is_exact;
 use hera_script::{a_script_has_one_answer, accepted_programs_are_sound};
+use hera_sessions::sessions_that_commit_are_serial;
 use hera_store::laws::one_thing_is_found;
 use hera_volume::Outside;
 use hera_woven::laws::a_number_tells_one_schedule;
@@ -172,4 +178,20 @@ pub fn an_evaluation_is_the_meaning<W: Outside>()
 {
     accepted_programs_are_sound();
     a_program_is_bound_to_its_own_relations();
+}
+
+/// The sessions of `weave`, of accepted scripts bound to the catalogue of the database that the files hold, in whatever order
+/// of their steps. Their programs are sound and have its relations, so each law of sessions holds of them. Those that commit
+/// print what they would one after another, in the order of their commits, and the state stored is the one that these leave.
+pub fn a_weave_is_serial()
+    ensures sessions { (hosts : List Host) (turns : ℕ) (before now : List Seen) (ps : List Program_tree) (files : FileId → List ℕ) (db : Database)
+        → AreHosts hosts → AreAccepting hosts before now ps → Holds files db → AllHas db.catalogue (relations_of ps)
+        → AreTasks (specs_of hosts) db.catalogue (tasks_of turns (all_bound db.catalogue ps)) × IsState db.catalogue db.state }
+    ensures serial { (hosts : List Host) (turns : ℕ) (before now : List Seen) (ps : List Program_tree) (files : FileId → List ℕ) (db : Database) (schedule : List ℕ)
+        → AreHosts hosts → AreAccepting hosts before now ps → Holds files db → AllHas db.catalogue (relations_of ps)
+        → let tasks = tasks_of turns (all_bound db.catalogue ps) in let w = woven tasks db.state (specs_of hosts) schedule in
+        serial_of (specs_of hosts) (committers tasks w.closings) db.state ≡ record { outputs = commit_texts w.closings; state = state_after db.state (weave_of tasks db.state schedule (specs_of hosts)) } }
+{
+    accepted_programs_are_sound();
+    sessions_that_commit_are_serial();
 }

@@ -58,21 +58,13 @@ fn sessions_commit_or_meet_a_conflict(rt: HostRuntime) -> Result<(), Fail> {
     let counts =
         "relation R(a int); relation S(a int); main { int c = count(R); apply {+S(c)}; commit; }";
     let reads = "relation S(a int); relation R(a int); main { print count(R); print count(S); }";
-    let both = b"session 0\ncommit 1\nsession 1\ncommit 1\n";
+    let both: &[u8] = b"session 0\ncommit 1\nsession 1\ncommit 1\n";
+    let swapped: &[u8] = b"session 1\ncommit 1\nsession 0\ncommit 1\n";
+    let conflict: &[u8] = b"session 0\ncommit 1\nsession 1\nconflict with commit 1\n";
     let cases: [(&str, &str, u64, &[u8]); 7] = [
         (adds_one, adds_two, 2, both),
-        (
-            adds_one,
-            counts,
-            2,
-            b"session 0\ncommit 1\nsession 1\nconflict with commit 1\n",
-        ),
-        (
-            adds_one,
-            counts,
-            1,
-            b"session 1\ncommit 1\nsession 0\ncommit 1\n",
-        ),
+        (adds_one, counts, 2, conflict),
+        (adds_one, counts, 1, swapped),
         (adds_one, counts, 0, both),
         (
             adds_one,
