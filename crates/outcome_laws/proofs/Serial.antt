@@ -1,5 +1,5 @@
 -- The sessions of accepted scripts over a stored database are sound, with the relations of its catalogue.
-use Rattle.std.proofs.Common.{◌≡◌, ◌≤◌, ℕ, List, [], ◌∷◌, ◌++◌, map, length, sym, subst}
+use Rattle.std.proofs.Common.{ℕ, List, [], ◌∷◌, ◌++◌, map, sym, subst}
 use Rattle.hera_meaning.specs.declared.schemas.RelDecl.{RelDecl}
 use Rattle.hera_meaning.specs.Catalogues.{IsCatalogue}
 use Rattle.hera_meaning.specs.Deltas.{State, IsState, atoms}
