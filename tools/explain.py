@@ -5,11 +5,13 @@
 
 Standard output and the status are the program's own, and what it prints goes on as it comes. Where its last line is
 `refused NAME at OFFSET` or `trap NAME at OFFSET`, what follows on standard error is the place as FILE:LINE:COLUMN (columns
-count characters), that line with a caret under it, and a sentence on what the name means. A status that has no line of
-its own is told by a sentence. Of a file of comma-separated
+count characters), that line with a caret under it, and a sentence on what the name means. Of a file of comma-separated
 values it is the line on which the record begins; of a code file, whose script isn't there, the file and the sentence
-alone. Of a guarded run, and of woven scripts, a refusal may be that of any file:
-it is the one of the first script of which `check` says the same, and else of the guards.
+alone. Of a guarded run, and of woven scripts, a refusal may be that of any file: it is the one of the first script of
+which `check` says the same, and else of the guards. A pipe can't be read twice, so where FILE is one nothing follows.
+
+Behind the statuses 6, 9 and 10, which have no line of their own, a sentence says what they mean, and behind `script
+unread` which file can't be read, and why.
 """
 
 import csv
@@ -171,12 +173,17 @@ def files_among(words):
     """The files that the words have the program read, in their order."""
     if words[:1] == ["weave"]:
         return words[4:]
-    return words[3:5] if words[0] == "guard" else [script_of(words)]
+    if words[:1] == ["guard"]:
+        return words[3:5]
+    file = script_of(words)
+    return [file] if file else []
 
 
 def unread(words):
     """Which file can't be read, and why, or an empty text."""
-    for file in filter(None, files_among(words)):
+    for file in files_among(words):
+        if os.path.exists(file) and not os.path.isfile(file) and not os.path.isdir(file):
+            continue
         try:
             with open(file, "rb") as source:
                 source.read(1)
@@ -188,7 +195,7 @@ def unread(words):
 def explain(program, words, tail):
     """Says what the last line means, where it is a fault of the script."""
     fault = FAULT.fullmatch(tail)
-    if not fault:
+    if not fault or not all(os.path.isfile(file) for file in files_among(words)):
         return
     name, offset = fault[1].decode(), int(fault[2])
     try:

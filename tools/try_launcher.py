@@ -114,6 +114,11 @@ def wrong_in_ways(hera, folder):
     for told in (run(command, folder), on_a_terminal(command, folder, subprocess.PIPE)):
         if told != (0, b"5\n", ""):
             yield f"a file that a shell opened: {told}"
+    os.mkfifo(os.path.join(folder, "pipe"))
+    command = ["bash", "-c", f"echo main > pipe & {hera} check pipe"]
+    told = on_a_terminal(command, folder, subprocess.PIPE)
+    if told != (3, b"refused Syntax at 5\n", ""):
+        yield f"a pipe, which can't be read twice: {told}"
 
 
 def write(folder, name, text):
