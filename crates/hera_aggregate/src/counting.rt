@@ -3,10 +3,7 @@ ghost use Rattle.std.specs.Prelude.{◌≡◌, ◌<◌, ◌^◌, true, false, po
 ghost use Rattle.hera_meaning.specs.Aggregates.{is_few};
 
 use crate::ends::AggEnd;
-use hera_rows::{RowMark, Sorted};
-
-/// The most rows that an int counts: 2^63 - 1.
-pub const ROWS_LIMIT: u64 = 9_223_372_036_854_775_807;
+use hera_rows::{ROWS_LIMIT, RowMark, Sorted};
 
 /// How many rows there are, and Overflow for more than 2^63 - 1. It takes no memory.
 pub fn count<A: Sorted>(a: &A) -> Result<i64, AggEnd>

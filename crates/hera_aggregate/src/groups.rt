@@ -10,13 +10,13 @@ ghost use Rattle.rel_algebra.specs.Fronts.{rows_behind};
 ghost use Rattle.hera_aggregate.specs.Extremes.{found_or_zero};
 ghost use Rattle.hera_aggregate.specs.Groups.{IsAggWithin, keyed_row, aggs_bytes, are_aggs_in_range, IsGroupEnd};
 
-use crate::counting::{ROWS_LIMIT, count};
+use crate::counting::count;
 use crate::ends::AggEnd;
 use crate::extremes::{greatest_field, least_field};
 use crate::fields::push_field;
 use crate::sums::{narrowed, total};
 use hera_meaning::{Agg, ScalarRef, Schema};
-use hera_rows::{RowBuf, RowMark, RowSet, Sorted};
+use hera_rows::{ROWS_LIMIT, RowBuf, RowMark, RowSet, Sorted};
 use hera_sets::is_same;
 use rel_algebra::{Begun, piece};
 use std::alloc::{AllocError, Global};

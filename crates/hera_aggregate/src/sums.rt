@@ -6,11 +6,10 @@ ghost use Rattle.hera_meaning.specs.Aggregates.{is_few, int_of, sum_of};
 ghost use Rattle.rel_algebra.specs.Fronts.{rows_behind};
 
 use crate::behind::behind;
-use crate::counting::ROWS_LIMIT;
 use crate::ends::AggEnd;
 use hera_meaning::{ScalarRef, Schema};
 use hera_row::field;
-use hera_rows::{RowMark, Sorted};
+use hera_rows::{ROWS_LIMIT, RowMark, Sorted};
 
 /// The exact sum of the ints at place `i`, and Overflow exactly where it is not in the range of an
 /// int, or there are more than 2^63 - 1 rows. It takes no memory.

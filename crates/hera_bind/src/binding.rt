@@ -1,4 +1,4 @@
-// Binding of a program to a catalogue.
+//! Binding of a program to a catalogue.
 
 ghost use Rattle.std.specs.Prelude.{◌≡◌, ◌↔◌, ℕ, List, IfOk, OnOk, Err, IsTrue, MatchOption};
 ghost use Rattle.hera_meaning.specs.declared.schemas.RelDecl.{RelDecl};

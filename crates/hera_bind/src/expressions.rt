@@ -1,4 +1,4 @@
-// Renumbering of expressions.
+//! Renumbering of expressions.
 
 ghost use Rattle.std.specs.Prelude.{◌≡◌};
 ghost use Rattle.hera_meaning.specs.Plain.{expr_of, exprs_in, links_in, hypos_in};

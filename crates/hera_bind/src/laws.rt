@@ -1,4 +1,4 @@
-// The laws of binding.
+//! The laws of binding.
 
 ghost use Rattle.std.specs.Prelude.{◌≡◌};
 ghost use Rattle.hera_meaning.specs.Hosts.{Hosts};

@@ -1,4 +1,4 @@
-// The catalogue's numbers of a program's relations.
+//! The catalogue's numbers of a program's relations.
 
 ghost use Rattle.std.specs.Prelude.{◌≡◌};
 ghost use Rattle.hera_meaning.specs.declared.scalars.RelId.{RelId};

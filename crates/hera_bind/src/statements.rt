@@ -1,4 +1,4 @@
-// Renumbering of statements.
+//! Renumbering of statements.
 
 ghost use Rattle.std.specs.Prelude.{◌≡◌, map};
 ghost use Rattle.hera_meaning.specs.Plain.{command_of, block_in, arms_in, return_of, body_of};

@@ -1,4 +1,4 @@
-// Sources and outputs in memory. Some follow a list of pieces, and the quiet ones never fail.
+//! Sources and outputs in memory. Some follow a list of pieces, and the quiet ones never fail.
 use crate::piece::allowed;
 use crate::stock::Stock;
 use crate::{Failed, Output, Piece, Pieces, Source};

@@ -1,4 +1,4 @@
-// Instructions, and the code of a program.
+//! Instructions, and the code of a program.
 
 ghost use Rattle.std.specs.Prelude.{◌≡◌, ◌<◌, ◌++◌, ◌∷◌, [], Some, IfSome, IfOk, OnOk, OnErr, IsTrue, length, slice_get};
 ghost use Rattle.std.specs.Option.{option_copied};

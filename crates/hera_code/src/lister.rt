@@ -1,4 +1,4 @@
-// The listing of code.
+//! The listing of code.
 
 ghost use Rattle.std.specs.Prelude.{◌≡◌, ◌≤◌, ◌<◌, ◌+◌, ◌++◌, length, drop, slice_get, slice_range, codes, [], ◌∷◌, Some, IfOk, OnOk, IsTrue, ◌↔◌};
 ghost use Rattle.hera_meaning.specs.Printed.{number_text, inner_text};

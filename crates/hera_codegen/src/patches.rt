@@ -1,4 +1,4 @@
-// Instructions put behind others, and jumps that are written once their address is known.
+//! Instructions put behind others, and jumps that are written once their address is known.
 
 ghost use Rattle.std.specs.Prelude.{◌≡◌, ◌<◌, ◌+◌, [], ◌∷◌, ◌++◌, length, true, false, IfOk, OnOk, slice_set};
 ghost use Rattle.hera_code.specs.declared.instrs.Instr.TheVariants.{Walk, Next, Back, Yield, Jump, Unless};

@@ -1,4 +1,4 @@
-// The code of a program.
+//! The code of a program.
 
 ghost use Rattle.std.specs.Prelude.{◌≡◌, length, IfOk};
 ghost use Rattle.hera_meaning.specs.Addresses.{size_of};

@@ -1,6 +1,6 @@
-// The code of statements.
-//
-// Each function appends the code of its phrase, which begins at the address of the next instruction.
+//! The code of statements.
+//!
+//! Each function appends the code of its phrase, which begins at the address of the next instruction.
 
 ghost use Rattle.std.specs.Prelude.{◌≡◌, [], ◌∷◌, ◌++◌, length, IfOk, OnOk};
 ghost use Rattle.hera_meaning.specs.Trees.{while as while_of, foreach};

@@ -1,6 +1,6 @@
-// For each phrase that may break several rules: the fault that its rule gives is the least of all that the
-// phrase breaks, by kind in the order Unknown, Repeated, Impure, TooMany, Mismatch, then by offset; and a
-// phrase that breaks none is typed. The words of a phrase stand in text order.
+//! For each phrase that may break several rules: the fault that its rule gives is the least of all that the
+//! phrase breaks, by kind in the order Unknown, Repeated, Impure, TooMany, Mismatch, then by offset; and a
+//! phrase that breaks none is typed. The words of a phrase stand in text order.
 
 ghost use Rattle.std.specs.Prelude.{ℕ, Bool, List, Result};
 ghost use Rattle.hera_rules.specs.declared.words.Word.{Word};

@@ -1,4 +1,4 @@
-// What host functions do.
+//! What host functions do.
 
 use crate::scalars::Text;
 

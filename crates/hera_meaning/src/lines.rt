@@ -1,4 +1,4 @@
-// A line of printed text.
+//! A line of printed text.
 
 ghost use Rattle.std.specs.Prelude.{◌≡◌};
 

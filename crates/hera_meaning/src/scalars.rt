@@ -1,4 +1,4 @@
-// Scalars, texts, numbers of relations and signs.
+//! Scalars, texts, numbers of relations and signs.
 
 ghost use Rattle.std.specs.Prelude.{◌≡◌, IfOk, IfErr, OnOk};
 ghost use Rattle.hera_meaning.specs.Texts.{IsText};

@@ -1,4 +1,4 @@
-// Attributes, schemas, declarations of relations, places and aggregates.
+//! Attributes, schemas, declarations of relations, places and aggregates.
 
 ghost use Rattle.std.specs.Prelude.{◌≡◌, ◌<◌, ◌↔◌, IfOk, IfErr, IsTrue, length, slice_get, MatchOption, take, Some};
 ghost use Rattle.hera_sets.specs.Rows.{is_same};

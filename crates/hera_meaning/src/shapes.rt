@@ -1,4 +1,4 @@
-// The shapes of a program's bodies.
+//! The shapes of a program's bodies.
 
 use crate::schemas::Schema;
 use crate::trees::Shape;

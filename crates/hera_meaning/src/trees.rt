@@ -1,8 +1,8 @@
-// The core trees of programs.
-//
-// A slot of a body holds a local; it is numbered from 0: the parameters, then every declared local and
-// walk variable in text order. A slot that was not set yet holds the int 0. `at` is the byte offset of
-// the place at which a trap is reported.
+//! The core trees of programs.
+//!
+//! A slot of a body holds a local; it is numbered from 0: the parameters, then every declared local and
+//! walk variable in text order. A slot that was not set yet holds the int 0. `at` is the byte offset of
+//! the place at which a trap is reported.
 
 ghost use Rattle.std.specs.Prelude.{◌≡◌, IfOk};
 

@@ -1,4 +1,4 @@
-// The notes of the code of a program.
+//! The notes of the code of a program.
 
 ghost use Rattle.std.specs.Prelude.{◌≡◌, ◌<◌, ◌^◌, ℕ, length, map, Some, slice_get, IfOk};
 ghost use Rattle.hera_meaning.specs.Hosts.{Hosts};

@@ -1,4 +1,4 @@
-// How far the ranges go that begin at the places of a body.
+//! How far the ranges go that begin at the places of a body.
 
 ghost use Rattle.std.specs.Prelude.{◌≡◌, ◌<◌, ◌≤◌, ◌-◌, ◌+◌, ℕ, List, [], ◌∷◌, length, slice_get, Some, IfOk, OnOk};
 ghost use Rattle.hera_noted.specs.declared.ways.Sources.{Sources as PlainSources};

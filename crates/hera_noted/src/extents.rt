@@ -1,4 +1,4 @@
-// Where the slots of a body are set.
+//! Where the slots of a body are set.
 
 ghost use Rattle.std.specs.Prelude.{◌≡◌, ◌<◌, ◌≤◌, ◌+◌, ◌-◌, ℕ, List, Option, length, slice_get, slice_set, false, nat_eq, None, Some, IfSome, IfNone, IfOk};
 ghost use Rattle.hera_code.specs.declared.instrs.Instr.{Instr as PlainInstr};

@@ -1,4 +1,4 @@
-// From where ways lead to the places of a body.
+//! From where ways lead to the places of a body.
 
 ghost use Rattle.std.specs.Prelude.{◌≡◌, ◌<◌, ◌≤◌, ◌-◌, ◌+◌, ℕ, List, length, slice_get, slice_set, Some, IfOk};
 ghost use Rattle.hera_code.specs.declared.instrs.Instr.{Instr as PlainInstr};

@@ -1,4 +1,4 @@
-// The laws of code files that are run.
+//! The laws of code files that are run.
 
 ghost use Rattle.std.specs.Prelude.{◌≡◌, ℕ, List};
 ghost use Rattle.hera_meaning.specs.Hosts.{Hosts};

@@ -1,4 +1,4 @@
-// Types, attributes and parameters.
+//! Types, attributes and parameters.
 
 ghost use Rattle.std.specs.Prelude.{◌<◌, ◌≤◌, [], ◌∷◌, length, IfOk, OnOk, IsErrOf};
 ghost use Rattle.hera_syntax.specs.Grammar.{phrase};

@@ -1,4 +1,4 @@
-// The forms of a statement.
+//! The forms of a statement.
 
 ghost use Rattle.hera_syntax.specs.Grammar as phrases;
 ghost use Rattle.hera_parser.specs.Numbers.{stmt_number};

@@ -1,4 +1,4 @@
-// Declarations, and the whole program.
+//! Declarations, and the whole program.
 
 ghost use Rattle.std.specs.Prelude.{◌<◌, ◌≤◌, [], ◌∷◌, ◌++◌, length, IfOk, OnOk, IsErrOf};
 ghost use Rattle.hera_syntax.specs.Grammar.{phrase};

@@ -1,4 +1,4 @@
-// Statements that hold no block.
+//! Statements that hold no block.
 
 ghost use Rattle.std.specs.Prelude.{◌<◌, ◌≤◌, [], ◌∷◌, length, IfOk, OnOk, IsErrOf};
 ghost use Rattle.hera_syntax.specs.Grammar.{phrase};

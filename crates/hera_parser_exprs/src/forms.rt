@@ -1,4 +1,4 @@
-// The forms of an expression that no operator splits, and literals.
+//! The forms of an expression that no operator splits, and literals.
 
 ghost use Rattle.std.specs.Prelude.{◌<◌, [], ◌∷◌, length, take, IfOk, OnOk, IsErrOf};
 ghost use Rattle.hera_syntax.specs.Grammar.{alternatives, phrase};

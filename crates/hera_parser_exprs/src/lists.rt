@@ -1,4 +1,4 @@
-// Names, renamings and aggregates.
+//! Names, renamings and aggregates.
 
 ghost use Rattle.std.specs.Prelude.{◌≡◌, ◌<◌, ◌≤◌, [], ◌∷◌, ◌++◌, length, IfOk, OnOk, IsErrOf};
 ghost use Rattle.hera_syntax.specs.declared.words.Keyword.TheVariants as keys;

@@ -1,4 +1,4 @@
-// The laws of what is read.
+//! The laws of what is read.
 
 ghost use Rattle.std.specs.Prelude.{◌≤◌, ◌⊎◌, ℕ, List, length, IsUtf8};
 ghost use Rattle.hera_syntax.specs.Lex.{Lex, LexFails};

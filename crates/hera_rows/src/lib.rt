@@ -19,6 +19,6 @@ mod walks;
 pub use marks::{RowMark, Side, Spot};
 pub use row_buf::RowBuf;
 pub use row_set::RowSet;
-pub use sorted::Sorted;
+pub use sorted::{ROWS_LIMIT, Sorted};
 pub use stacks::Near;
 pub use walks::{collect, same_rows};

@@ -1,4 +1,4 @@
-// What names mean, and what a phrase is typed as.
+//! What names mean, and what a phrase is typed as.
 
 ghost use Rattle.std.specs.Prelude.{◌≡◌, ◌<◌, ◌≤◌, ◌++◌, [], ◌∷◌, length, IfSome, OnOk};
 ghost use Rattle.std.specs.Option.{option_map};

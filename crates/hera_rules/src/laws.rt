@@ -1,4 +1,4 @@
-// The laws of typing.
+//! The laws of typing.
 
 ghost use Rattle.hera_rules.specs.Exactness.{PhrasesAreDecided, ScriptsAreDecided};
 

@@ -1,4 +1,4 @@
-// The parts of phrases that hold no phrase.
+//! The parts of phrases that hold no phrase.
 
 use hera_meaning::{Kind, Name, Op};
 

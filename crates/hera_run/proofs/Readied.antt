@@ -29,7 +29,7 @@ use Rattle.half_laws.proofs.Halves.{half_version, half_of_is, one_place_of}
 use Rattle.hera_store.specs.Databases.{Database, Holds, Names, half_named, IsFound, FilesFound, absent, spoilt, held}
 use Rattle.hera_store.specs.Faults.{half_with}
 use Rattle.hera_store.specs.Moments.{IsStill, IsUnsynced, LeavesOnceSynced}
-use Rattle.hera_store.specs.Standing.{Standing, StandsFor, database_of, other_half, select_byte}
+use Rattle.hera_store.specs.Standing.{Standing, database_of, other_half, select_byte}
 use Rattle.hera_store.proofs.Commits.{stands_holds}
 use Rattle.hera_store.proofs.Founds.{found_one}
 use Rattle.hera_store.proofs.Renewals.{other_selected}

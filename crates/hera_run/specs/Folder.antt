@@ -1,5 +1,5 @@
 -- What a run over a folder begins from, and what it comes to.
-use Rattle.std.specs.Prelude.{◌≡◌, ◌≤◌, ◌<◌, ◌⊎◌, ℕ, suc, cond, Some, List, [], length}
+use Rattle.std.specs.Prelude.{◌≡◌, ◌≤◌, ◌<◌, ◌⊎◌, ℕ, suc, cond, Some, List, length}
 use Rattle.hera_meaning.specs.Trees.{Program_tree}
 use Rattle.hera_meaning.specs.Run.{Report, run_of}
 use Rattle.hera_host.specs.Tables.{Host, specs_of}

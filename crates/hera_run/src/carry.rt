@@ -76,8 +76,8 @@ pub fn keep_in<W: Outside>(outside: &mut W, store: &mut Store, delta: Delta) -> 
     }
 }
 
-/// Carries out one event that is not refused. At each moment it is carried out, or not, or its line in part. A commit that does not fit is
-/// answered `Full`, and nothing is done.
+/// Carries out one event that is not refused. At each moment it is carried out, or not, or its line in part. A commit that does
+/// not fit is answered `Full`, and nothing is done.
 pub fn carry_out<K: Keeper, W: Outside>(
     outside: &mut W,
     keeper: &mut K,

@@ -70,8 +70,8 @@ pub trait Keeper {
         requires proper { IsProper (database self.now).catalogue (Action.Store delta.now) }
         ensures refusal { IfOk result (λ line. line ≡ refusal self.now (apply_of (database self.now).state delta.now)) };
 
-    /// Keeps one commit more, that is not refused. At each moment it is kept or not. `Full` comes only for one that does not fit, which is
-    /// never kept, and then no call on a file is made.
+    /// Keeps one commit more, that is not refused. At each moment it is kept or not. `Full` comes only for one that does
+    /// not fit, which is never kept, and then no call on a file is made.
     fn keep<W: Outside>(&mut self, outside: &mut W, delta: Delta) -> Result<(), Stop>
         requires ready { ready self.old }
         requires stands { W.told → stands (W.disk outside.old) self.old }

@@ -1,4 +1,4 @@
-// The laws of accepted scripts.
+//! The laws of accepted scripts.
 
 ghost use Rattle.std.specs.Prelude.{◌≡◌, ◌≤◌, ℕ, List, length};
 ghost use Rattle.hera_meaning.specs.Trees.{Program_tree};

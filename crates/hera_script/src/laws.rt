@@ -1,4 +1,4 @@
-// The law of refusals.
+//! The law of refusals.
 
 ghost use Rattle.std.specs.Prelude.{◌≡◌, ◌≤◌, ℕ, List, length};
 ghost use Rattle.hera_meaning.specs.Trees.{Program_tree};

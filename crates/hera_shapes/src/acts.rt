@@ -1,4 +1,4 @@
-// The slots that statements declare.
+//! The slots that statements declare.
 
 ghost use Rattle.std.specs.Prelude.{◌≡◌, ◌+◌, ◌++◌, OnOk};
 ghost use Rattle.hera_meaning.specs.Shapes.{body_types};

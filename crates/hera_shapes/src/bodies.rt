@@ -1,4 +1,4 @@
-// The shapes of bodies and of a whole script.
+//! The shapes of bodies and of a whole script.
 
 ghost use Rattle.std.specs.Prelude.{◌≡◌, ◌≤◌, [], ◌++◌, List, Ok, Some, None, IfOk, OnOk, length, map};
 ghost use Rattle.hera_host.specs.Tables.{specs_of};

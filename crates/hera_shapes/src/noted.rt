@@ -1,4 +1,4 @@
-// The notes of the code of a script.
+//! The notes of the code of a script.
 
 ghost use Rattle.std.specs.Prelude.{◌≡◌, ◌≤◌, List, length, IfOk};
 ghost use Rattle.hera_code.specs.Scheme.{code_of};

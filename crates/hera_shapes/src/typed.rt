@@ -1,4 +1,4 @@
-// What the walk over a tree asks of typing, and what it writes down.
+//! What the walk over a tree asks of typing, and what it writes down.
 
 ghost use Rattle.std.specs.Prelude.{◌≡◌, [], ◌∷◌, ◌++◌, ◌+◌, IfOk, OnOk, Ok, length, take};
 ghost use Rattle.hera_meaning.specs.Shapes.{body_types};

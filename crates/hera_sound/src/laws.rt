@@ -1,4 +1,4 @@
-// The laws of typed programs.
+//! The laws of typed programs.
 
 ghost use Rattle.std.specs.Prelude.{◌≡◌, ◌≤◌, List, length, map};
 ghost use Rattle.hera_meaning.specs.Trees.{Program_tree};

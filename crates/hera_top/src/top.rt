@@ -105,7 +105,8 @@ fn answer<S: Source, W: Outside>(
 /// script or the file is refused, 4 the turns were spent, 5 there is a database and there should be none, or none, or it is
 /// damaged or lacks a relation, or one of its own would be narrowed, 6 a call on a file of the folder failed, 7 the source
 /// of the script or the file failed, 8 the output failed, 9 there was no memory, 10 the half of a commit, of a checkpoint,
-/// of a widening or in place of one of format 1 would be longer than 268,435,456 bytes, 11 a row breaks a guard. With 6, 8 and 9 a prefix of what would have been emitted was emitted, else all of it.
+/// of a widening or in place of one of format 1 would be longer than 268,435,456 bytes, 11 a row breaks a guard. With 6,
+/// 8 and 9 a prefix of what would have been emitted was emitted, else all of it.
 pub fn hera<S: Source, W: Outside>(
     alloc: Global,
     words: &Vec<String>,

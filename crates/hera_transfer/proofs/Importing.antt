@@ -1,20 +1,18 @@
 -- What an import answers, of what was answered on the way; and what an export answers.
-use Rattle.std.proofs.Common.{◌≡◌, ◌⊎◌, ⊎_elim, ℕ, true, false, inl, inr, List, [], ◌∷◌, length, take, Option, None, Some, Result, Ok, Err, IfOk, IfErr, refl, sym, ap, ◌∙◌, subst}
+use Rattle.std.proofs.Common.{◌≡◌, ◌⊎◌, ⊎_elim, ℕ, true, inl, inr, List, [], length, take, Option, None, Some, Result, Ok, Err, IfErr, refl, sym, ap, ◌∙◌, subst}
 use Rattle.std.specs.Io.KnownBytes.{Appends}
 use Rattle.std.proofs.KnownBytes.{Appends-nil}
 use Rattle.hera_sets.specs.Rows.{Row}
 use Rattle.hera_causes.specs.declared.traits.Output as output
 use Rattle.hera_meaning.specs.declared.schemas.Attr.{Attr}
 use Rattle.hera_meaning.specs.declared.schemas.RelDecl.{RelDecl}
-use Rattle.hera_meaning.specs.Deltas.{State, Delta, schema_of}
+use Rattle.hera_meaning.specs.Deltas.{Delta, schema_of}
 use Rattle.hera_meaning.specs.Run.{Report}
 use Rattle.hera_meaning.specs.Worlds.{Event}
 use Rattle.hera_row.specs.Numbers.{number_named}
 use Rattle.hera_csv.specs.Records.{records_of, bad_in, rows_of}
 use Rattle.hera_volume.specs.Time.{Image, LeavesOnly}
-use Rattle.hera_volume.specs.declared.file_id.FileId.{FileId}
 use Rattle.hera_volume.specs.declared.outside.Outside as files
-use Rattle.hera_volume.proofs.Moments.{leaves-weaker}
 use Rattle.rel_format.specs.Versions.{is_old}
 use Rattle.hera_store.specs.Databases.{Database, held}
 use Rattle.hera_store.specs.Moments.{IsStill}
@@ -23,18 +21,17 @@ use Rattle.hera_store.proofs.Founds.{found_one}
 use Rattle.hera_outcome.specs.declared.answer.Ending.{Ending}
 use Rattle.hera_outcome.specs.declared.answer.Stop.{Stop}
 use Rattle.hera_outcome.specs.declared.answer.Stop.TheVariants.{Refused, Device, Output, Memory, Full}
-use Rattle.hera_outcome.specs.declared.refusal.Refusal.TheVariants.{NoRelation}
 use Rattle.hera_outcome.specs.Answers.{number_of, IsFault}
 use Rattle.hera_outcome.specs.Cut.{IsCut}
 use Rattle.hera_outcome.specs.Outcomes.{Outcome, too_long, text_of_outcome}
-use Rattle.hera_outcome.specs.Passages.{Passage, passage, Start, start, start_of, LeavesOnceOpened, ReadsAmong, Stores, syncs_all}
-use Rattle.hera_outcome.specs.Told.{IsCause, IsDone, IsCutShort, IsToldBehind, IsPending, Tells, Answered}
+use Rattle.hera_outcome.specs.Passages.{Passage, passage, start, start_of, LeavesOnceOpened, ReadsAmong, syncs_all}
+use Rattle.hera_outcome.specs.Told.{IsCause, IsDone, IsCutShort, IsToldBehind, Tells, Answered}
 use Rattle.hera_outcome.proofs.Passing.{given_up_there, cause_by, answered_by}
 use Rattle.hera_run.specs.Fitting.{fitting}
 use Rattle.hera_run.specs.Folder.{IsThere, StartsAt, Overfills, IsStarting, outcome_from}
-use Rattle.hera_run.specs.Opening.{IsOpened, IsUnopened, IsRewritten, IsUnwritten, IsFoundFor, IsReady, IsUnready}
+use Rattle.hera_run.specs.Opening.{IsOpened, IsUnopened, IsUnwritten, IsFoundFor, IsReady, IsUnready}
 use Rattle.hera_run.proofs.Readied.{pending_never, ready_as_opened, rewritten_ready, unwritten_unready, cut_still, once_weaker, once_longer}
-use Rattle.hera_transfer.specs.Transfers.{ExportsTo, shut, unknown, addition, imported_text, stored_and_told, IsGood, import_of, ImportsTo, closed, lacks, refuses, overflows, imports}
+use Rattle.hera_transfer.specs.Transfers.{ExportsTo, shut, addition, imported_text, stored_and_told, IsGood, import_of, ImportsTo, closed, lacks, refuses, overflows, imports}
 use Rattle.hera_transfer.specs.Reading.{IsReadFor, IsUnread, has_none, has_bad, lacks_memory, IsMadeNew, is_new, is_rewritten, IsAdding, IsUnadded, is_gone, is_short}
 
 -- ---- exports

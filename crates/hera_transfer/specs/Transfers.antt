@@ -1,5 +1,5 @@
 -- What an export and an import of a relation come to.
-use Rattle.std.specs.Prelude.{◌≡◌, ℕ, List, [], ◌∷◌, ◌++◌, length, codes, Option, None, Some}
+use Rattle.std.specs.Prelude.{◌≡◌, ℕ, List, [], ◌∷◌, ◌++◌, length, codes, None, Some}
 use Rattle.hera_sets.specs.Rows.{Row}
 use Rattle.hera_meaning.specs.declared.scalars.Sign.TheVariants.{Plus}
 use Rattle.hera_meaning.specs.Deltas.{State, Delta, atoms, schema_of, rows_at, apply_of}

@@ -1,4 +1,4 @@
-// The laws of typed code.
+//! The laws of typed code.
 
 ghost use Rattle.std.specs.Prelude.{◌≡◌, ℕ, List, All, true};
 ghost use Rattle.hera_meaning.specs.declared.schemas.RelDecl.{RelDecl};

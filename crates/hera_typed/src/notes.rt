@@ -1,4 +1,4 @@
-// What code says of its slots and results.
+//! What code says of its slots and results.
 
 use hera_meaning::{Schema, Shape};
 

@@ -1,4 +1,4 @@
-// Cores of blocks of statements.
+//! Cores of blocks of statements.
 
 ghost use Rattle.std.specs.Prelude.{◌≡◌, ◌+◌, [], OnOk, true};
 ghost use Rattle.hera_meaning.specs.Plain.{block_in, command_of, expr_of};

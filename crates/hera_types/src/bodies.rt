@@ -1,4 +1,4 @@
-// The fourth pass over a script: the bodies of funcs, procs and main.
+//! The fourth pass over a script: the bodies of funcs, procs and main.
 
 ghost use Rattle.std.specs.Prelude.{◌≡◌, ◌+◌, [], Some, None, IfErr, IfOk, is_some, length, map};
 ghost use Rattle.hera_meaning.specs.Plain.{arms_in, block_in, body_of, command_of};

@@ -1,4 +1,4 @@
-// The four passes over a script.
+//! The four passes over a script.
 
 ghost use Rattle.std.specs.Prelude.{◌≡◌, ◌≤◌, ◌⊎◌, ◌∷◌, List, Err, IfOk, OnOk, length};
 ghost use Rattle.hera_host.specs.Tables.{specs_of};

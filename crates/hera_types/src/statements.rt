@@ -1,4 +1,4 @@
-// Cores of statements of one phrase, or of a list of phrases.
+//! Cores of statements of one phrase, or of a list of phrases.
 
 ghost use Rattle.std.specs.Prelude.{◌≡◌, ◌+◌, IfErr, IfOk, OnOk, [], is_some};
 ghost use Rattle.hera_meaning.specs.Plain.{command_of};

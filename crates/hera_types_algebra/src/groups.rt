@@ -1,4 +1,4 @@
-// Group.
+//! Group.
 
 ghost use Rattle.hera_meaning.specs.Forms.{agg_kind};
 ghost use Rattle.hera_meaning.specs.Plain.{expr_of};

@@ -1,4 +1,4 @@
-// Rename.
+//! Rename.
 
 ghost use Rattle.hera_meaning.specs.Plain.{expr_of};
 ghost use Rattle.hera_meaning.specs.declared.trees.Shape.TheVariants as shapes;

@@ -1,4 +1,4 @@
-// Project, union, minus, inter and join.
+//! Project, union, minus, inter and join.
 
 ghost use Rattle.hera_meaning.specs.Plain.{expr_of};
 ghost use Rattle.hera_meaning.specs.Relations.{has_name as has_attr_named, lacking};

@@ -1,4 +1,4 @@
-// Calls in expressions.
+//! Calls in expressions.
 
 ghost use Rattle.hera_host.specs.Tables.{host_named};
 ghost use Rattle.hera_rules.specs.Agrees.{Gives, typing_of, typings_of};

@@ -1,4 +1,4 @@
-// The core of a chain.
+//! The core of a chain.
 
 ghost use Rattle.hera_meaning.specs.Plain.{expr_of, exprs_in, hypos_in, links_in};
 ghost use Rattle.hera_meaning.specs.Trees.{then_expr};

@@ -1,4 +1,4 @@
-// Chains of operands.
+//! Chains of operands.
 
 ghost use Rattle.hera_meaning.specs.Plain.{expr_of};
 ghost use Rattle.hera_rules.specs.Agrees.{steps_of, typing_of};

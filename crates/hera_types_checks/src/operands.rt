@@ -1,4 +1,4 @@
-// Checks of phrases of one part or two.
+//! Checks of phrases of one part or two.
 
 ghost use Rattle.hera_meaning.specs.Forms.{kinds_of};
 ghost use Rattle.hera_meaning.specs.Plain.{expr_of};

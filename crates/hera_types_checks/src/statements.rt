@@ -1,4 +1,4 @@
-// Checks of statements.
+//! Checks of statements.
 
 ghost use Rattle.hera_meaning.specs.Plain.{command_of, expr_of};
 ghost use Rattle.hera_rules.specs.Agrees.{Gives, typing_of, typings_of};

@@ -1,4 +1,4 @@
-// Rows, atoms, delta literals and the lines of `rows`.
+//! Rows, atoms, delta literals and the lines of `rows`.
 
 ghost use Rattle.hera_meaning.specs.Plain.{expr_of, links_in};
 ghost use Rattle.hera_meaning.specs.Trees.{prim};

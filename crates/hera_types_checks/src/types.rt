@@ -1,4 +1,4 @@
-// Checks of types as written.
+//! Checks of types as written.
 
 ghost use Rattle.hera_meaning.specs.Relations.{has_name};
 ghost use Rattle.hera_meaning.specs.Schemas.{names_of};

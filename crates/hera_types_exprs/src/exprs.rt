@@ -1,4 +1,4 @@
-// Types and cores of expressions.
+//! Types and cores of expressions.
 
 ghost use Rattle.std.specs.Prelude.{◌≡◌, [], OnOk, true};
 ghost use Rattle.hera_rules.specs.Agrees.{Gives, Keeps, typing_of};

@@ -1,4 +1,4 @@
-// Checks of the forms of an expression, once its parts are typed.
+//! Checks of the forms of an expression, once its parts are typed.
 
 ghost use Rattle.std.specs.Prelude.{◌≡◌, IfOk, IfErr, true};
 ghost use Rattle.hera_rules.specs.Agrees.{Gives, typing_of, typings_of};

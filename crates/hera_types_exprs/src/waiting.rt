@@ -1,4 +1,4 @@
-// What waits for the phrases behind it.
+//! What waits for the phrases behind it.
 
 ghost use Rattle.std.specs.Prelude.{◌≡◌};
 

@@ -1,4 +1,4 @@
-// The first three passes over a script.
+//! The first three passes over a script.
 
 ghost use Rattle.hera_rules.specs.Agrees.{Gives};
 ghost use Rattle.hera_rules.specs.Environments.{env_of};

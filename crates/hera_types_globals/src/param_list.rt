@@ -1,4 +1,4 @@
-// Parameters, looked up by their names.
+//! Parameters, looked up by their names.
 
 ghost use Rattle.std.specs.Prelude.{◌≡◌, ◌++◌, [], ◌∷◌, false, IfOk, map, length};
 ghost use Rattle.hera_sets.specs.Rows.{holds};

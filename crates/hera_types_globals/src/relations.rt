@@ -1,4 +1,4 @@
-// The first pass over a script: its relations.
+//! The first pass over a script: its relations.
 
 ghost use Rattle.std.specs.Prelude.{◌≡◌, ◌<◌, [], OnOk, map, length};
 ghost use Rattle.hera_sets.specs.Rows.{holds};

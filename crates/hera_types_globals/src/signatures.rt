@@ -1,4 +1,4 @@
-// The second and the third pass over a script: the names of funcs and procs, and their signatures.
+//! The second and the third pass over a script: the names of funcs and procs, and their signatures.
 
 ghost use Rattle.std.specs.Prelude.{◌≡◌, ◌+◌, [], IfOk, IfErr, false, map};
 ghost use Rattle.hera_sets.specs.Rows.{holds};

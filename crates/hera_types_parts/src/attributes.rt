@@ -1,4 +1,4 @@
-// Names and attributes in lists.
+//! Names and attributes in lists.
 
 ghost use Rattle.hera_meaning.specs.Forms.{kind_at};
 ghost use Rattle.hera_rules.specs.Rules.{attr_in, place_in, places_in, stranger_in};

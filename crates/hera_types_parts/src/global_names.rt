@@ -1,4 +1,4 @@
-// What the global names of a script mean, each found by its name.
+//! What the global names of a script mean, each found by its name.
 
 ghost use Rattle.hera_meaning.specs.Deltas.{schema_of};
 ghost use Rattle.hera_rules.specs.Environments.{env_of, func_named, is_global, proc_named, relation_named};

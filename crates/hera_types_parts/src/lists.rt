@@ -1,4 +1,4 @@
-// Lists of typed phrases and of cores.
+//! Lists of typed phrases and of cores.
 
 ghost use Rattle.hera_meaning.specs.Plain.{expr_of, exprs_in};
 ghost use Rattle.hera_meaning.specs.Trees.{prim};

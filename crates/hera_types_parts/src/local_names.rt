@@ -1,4 +1,4 @@
-// The visible locals, each found by its name, and the slots that are taken.
+//! The visible locals, each found by its name, and the slots that are taken.
 
 ghost use Rattle.hera_rules.specs.Agrees.{Keeps};
 ghost use Rattle.hera_rules.specs.Environments.{local_named};

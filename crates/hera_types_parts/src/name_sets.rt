@@ -1,4 +1,4 @@
-// Names, looked up by their bytes.
+//! Names, looked up by their bytes.
 
 ghost use Rattle.hera_rules.specs.Rules.{repeat_in, word_names};
 ghost use Rattle.hera_sets.specs.Rows.{holds, is_same};

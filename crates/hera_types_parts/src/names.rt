@@ -1,4 +1,4 @@
-// What names mean.
+//! What names mean.
 
 ghost use Rattle.hera_rules.specs.Agrees.{Gives, typing_of};
 ghost use Rattle.hera_rules.specs.Environments.{env_of, is_taken};

@@ -1,4 +1,4 @@
-// Operations with the types of what they give.
+//! Operations with the types of what they give.
 
 ghost use Rattle.hera_meaning.specs.Plain.{expr_of};
 ghost use Rattle.hera_rules.specs.Agrees.{typing_of};

@@ -1,4 +1,4 @@
-// Tests of types and schemas.
+//! Tests of types and schemas.
 
 ghost use Rattle.hera_meaning.specs.Forms.{kind_at, kinds_of};
 ghost use Rattle.hera_meaning.specs.Scalars.{is_same_kind};

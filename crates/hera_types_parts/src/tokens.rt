@@ -1,4 +1,4 @@
-// What the tokens of a tree say.
+//! What the tokens of a tree say.
 
 ghost use Rattle.hera_rules.specs.Read.{aggregate_of, aggregates_of, fold_of, joint_at, joint_of, kind_word, measured_of, name_of, pair_of, part_of, prefix_of, renamed_all, renamed_of, sign_of, test_of, text_of, walk_of, word_of, words_of};
 ghost use Rattle.std.specs.Prelude.{IfErr, IfOk, ◌≡◌};

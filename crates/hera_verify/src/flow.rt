@@ -28,8 +28,8 @@ pub(crate) struct Place {
     pub reach: Reach,
 }
 
-/// What is kept of the addresses that were passed: what was found, what calls leave, the body of the last one, and whether what stands
-/// behind it may stand behind a walk, if it is one.
+/// What is kept of the addresses that were passed: what was found, what calls leave, the body of the last one, and whether
+/// what stands behind it may stand behind a walk, if it is one.
 #[derive(Drop)]
 pub(crate) struct Walker {
     pub table: Table,

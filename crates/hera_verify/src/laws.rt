@@ -1,4 +1,4 @@
-// The laws of the answer.
+//! The laws of the answer.
 
 ghost use Rattle.std.specs.Prelude.{◌≡◌, ◌≤◌, ℕ, List, All, Option, None, true, length};
 ghost use Rattle.hera_meaning.specs.declared.schemas.RelDecl.{RelDecl};

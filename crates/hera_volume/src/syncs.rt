@@ -1,4 +1,4 @@
-// When each of the three files was last synced.
+//! When each of the three files was last synced.
 use crate::FileId;
 
 /// The number of changes that had been made when each file was last synced, and 0 before its first sync.

@@ -12,11 +12,8 @@ use crate::seeks::{has, named_above};
 use crate::soughts::Sought;
 use delta_atoms::Delta;
 use hera_meaning::{RelId, Sign};
-use hera_rows::{RowMark, RowSet, Sorted};
+use hera_rows::{ROWS_LIMIT, RowMark, RowSet, Sorted};
 use hera_sets::is_same;
-
-/// The most rows that are counted: 2^63 - 1.
-const ROWS_LIMIT: u64 = 9_223_372_036_854_775_807;
 
 /// Whether the row was put in where it was not in the base, or taken out where it was.
 fn is_change<S: Sorted>(
