@@ -25,6 +25,11 @@ use Rattle.hera_steps.proofs.Lowered.{Lowers, step_lowers}
 use Rattle.hera_steps.proofs.Nearing.{left_over}
 use Rattle.hera_machine.specs.Standing.{Standing, machine_over, GoesQuietly, GoesOn}
 
+-- whatever was answered
+pub by_answer : {A : Type 0} (answer : Bool) → (answer ≡ true → A) → (answer ≡ false → A) → A
+by_answer true done kept = done refl
+by_answer false done kept = kept refl
+
 module _ (code : Code) (rels : List RelDecl) (hosts : Hosts) (s : State) where
   -- none leads nowhere else
   pub quietly_none : (m n : Machine) → m ≡ n → GoesQuietly code rels hosts s m n

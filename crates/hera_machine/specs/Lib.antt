@@ -1,3 +1,4 @@
+pub mod Ends
 pub mod Over
 pub mod Standing
 pub mod Pairs

@@ -67,9 +67,7 @@ pub(crate) fn count(work: &mut Running<'_>, code: &Code, stored: &Stored<'_>, co
     let Some(Instr::Prim(Op::Count, at)) = code.instrs.get(work.at) else {
         return;
     };
-    if !count_newest(work, stored, counts, *at) {
-        return;
-    }
+    let _counted = count_newest(work, stored, counts, *at);
 }
 
 /// Counts the tuples of the newest operand, if that names a relation. Where it does not answer true, nothing has

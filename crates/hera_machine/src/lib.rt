@@ -10,6 +10,7 @@
 mod counts;
 mod events;
 mod joins;
+mod lines;
 mod loads;
 mod machine;
 mod many;
@@ -17,4 +18,5 @@ mod pairs;
 
 pub use events::{Event, Status};
 pub use hera_steps::End;
+pub use lines::{put_commit, put_end};
 pub use machine::Machine;

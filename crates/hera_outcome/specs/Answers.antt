@@ -1,9 +1,12 @@
 -- The exit statuses as numbers.
 use Rattle.std.specs.Prelude.{ℕ, Result, Ok, Err}
+use Rattle.hera_script.specs.declared.program.ScriptFault.{ScriptFault}
+use Rattle.hera_script.specs.declared.program.ScriptFault.TheVariants as script_fault
 use Rattle.hera_outcome.specs.declared.answer.Ending.{Ending}
 use Rattle.hera_outcome.specs.declared.answer.Ending.TheVariants.{Done, Trapped, Spent, Broken}
 use Rattle.hera_outcome.specs.declared.answer.Stop.{Stop}
 use Rattle.hera_outcome.specs.declared.answer.Stop.TheVariants.{Refused, Device, Output, Memory, Full}
+use Rattle.hera_outcome.specs.declared.refusal.Refusal.TheVariants.{Script}
 use Rattle.hera_outcome.specs.Refusals.{status_of_refusal}
 
 abbrev pub number_of_ending : Ending → ℕ
@@ -18,6 +21,11 @@ number_of_stop Device = 6
 number_of_stop Output = 8
 number_of_stop Memory = 9
 number_of_stop Full = 10
+
+-- the stop of a call whose script gives no program
+abbrev pub stop_of_script : ScriptFault → Stop
+stop_of_script (script_fault.Refused cause at) = Refused (Script cause at)
+stop_of_script script_fault.Memory = Memory
 
 -- a stop that is told already
 abbrev pub IsFault : Stop → Type 0

@@ -3,6 +3,7 @@ ghost use Rattle.std.specs.Prelude.{◌≡◌};
 ghost use Rattle.hera_outcome.specs.Answers.{number_of_ending, number_of_stop};
 
 use crate::Refusal;
+use hera_script::ScriptFault;
 use std::alloc::{AllocError, AllocFailed};
 
 /// How a call ends that is not stopped.
@@ -58,6 +59,20 @@ impl Stop {
             Stop::Output => 8,
             Stop::Memory => 9,
             Stop::Full => 10,
+        }
+    }
+}
+
+impl From<ScriptFault> for Stop {
+    ghost use Rattle.std.specs.Prelude.{◌≡◌};
+    ghost use Rattle.hera_outcome.specs.Answers.{stop_of_script};
+
+    ghost from_gives = { λ fault e. e ≡ stop_of_script fault };
+
+    fn from(fault: ScriptFault) -> Self {
+        match fault {
+            ScriptFault::Refused { cause, at } => Stop::Refused(Refusal::Script { cause, at }),
+            ScriptFault::Memory => Stop::Memory,
         }
     }
 }

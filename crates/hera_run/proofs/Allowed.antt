@@ -1,5 +1,5 @@
 -- Events none of whose stores is refused, and those up to one that is.
-use Rattle.std.proofs.Common.{◌≡◌, ℕ, Bool, true, false, cond, List, [], ◌∷◌, ◌++◌, Option, None, Some, refl, ap, ◌∙◌}
+use Rattle.std.proofs.Common.{◌≡◌, ℕ, Bool, true, false, cond, List, [], ◌∷◌, ◌++◌, Option, None, Some, refl, ap}
 use Rattle.std.specs.Prelude.{is_some}
 use Rattle.hera_meaning.specs.Deltas.{Delta, State}
 use Rattle.hera_meaning.specs.Worlds.{Event, out, store}

@@ -5,6 +5,7 @@ use Rattle.hera_meaning.specs.Commits.{after_all}
 use Rattle.hera_meaning.specs.Deltas.{Delta, State, apply_of}
 use Rattle.hera_meaning.specs.Worlds.{out, store}
 use Rattle.hera_meaning.specs.Printed.{trap_line, spent_line}
+use Rattle.hera_machine.specs.Ends.{last_text}
 use Rattle.hera_machine.specs.Over.{state_over}
 use Rattle.hera_steps.specs.declared.events.End.{End}
 use Rattle.hera_steps.specs.declared.events.End.TheVariants.{Done, Trap, Spent, Stuck}
@@ -17,7 +18,7 @@ use Rattle.hera_store.specs.Databases.{Database, Holds}
 use Rattle.hera_store.specs.Moments.{IsEither}
 use Rattle.hera_store.specs.Standing.{Standing, StandsFor, database_of, database_after}
 use Rattle.hera_run.specs.Keeping.{AreLeft, finds_settled}
-use Rattle.hera_run.specs.Running.{ending_of, last_text}
+use Rattle.hera_run.specs.Running.{ending_of}
 use Rattle.hera_outcome.specs.Cut.{IsCut, IsCutWith, with_state}
 
 -- ---- states after commits

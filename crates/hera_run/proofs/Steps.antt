@@ -15,6 +15,7 @@ use Rattle.hera_code.specs.Reached.{still, after_step, stores, with_line, exec_c
 use Rattle.hera_guard.specs.Guarded.{guarded, passes}
 use Rattle.hera_code.specs.Forward.{Forward}
 use Rattle.hera_codegen.specs.Correct.{events_in, AreStoresOf}
+use Rattle.hera_machine.specs.Ends.{last_text}
 use Rattle.hera_machine.specs.Standing.{Standing, machine_over, commit_over, status_by, GoesQuietly, Tells, IsLess}
 use Rattle.hera_steps.specs.Telling.{stop_of}
 use Rattle.hera_steps.specs.declared.events.End.{End}
@@ -29,7 +30,7 @@ use Rattle.hera_store.specs.Databases.{Database}
 use Rattle.hera_outcome.specs.Cut.{IsCutWith, with_state}
 use Rattle.hera_run.specs.Fitting.{fits, gate_behind, all_fit, gate_after, overfills}
 use Rattle.hera_run.specs.declared.keeper.Keeper as keeper
-use Rattle.hera_run.specs.Running.{Job, job, at_step, first_events, ending_of, last_text, IsAllDone, IsRefusedAt, IsDoneUpToFull, IsPartDone, IsCodeCut}
+use Rattle.hera_run.specs.Running.{Job, job, at_step, first_events, ending_of, IsAllDone, IsRefusedAt, IsDoneUpToFull, IsPartDone, IsCodeCut}
 use Rattle.hera_run.proofs.Allowed.{passes-append, guarded-append, passes-one, guarded-one, passes-none, guarded-none, ending_passes, ending_guarded}
 use Rattle.hera_run.proofs.Cuts.{cut-behind, cut-found}
 use Rattle.hera_run.proofs.Fittings.{gate_after-append, all_fit-append, fit-store}

@@ -49,12 +49,9 @@ at_step j k = code_at j.code j.relations j.from.state j.hosts j.turns k
 abbrev pub first_events : Job → ℕ → List Event
 first_events j k = guarded j.refusal (events_in (at_step j k))
 
--- what a run that ends so does last, and prints last: nothing where it is done
+-- what a run that ends so does last: nothing where it is done
 abbrev pub ending_of : End → List Event
 ending_of end = with_line [] (stop_of end)
-
-abbrev pub last_text : End → List ℕ
-last_text end = printed (ending_of end)
 
 -- the code ends so, no store was refused, and all its events were carried out
 pub record IsAllDone (j : Job) (before now : Option (List ℕ)) (left : Database) (end : End) : Type 0 where

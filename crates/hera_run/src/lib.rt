@@ -12,6 +12,5 @@ mod run;
 pub use carry::{Action, carry_out, keep_in};
 pub use folder::run_in_folder;
 pub use keeper::{InFolder, InMemory, Keeper};
-pub use lines::{commit_line, last_line};
 pub use opening::{open_folder, open_for, rewrite};
 pub use run::{Close, commit, ending_of, run_code};

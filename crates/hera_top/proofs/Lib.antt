@@ -1,4 +1,5 @@
 mod Answering
+mod Reading
 mod Guarding
 mod Distinct
 mod Drilled

@@ -24,6 +24,11 @@ pub record IsRead (limit : ℕ) (before now : Seen) (bytes : List ℕ) : Type 0 
   pub ended : IsAtEnd now.left ⊎ (limit < length bytes)
   pub still : now.faults ≡ before.faults
 
+-- the same, and no more than the limit
+pub record IsWhole (limit : ℕ) (before now : Seen) (bytes : List ℕ) : Type 0 where
+  pub read : IsRead limit before now bytes
+  pub short : length bytes ≤ limit
+
 -- it failed before more than the limit came
 pub record IsUnread (limit : ℕ) (before now : Seen) : Type 0 where
   pub bytes : List ℕ

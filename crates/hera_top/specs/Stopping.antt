@@ -1,7 +1,8 @@
--- Why no program, or not all, came of sources.
-use Rattle.std.specs.Prelude.{◌≡◌, ℕ, List}
+-- Why no bytes, no program, or not all programs came of sources.
+use Rattle.std.specs.Prelude.{◌≡◌, ◌<◌, ℕ, List, length}
 use Rattle.hera_host.specs.Tables.{Host}
 use Rattle.hera_script.specs.declared.cause.Cause.{Cause}
+use Rattle.hera_script.specs.declared.cause.Cause.TheVariants.{TooLong}
 use Rattle.hera_script.specs.Refusing.{IsRefused}
 use Rattle.hera_syntax.specs.Tokens.{script_limit}
 use Rattle.hera_outcome.specs.declared.answer.Stop.{Stop}
@@ -10,6 +11,13 @@ use Rattle.hera_outcome.specs.declared.refusal.Refusal.TheVariants.{Unread, Scri
 use Rattle.hera_top.specs.Scripts.{AreRefused}
 use Rattle.hera_top.specs.Sources.{Seen, IsRead, IsUnread, AreStill}
 
+-- a source failed, more than the limit came, or there was no memory
+pub data IsMissing (limit : ℕ) (before now : Seen) : Stop → Type 0 where
+  is_unread : IsUnread limit before now → IsMissing limit before now (Refused Unread)
+  is_too_long : (bytes : List ℕ) → IsRead limit before now bytes → limit < length bytes → IsMissing limit before now (Refused (Script TooLong limit))
+  has_no_memory : now.faults ≡ before.faults → IsMissing limit before now Memory
+
+-- a source failed, its script is refused, or there was no memory
 pub data IsStopped (hosts : List Host) (before now : Seen) : Stop → Type 0 where
   fails : IsUnread script_limit before now → IsStopped hosts before now (Refused Unread)
   refuses : {cause : Cause} {at : ℕ} (script : List ℕ) → IsRead script_limit before now script → IsRefused hosts script cause at → IsStopped hosts before now (Refused (Script cause at))

@@ -10,20 +10,20 @@ ghost use Rattle.hera_syntax.specs.Tokens.{HaveValues, script_limit};
 ghost use Rattle.hera_syntax.specs.Trees.{IsTextOf};
 ghost use Rattle.hera_outcome.specs.Passages.{passage};
 ghost use Rattle.hera_outcome.specs.Told.{Answered};
-ghost use Rattle.hera_packed.specs.Executed.{code_limit, ExecutesTo};
+ghost use Rattle.hera_packed.specs.Executed.{ExecutesTo};
 ghost use Rattle.hera_words.specs.declared.command.Command.{Command};
 ghost use Rattle.hera_top.specs.Coding.{PrintsPack, PacksTo};
 ghost use Rattle.hera_top.specs.Commands.{IsAnswered, IsApart};
 ghost use Rattle.hera_top.specs.Sources.{seen};
 
 use crate::run::run;
-use crate::script::too_long;
-use hera_causes::{ReadFail, Source, read_all};
+use crate::sources::read_source;
+use hera_causes::Source;
 use hera_host::HostTable;
 use hera_meaning::Program;
 use hera_outcome::{Ending, Refusal, Stop, tell};
 use hera_packed::{CODE_LIMIT, OpenFault, open_code, pack_script};
-use hera_script::{Cause, ScriptFault, read_script};
+use hera_script::read_script;
 use hera_syntax::{SCRIPT_LIMIT, Tree};
 use hera_volume::Outside;
 use std::alloc::Global;
@@ -59,18 +59,11 @@ fn pack<W: Outside>(
     ensures answered { Answered (PacksTo hosts.now.names script.now) result (passage W.Output W.Outside.own outside.old outside.new) }
     ensures apart { IsApart result (passage W.Output W.Outside.own outside.old outside.new) }
 {
-    match read_script(alloc, script, hosts) {
-        Ok((tree, program)) => {
-            let answer = print_pack(alloc, &tree, &program, outside, hosts);
-            drop(tree);
-            drop(program);
-            answer
-        }
-        Err(ScriptFault::Refused { cause, at }) => {
-            Err(Stop::Refused(Refusal::Script { cause, at }))
-        }
-        Err(ScriptFault::Memory) => Err(Stop::Memory),
-    }
+    let (tree, program) = read_script(alloc, script, hosts)?;
+    let answer = print_pack(alloc, &tree, &program, outside, hosts);
+    drop(tree);
+    drop(program);
+    answer
 }
 
 /// Reads a script and prints a code file of it.
@@ -83,12 +76,8 @@ pub(crate) fn pack_source<S: Source, W: Outside>(
     ensures answered { (name : List ℕ) → IsAnswered hosts.now.names name Command.Pack (seen S.left S.faults source.old ∷ []) (seen S.left S.faults source.new ∷ []) result (passage W.Output W.Outside.own outside.old outside.new) }
     ensures apart { IsApart result (passage W.Output W.Outside.own outside.old outside.new) }
 {
-    match read_all(alloc, source, SCRIPT_LIMIT) {
-        Ok(script) => pack(alloc, &script, outside, hosts),
-        Err(ReadFail::Fault) => Err(Stop::Refused(Refusal::Unread)),
-        Err(ReadFail::TooLong) => Err(too_long()),
-        Err(ReadFail::Memory) => Err(Stop::Memory),
-    }
+    let script = read_source(alloc, source, SCRIPT_LIMIT)?;
+    pack(alloc, &script, outside, hosts)
 }
 
 /// Runs a code file, where its code is verified, on its relations without rows, with at most so many turns.
@@ -125,20 +114,6 @@ pub(crate) fn exec_source<S: Source, W: Outside>(
     ensures answered { (name : List ℕ) → IsAnswered hosts.now.names name (Command.Exec turns) (seen S.left S.faults source.old ∷ []) (seen S.left S.faults source.new ∷ []) result (passage W.Output W.Outside.own outside.old outside.new) }
     ensures apart { IsApart result (passage W.Output W.Outside.own outside.old outside.new) }
 {
-    match read_all(alloc, source, CODE_LIMIT) {
-        Ok(bytes) => execute(alloc, &bytes, turns, outside, hosts),
-        Err(ReadFail::Fault) => Err(Stop::Refused(Refusal::Unread)),
-        Err(ReadFail::TooLong) => Err(too_much_code()),
-        Err(ReadFail::Memory) => Err(Stop::Memory),
-    }
-}
-
-/// The refusal of a code file that is too long.
-fn too_much_code() -> Stop
-    ensures { result ≡ Stop.Refused (Refusal.Script Cause.TooLong code_limit) }
-{
-    Stop::Refused(Refusal::Script {
-        cause: Cause::TooLong,
-        at: CODE_LIMIT as u32,
-    })
+    let bytes = read_source(alloc, source, CODE_LIMIT)?;
+    execute(alloc, &bytes, turns, outside, hosts)
 }

@@ -8,13 +8,13 @@ ghost use Rattle.hera_top.specs.Commands.{IsAnswered};
 ghost use Rattle.hera_top.specs.Guarding.{AreLinesOf, GivesNoLines, GuardsFor, IsGuarded};
 ghost use Rattle.hera_top.specs.Sources.{seen, seen_of};
 
-use crate::script::too_long;
-use hera_causes::{ReadFail, Source, read_all};
+use crate::sources::read_source;
+use hera_causes::Source;
 use hera_guard_lines::GuardLines;
 use hera_guarded::{guard_in_folder, read_rules};
 use hera_host::HostTable;
-use hera_outcome::{Ending, Refusal, Stop};
-use hera_script::{ScriptFault, read_program};
+use hera_outcome::{Ending, Stop};
+use hera_script::read_program;
 use hera_syntax::SCRIPT_LIMIT;
 use hera_volume::Outside;
 use std::alloc::Global;
@@ -25,18 +25,9 @@ fn lines_of<S: Source>(alloc: Global, source: &mut S) -> Result<GuardLines, Stop
     ensures none { IfErr result (GivesNoLines (seen S.left S.faults source.old) (seen S.left S.faults source.new)) }
     ensures later { S.faults source.old ≤ S.faults source.new }
 {
-    match read_all(alloc, source, SCRIPT_LIMIT) {
-        Ok(rules) => match read_rules(alloc, &rules) {
-            Ok(lines) => Ok(lines),
-            Err(ScriptFault::Refused { cause, at }) => {
-                Err(Stop::Refused(Refusal::Script { cause, at }))
-            }
-            Err(ScriptFault::Memory) => Err(Stop::Memory),
-        },
-        Err(ReadFail::Fault) => Err(Stop::Refused(Refusal::Unread)),
-        Err(ReadFail::TooLong) => Err(too_long()),
-        Err(ReadFail::Memory) => Err(Stop::Memory),
-    }
+    let rules = read_source(alloc, source, SCRIPT_LIMIT)?;
+    let lines = read_rules(alloc, &rules)?;
+    Ok(lines)
 }
 
 /// Runs a script over the folder under the guards that the lines mean.
@@ -51,13 +42,8 @@ fn guard_script<W: Outside>(
     requires short { length script.now ≤ script_limit }
     ensures answered { Answered (GuardsFor hosts.now.names lines.now turns script.now (start W.Outside.own outside.old)) result (passage W.Output W.Outside.own outside.old outside.new) }
 {
-    match read_program(alloc, script, hosts) {
-        Ok(program) => guard_in_folder(alloc, program, lines, turns, outside, hosts),
-        Err(ScriptFault::Refused { cause, at }) => {
-            Err(Stop::Refused(Refusal::Script { cause, at }))
-        }
-        Err(ScriptFault::Memory) => Err(Stop::Memory),
-    }
+    let program = read_program(alloc, script, hosts)?;
+    guard_in_folder(alloc, program, lines, turns, outside, hosts)
 }
 
 /// Reads a script and runs it over the folder under the guards that the lines mean.
@@ -71,12 +57,8 @@ fn guard_source<S: Source, W: Outside>(
 ) -> Result<Ending, Stop>
     ensures answered { IsGuarded hosts.now.names lines.now turns (seen S.left S.faults source.old) (seen S.left S.faults source.new) result (passage W.Output W.Outside.own outside.old outside.new) }
 {
-    match read_all(alloc, source, SCRIPT_LIMIT) {
-        Ok(script) => guard_script(alloc, turns, lines, &script, outside, hosts),
-        Err(ReadFail::Fault) => Err(Stop::Refused(Refusal::Unread)),
-        Err(ReadFail::TooLong) => Err(too_long()),
-        Err(ReadFail::Memory) => Err(Stop::Memory),
-    }
+    let script = read_source(alloc, source, SCRIPT_LIMIT)?;
+    guard_script(alloc, turns, lines, &script, outside, hosts)
 }
 
 /// Runs the script of the second source over the folder under the guards of the first.

@@ -10,6 +10,7 @@ mod folders;
 mod guard;
 mod run;
 mod script;
+mod sources;
 mod top;
 mod transfers;
 mod weaves;

@@ -8,10 +8,11 @@ ghost use Rattle.hera_top.specs.Commands.{ComesToFor, ReadsScript, IsAnswered, I
 ghost use Rattle.hera_top.specs.Sources.{seen};
 
 use crate::commands::perform;
-use hera_causes::{ReadFail, Source, read_all};
+use crate::sources::read_source;
+use hera_causes::Source;
 use hera_host::HostTable;
-use hera_outcome::{Ending, Refusal, Stop};
-use hera_script::{Cause, ScriptFault, read_program};
+use hera_outcome::{Ending, Stop};
+use hera_script::read_program;
 use hera_syntax::SCRIPT_LIMIT;
 use hera_volume::Outside;
 use hera_words::Command;
@@ -30,13 +31,8 @@ pub(crate) fn answer_script<W: Outside>(
     ensures answered { Answered (ComesToFor hosts.now.names script.now (start W.Outside.own outside.old) command) result (passage W.Output W.Outside.own outside.old outside.new) }
     ensures apart { (form_of command).folder ≡ false → IsApart result (passage W.Output W.Outside.own outside.old outside.new) }
 {
-    match read_program(alloc, script, hosts) {
-        Ok(program) => perform(alloc, command, program, outside, hosts),
-        Err(ScriptFault::Refused { cause, at }) => {
-            Err(Stop::Refused(Refusal::Script { cause, at }))
-        }
-        Err(ScriptFault::Memory) => Err(Stop::Memory),
-    }
+    let program = read_program(alloc, script, hosts)?;
+    perform(alloc, command, program, outside, hosts)
 }
 
 /// Reads a script and carries out a command on it.
@@ -51,20 +47,6 @@ pub(crate) fn answer_source<S: Source, W: Outside>(
     ensures answered { (name : List ℕ) → IsAnswered hosts.now.names name command (seen S.left S.faults source.old ∷ []) (seen S.left S.faults source.new ∷ []) result (passage W.Output W.Outside.own outside.old outside.new) }
     ensures apart { (form_of command).folder ≡ false → IsApart result (passage W.Output W.Outside.own outside.old outside.new) }
 {
-    match read_all(alloc, source, SCRIPT_LIMIT) {
-        Ok(script) => answer_script(alloc, command, &script, outside, hosts),
-        Err(ReadFail::Fault) => Err(Stop::Refused(Refusal::Unread)),
-        Err(ReadFail::TooLong) => Err(too_long()),
-        Err(ReadFail::Memory) => Err(Stop::Memory),
-    }
-}
-
-/// The refusal of a script that is too long.
-pub(crate) fn too_long() -> Stop
-    ensures { result ≡ Stop.Refused (Refusal.Script Cause.TooLong script_limit) }
-{
-    Stop::Refused(Refusal::Script {
-        cause: Cause::TooLong,
-        at: SCRIPT_LIMIT as u32,
-    })
+    let script = read_source(alloc, source, SCRIPT_LIMIT)?;
+    answer_script(alloc, command, &script, outside, hosts)
 }

@@ -11,12 +11,12 @@ ghost use Rattle.hera_top.specs.Scripts.{IsAccepting, AreAccepting};
 ghost use Rattle.hera_top.specs.Stopping.{IsStopped, AreStopped};
 ghost use Rattle.hera_top.specs.Sources.{seen, seen_of, AreLater};
 
-use crate::script::too_long;
-use hera_causes::{ReadFail, Source, read_all};
+use crate::sources::read_source;
+use hera_causes::Source;
 use hera_host::HostTable;
 use hera_meaning::Program;
-use hera_outcome::{Ending, Refusal, Stop};
-use hera_script::{ScriptFault, read_program};
+use hera_outcome::{Ending, Stop};
+use hera_script::read_program;
 use hera_syntax::SCRIPT_LIMIT;
 use hera_volume::Outside;
 use hera_woven::weave_in_folder;
@@ -29,18 +29,9 @@ fn read_script<S: Source>(alloc: Global, source: &mut S, hosts: &HostTable) -> R
     ensures stopped { IfErr result (IsStopped hosts.now.names (seen S.left S.faults source.old) (seen S.left S.faults source.new)) }
     ensures later { S.faults source.old ≤ S.faults source.new }
 {
-    match read_all(alloc, source, SCRIPT_LIMIT) {
-        Ok(script) => match read_program(alloc, &script, hosts) {
-            Ok(program) => Ok(program),
-            Err(ScriptFault::Refused { cause, at }) => {
-                Err(Stop::Refused(Refusal::Script { cause, at }))
-            }
-            Err(ScriptFault::Memory) => Err(Stop::Memory),
-        },
-        Err(ReadFail::Fault) => Err(Stop::Refused(Refusal::Unread)),
-        Err(ReadFail::TooLong) => Err(too_long()),
-        Err(ReadFail::Memory) => Err(Stop::Memory),
-    }
+    let script = read_source(alloc, source, SCRIPT_LIMIT)?;
+    let program = read_program(alloc, &script, hosts)?;
+    Ok(program)
 }
 
 /// One item more.

@@ -19,13 +19,14 @@ use Rattle.hera_steps.specs.declared.events.End.{End}
 use Rattle.hera_machine.specs.declared.events.Event as told_event
 use Rattle.hera_machine.specs.declared.events.Event.TheVariants.{Quiet, Out, Commit, Ended}
 use Rattle.hera_machine.specs.declared.events.Status.TheVariants.{Working}
+use Rattle.hera_machine.specs.Ends.{last_text}
 use Rattle.hera_machine.specs.Over.{state_over}
 use Rattle.hera_machine.specs.Standing.{Standing, machine_over, event_over, commit_over, status_after, WaitsBy, IsNearer, IsLess}
 use Rattle.hera_steps.specs.Telling.{stop_of}
 use Rattle.hera_sessions.specs.Agreeing.{deltas_of}
 use Rattle.hera_sessions.specs.Sessions.{Task}
 use Rattle.hera_weave.specs.Seats.{Sitting}
-use Rattle.hera_weave.specs.Standing.{last_text, given_by, given_of, read_state, Executed, Commits, IsAt, IsEnded}
+use Rattle.hera_weave.specs.Standing.{given_by, given_of, read_state, Executed, Commits, IsAt, IsEnded}
 
 -- ---- events
 

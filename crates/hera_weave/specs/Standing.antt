@@ -7,7 +7,7 @@ use Rattle.hera_meaning.specs.Hosts.{Hosts}
 use Rattle.hera_meaning.specs.Printed.{commit_text}
 use Rattle.hera_meaning.specs.Worlds as worlds
 use Rattle.hera_meaning.specs.Run.{printed, state_after}
-use Rattle.hera_code.specs.Reached.{over, exec_code, code_at, with_line}
+use Rattle.hera_code.specs.Reached.{over, exec_code, code_at}
 use Rattle.hera_code.specs.Machine.{code_step}
 use Rattle.hera_machine.specs.declared.events.Event.{Event}
 use Rattle.hera_code.specs.Scheme.{code_of}
@@ -22,10 +22,6 @@ use Rattle.hera_sessions.specs.Weaving.{Outcome, committed, read, conflicted, co
 use Rattle.hera_weave.specs.declared.weave.WeaveEvent.{WeaveEvent}
 use Rattle.hera_weave.specs.declared.weave.WeaveEvent.TheVariants.{Quiet, Commit, Read, Conflict}
 use Rattle.hera_weave.specs.Seats.{Sitting}
-
--- what the end of a run prints
-abbrev pub last_text : End → List ℕ
-last_text end = printed (with_line [] (stop_of end))
 
 -- what an instruction reads the base under: the commits before the session's beginning; once it has commits of its
 -- own, the deltas that do what both do

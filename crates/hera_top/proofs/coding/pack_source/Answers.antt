@@ -1,74 +1,33 @@
-use Rattle.std.proofs.Common.{◌≡◌, ◌≤◌, ◌∙◌, ap, Err, sym, inl, inr, subst, List, [], ◌∷◌, ℕ, refl}
-use Rattle.hera_causes.specs.declared.fails.ReadFail.{ReadFail}
-use Rattle.hera_causes.specs.Causes.{EndsBy}
-use Rattle.hera_outcome.specs.Passages.{passage}
-use Rattle.hera_outcome.specs.Told.{Answered}
-use Rattle.hera_outcome.specs.declared.answer.Stop.{Stop}
-use Rattle.hera_outcome.proofs.Passing.{answered_weaker, pending_none, given_up_none, keeps_none}
-use Rattle.hera_top.specs.Sources.{seen, IsRead, this_failed}
-use Rattle.hera_syntax.specs.Tokens.{script_limit}
+use Rattle.std.proofs.Common.{List, ℕ, sym, subst}
 use Rattle.hera_script.specs.Refusing.{too_long}
-use Rattle.hera_top.specs.Coding.{OfPack, no_script, has_script, refuses_pack}
+use Rattle.hera_syntax.specs.Tokens.{script_limit}
+use Rattle.hera_outcome.specs.Passages.{passage}
+use Rattle.hera_words.specs.declared.command.Command.TheVariants.{Pack}
+use Rattle.hera_top.specs.Coding.{no_script, has_script, refuses_pack}
+use Rattle.hera_top.specs.Sources.{seen, IsRead}
+use Rattle.hera_top.proofs.Reading.{missing_apart, without_bytes, with_bytes}
 use Rattle.hera_top.proofs.coding.pack_source.Goals as goal
 
-pub returns-in-Ok-clause-answered : goal.returns-in-Ok-clause-answered
-returns-in-Ok-clause-answered g c = λ name.
+pub returns-in_err-script-clause-answered : goal.returns-in_err-script-clause-answered
+returns-in_err-script-clause-answered g c = λ name.
     let before = seen g.S.Source.left g.S.Source.faults c.args.source.now in
-    let now = seen g.S.Source.left g.S.Source.faults c.read_all.new.src in
-    let (bytes, came) = c.in-Ok.ensures.came in
-    let is : bytes ≡ c.deref.result.now = sym came.ended.0 ∙ sym c.deref.ensures.value in
-    let still = c.in-Ok.ensures.still (λ h. cc (h)) in
-    let read : IsRead script_limit before now bytes = record { consumed = came.consumed; ended = inl came.ended.2; still = still } in
-    record {
-      answered = answered_weaker _ _ c.pack.result (passage g.W.Output g.W.Outside c.args.outside.now c.pack.new.outside)
-          (λ o comes. has_script c.deref.result.now (subst (λ (l : List ℕ). IsRead script_limit before now l) is read) comes) c.pack.ensures.answered;
-      still = inl (still, tt);
-      later = (c.in-Ok.ensures.later, tt);
-    }
+    let now = seen g.S.Source.left g.S.Source.faults c.read_source.new.source in
+    without_bytes script_limit before now g.W.Output g.W.Outside c.args.outside.now c.args.hosts.now.names name Pack c.from_residual.result c.in_err-script.field-0.0 c.from_residual.ensures.1 c.in_err-script.ensures.missing c.read_source.ensures.later
+    (λ it. no_script it) (λ bytes read long. has_script bytes read (refuses_pack (too_long long)))
 
-pub returns-in-Ok-clause-apart : goal.returns-in-Ok-clause-apart
-returns-in-Ok-clause-apart g c = c.pack.ensures.apart
-
-pub returns-in-Err-Fault-clause-answered : goal.returns-in-Err-Fault-clause-answered
-returns-in-Err-Fault-clause-answered g c = λ name.
-    let (bytes, came) = c.in-Err-Fault.ensures.came in
-    let rose = c.in-Err-Fault.ensures.fault (ap Err c.in-Err-Fault.field-0-is) in
-    record {
-      answered = (
-        no_script (record { bytes = bytes; consumed = came.consumed; short = subst (λ (f : ReadFail). EndsBy f script_limit bytes) c.in-Err-Fault.field-0-is came.ended; rose = rose }),
-        pending_none g.W.Output g.W.Outside c.args.outside.now,
-      );
-      still = inr (refl, this_failed rose);
-      later = (c.in-Err-Fault.ensures.later, tt);
-    }
-
-pub returns-in-Err-Fault-clause-apart : goal.returns-in-Err-Fault-clause-apart
-returns-in-Err-Fault-clause-apart g c = record { keeps = keeps_none g.W.Output g.W.Outside c.args.outside.now; no_device = λ h. cc (h) }
-
-pub returns-in-Err-TooLong-clause-answered : goal.returns-in-Err-TooLong-clause-answered
-returns-in-Err-TooLong-clause-answered g c = λ name.
+pub returns-in_err-script-clause-apart : goal.returns-in_err-script-clause-apart
+returns-in_err-script-clause-apart g c =
     let before = seen g.S.Source.left g.S.Source.faults c.args.source.now in
-    let now = seen g.S.Source.left g.S.Source.faults c.read_all.new.src in
-    let (bytes, came) = c.in-Err-TooLong.ensures.came in
-    let long = subst (λ (f : ReadFail). EndsBy f script_limit bytes) c.in-Err-TooLong.field-0-is came.ended in
-    let still = c.in-Err-TooLong.ensures.still (λ h. cc (sym (ap Err c.in-Err-TooLong.field-0-is) ∙ h)) in
-    let v = passage g.W.Output g.W.Outside c.args.outside.now c.args.outside.now in
-    record {
-      answered = subst (λ (s : Stop). Answered (OfPack c.args.hosts.now.names (before ∷ []) (now ∷ [])) (Err s) v) (sym c.too_long.ensures) (
-        has_script bytes (record { consumed = came.consumed; ended = inr long; still = still }) (refuses_pack (too_long long)),
-        pending_none g.W.Output g.W.Outside c.args.outside.now,
-      );
-      still = inl (still, tt);
-      later = (c.in-Err-TooLong.ensures.later, tt);
-    }
+    let now = seen g.S.Source.left g.S.Source.faults c.read_source.new.source in
+    missing_apart script_limit before now g.W.Output g.W.Outside c.args.outside.now c.from_residual.result c.in_err-script.field-0.0 c.from_residual.ensures.1 c.in_err-script.ensures.missing
 
-pub returns-in-Err-TooLong-clause-apart : goal.returns-in-Err-TooLong-clause-apart
-returns-in-Err-TooLong-clause-apart g c = record { keeps = keeps_none g.W.Output g.W.Outside c.args.outside.now; no_device = λ h. cc (h) }
+pub returns-clause-answered : goal.returns-clause-answered
+returns-clause-answered g c = λ name.
+    let before = seen g.S.Source.left g.S.Source.faults c.args.source.now in
+    let now = seen g.S.Source.left g.S.Source.faults c.read_source.new.source in
+    let whole = c.in_ok-script.ensures.whole in
+    with_bytes script_limit before now c.args.hosts.now.names name Pack c.in_ok-script.script.items _ c.pack.result (passage g.W.Output g.W.Outside c.args.outside.now c.pack.new.outside) whole c.read_source.ensures.later
+    (λ o comes. has_script c.deref.result.now (subst (λ (l : List ℕ). IsRead script_limit before now l) (sym c.deref.ensures.value) whole.read) comes) c.pack.ensures.answered
 
-pub returns-in-Err-Memory-clause-answered : goal.returns-in-Err-Memory-clause-answered
-returns-in-Err-Memory-clause-answered g c = λ name.
-    let still = c.in-Err-Memory.ensures.still (λ h. cc (sym (ap Err c.in-Err-Memory.field-0-is) ∙ h)) in
-    record { answered = inr (given_up_none g.W.Output g.W.Outside c.args.outside.now); still = inl (still, tt); later = (c.in-Err-Memory.ensures.later, tt) }
-
-pub returns-in-Err-Memory-clause-apart : goal.returns-in-Err-Memory-clause-apart
-returns-in-Err-Memory-clause-apart g c = record { keeps = keeps_none g.W.Output g.W.Outside c.args.outside.now; no_device = λ h. cc (h) }
+pub returns-clause-apart : goal.returns-clause-apart
+returns-clause-apart g c = c.pack.ensures.apart
