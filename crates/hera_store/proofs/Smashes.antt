@@ -1,11 +1,10 @@
--- The smash of deltas, one after another, and the commits of a journal.
-use Rattle.std.proofs.Common.{◌≡◌, inl, inr, ℕ, ◌+◌, List, [], ◌∷◌, ◌++◌, map, refl, sym, ap, subst, ◌∙◌, arith}
+-- The commits of a journal, as one.
+use Rattle.std.proofs.Common.{◌≡◌, inl, inr, ℕ, List, [], ◌∷◌, map, refl, sym, ap, subst, ◌∙◌}
 use Rattle.std.specs.Prelude.{All}
 use Rattle.std.proofs.lemmas.List.Elements.{All-nil, All-cons, All-head, All-tail}
 use Rattle.hera_meaning.specs.Commits.{after_all, IsCommitOf, IsSmashOf}
 use Rattle.hera_meaning.specs.declared.schemas.RelDecl.{RelDecl}
-use Rattle.hera_meaning.specs.Deltas.{Atom, Delta, State, atoms, smash_of, apply_of}
-use Rattle.hera_meaning.proofs.DeltaLaws.{apply_of-smash_of}
+use Rattle.hera_meaning.specs.Deltas.{Atom, Delta, State, atoms}
 use Rattle.rel_format.specs.Journal.{IsRecordOf}
 use Rattle.rel_format.specs.Pages.{Format}
 use Rattle.rel_format.specs.Versions.{format_of, version_in}
@@ -17,21 +16,6 @@ use Rattle.commit_journal.proofs.Halves.{half_read}
 use Rattle.commit_journal.proofs.Wholes.{pages_damaged}
 use Rattle.hera_store.specs.Databases.{IsDamagedHalf}
 use Rattle.hera_store.specs.Standing.{AreAsGood}
-use Rattle.hera_meaning.proofs.CommitLaws.{smash_is_commit, state_push, nothing_applied}
-
--- the smash of none
-pub smash_none : (rels : List RelDecl) → IsSmashOf rels [] (atoms [])
-smash_none rels = record {
-  proper = record { proper = refl; known = All-nil _ };
-  same = λ s valid. nothing_applied rels s valid;
-}
-
--- the smash with one delta more
-pub smash_on : (rels : List RelDecl) (done more : List Delta) (all d : Delta) → IsSmashOf rels done all → IsCommitOf rels d → more ≡ done ++ d ∷ [] → IsSmashOf rels more (smash_of all d)
-smash_on rels done more all d so_far one is = record {
-  proper = smash_is_commit rels all d so_far.proper one;
-  same = λ s valid. apply_of-smash_of s all d so_far.proper.proper one.proper ∙ ap (λ (t : State). apply_of t d) (so_far.same s valid) ∙ sym (state_push s done d) ∙ ap (after_all s) (sym is);
-}
 
 pub as_good_none : (rels : List RelDecl) (deltas commits : List Delta) → deltas ≡ [] → commits ≡ [] → AreAsGood rels deltas commits
 as_good_none rels deltas commits none empty = record {

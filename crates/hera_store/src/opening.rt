@@ -1,6 +1,6 @@
 //! Databases opened.
 ghost use Rattle.std.specs.Prelude.{◌≡◌, ◌≢◌, ◌≤◌, ◌<◌, ◌⊎◌, [], ℕ, List, false, Err, IfOk, length, All};
-ghost use Rattle.hera_meaning.specs.Commits.{after_all, IsCommitOf, IsSmashOf};
+ghost use Rattle.hera_meaning.specs.Commits.{after_all, IsCommitOf};
 ghost use Rattle.hera_causes.specs.Causes.{Rose};
 ghost use Rattle.hera_meaning.specs.declared.schemas.RelDecl.{RelDecl};
 ghost use Rattle.hera_meaning.specs.Deltas.{IsState};
@@ -24,7 +24,7 @@ use hera_causes::Failed;
 use hera_volume::{FileId, Outside};
 use rel_format::HALF_LIMIT;
 use rel_pages::{Base, PageFault, read_half};
-use smash_merge::smash_into;
+use smash_merge::smash_all;
 use std::alloc::{AllocError, Global};
 
 impl From<Failed> for OpenFault {
@@ -214,15 +214,4 @@ fn as_one(alloc: Global, deltas: &[Delta]) -> Result<Vec<Delta>, AllocError>
     let all = smash_all(alloc, deltas)?;
     commits.push(all)?;
     Ok(commits)
-}
-
-/// The smash of deltas in order.
-fn smash_all(alloc: Global, deltas: &[Delta]) -> Result<Delta, AllocError>
-    ensures { (rels : List RelDecl) → All (IsCommitOf rels) deltas.now → IfOk result (IsSmashOf rels deltas.now) }
-{
-    let mut all = Delta::empty(alloc);
-    for delta in deltas {
-        smash_into(&mut all, delta)?;
-    }
-    Ok(all)
 }

@@ -4,7 +4,6 @@ ghost use Rattle.std.specs.List.{list_all};
 ghost use Rattle.hera_meaning.specs.declared.schemas.RelDecl.{RelDecl as PlainDecl};
 ghost use Rattle.hera_meaning.specs.Deltas as specs;
 ghost use Rattle.hera_meaning.specs.Deltas.{State, apply_of, is_fail};
-ghost use Rattle.hera_meaning.specs.Commits.{smash_all, smashed};
 ghost use Rattle.hera_meaning.specs.Fits.{is_delta_of};
 ghost use Rattle.hera_host.specs.Tables.{specs_of};
 ghost use Rattle.hera_code.specs.Forward.{Forward};
@@ -29,7 +28,7 @@ use hera_machine::{End, Event, Machine, Status, put_commit, put_end};
 use hera_meaning::writing::put;
 use hera_meaning::{Line, RelDecl};
 use rel_pages::Base;
-use smash_merge::smash_into;
+use smash_merge::smash_all;
 use std::alloc::{AllocError, Global};
 use std::marker::Model;
 
@@ -54,27 +53,6 @@ impl<'c> Model for Seat<'c> {
     ghost Value = { Sitting };
 
     ghost view = { λ s. record { code = s.code.now; machine = s.machine; begun = s.begun; own = s.own.items; levels = s.levels; text = s.text.items } };
-}
-
-/// Deltas as one, in order: the empty one where there is none.
-fn smash_all(alloc: Global, deltas: &[Delta]) -> Result<Delta, AllocError>
-    ensures { IfOk result (λ all. all ≡ smash_all deltas.now) }
-{
-    match deltas.split_first() {
-        None => Ok(Delta::empty(alloc)),
-        Some((first, rest)) => smash_on(first.copy()?, rest),
-    }
-}
-
-/// A delta and those behind it as one.
-fn smash_on(first: Delta, rest: &[Delta]) -> Result<Delta, AllocError>
-    ensures { IfOk result (λ all. all ≡ smashed first rest.now) }
-{
-    let mut all = first;
-    for delta in rest {
-        smash_into(&mut all, delta)?;
-    }
-    Ok(all)
 }
 
 /// The deltas under which an instruction reads: those before the session's beginning, or, once it has commits of its

@@ -6,6 +6,7 @@
 
 ghost use Rattle.std.specs.Prelude.{◌≡◌, ◌&&◌, cond, not, true, false, ◌∷◌, IfOk, OnOk, OnErr};
 ghost use Rattle.hera_sets.specs.Rows.{is_below};
+ghost use Rattle.hera_meaning.specs.Commits.{smash_all, smashed};
 ghost use Rattle.hera_meaning.specs.Deltas.{fail, atoms, is_fail, key_of, smash_of, merge_of, joint_atoms, clash};
 ghost use Rattle.hera_meaning.specs.Values.{same_sign};
 ghost use Rattle.delta_atoms.specs.Atoms.{atoms_in};
@@ -51,6 +52,27 @@ pub fn smash_into(a: &mut Delta, b: &Delta) -> Result<(), AllocError>
     ensures err { OnErr result (a.new ≡ a.old) }
 {
     a.smash_with(b)
+}
+
+/// The smash of deltas, in order: the empty one where there is none.
+pub fn smash_all(alloc: Global, deltas: &[Delta]) -> Result<Delta, AllocError>
+    ensures { IfOk result (λ all. all ≡ smash_all deltas.now) }
+{
+    match deltas.split_first() {
+        None => Ok(Delta::empty(alloc)),
+        Some((first, rest)) => smash_on(first.copy()?, rest),
+    }
+}
+
+/// The smash of a delta and those behind it.
+fn smash_on(first: Delta, rest: &[Delta]) -> Result<Delta, AllocError>
+    ensures { IfOk result (λ all. all ≡ smashed first rest.now) }
+{
+    let mut all = first;
+    for delta in rest {
+        smash_into(&mut all, delta)?;
+    }
+    Ok(all)
 }
 
 /// Makes the second delta the smash of both. It costs a search in the second delta for each atom of the first. Without
