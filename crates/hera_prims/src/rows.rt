@@ -15,6 +15,7 @@ use delta_atoms::Value;
 use hera_fits::{Args, int, row_at, rows_len_at, truth};
 use hera_meaning::{Op, Scalar, ScalarRef, Schema, Text, TextFault, TrapName};
 use hera_row::{encode, field};
+use hera_rows::ROWS_LIMIT;
 use std::alloc::{AllocError, Global};
 
 /// A text of its own with these bytes.
@@ -97,7 +98,7 @@ pub(crate) fn held_count(args: &Args) -> Result<Value, PrimEnd>
     ensures spared { IsSparing Op.Count result }
 {
     let n = rows_len_at(args, 0);
-    if n < 1 << 63 {
+    if n as u64 <= ROWS_LIMIT {
         Ok(int(n as i64))
     } else {
         Err(PrimEnd::Trap(TrapName::Overflow))

@@ -14,6 +14,7 @@ use crate::kinds::have_same_kinds;
 use crate::{Sight, Stack};
 use delta_atoms::Delta;
 use hera_meaning::{RelDecl, RelId, Schema};
+use hera_rows::ROWS_LIMIT;
 use hera_values::let_go;
 use std::alloc::{AllocError, Global};
 use std::marker::Model;
@@ -244,7 +245,11 @@ impl<'c> Changes<'c> {
             at = below;
         }
         let count = pending.checked_add(put_in)?.checked_sub(taken_out)?;
-        if count < 1 << 63 { Some(count) } else { None }
+        if count <= ROWS_LIMIT {
+            Some(count)
+        } else {
+            None
+        }
     }
 
     /// The same rows as `rel` gives, with the schema of which they are known to be. It takes no memory.

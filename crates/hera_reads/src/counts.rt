@@ -7,6 +7,7 @@ ghost use Rattle.hera_reads.specs.Counted.{AreCounts, IsCount};
 use crate::Changes;
 use delta_atoms::Delta;
 use hera_meaning::RelId;
+use hera_rows::ROWS_LIMIT;
 use std::alloc::{AllocError, Global};
 use std::marker::Model;
 use when_overlay::{Stored, change_of};
@@ -123,7 +124,7 @@ impl Counts {
         let next = count
             .checked_add(change.put_in)?
             .checked_sub(change.taken_out)?;
-        if next < 1 << 63 { Some(next) } else { None }
+        if next <= ROWS_LIMIT { Some(next) } else { None }
     }
 
     /// Goes on from the counts after the pending delta to those after one delta more. Only the rows that it names are

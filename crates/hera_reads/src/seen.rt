@@ -3,7 +3,7 @@ ghost use Rattle.std.specs.Prelude.{◌≡◌, ◌≤◌, ◌<◌, ◌^◌, leng
 ghost use Rattle.hera_reads.specs.Seeing.{rows_seen};
 
 use crate::Sight;
-use hera_rows::{RowMark, RowSet, Sorted};
+use hera_rows::{ROWS_LIMIT, RowMark, RowSet, Sorted};
 
 /// The rows of a relation that is an operand, of which none is copied.
 #[derive(Drop)]
@@ -35,7 +35,11 @@ fn held_count(rows: &RowSet) -> Option<u64>
     ensures { MatchOption result (2 ^ 63 ≤ length rows.now) (λ n. (n ≡ length rows.now) × (n < 2 ^ 63)) }
 {
     let count = rows.len() as u64;
-    if count < 1 << 63 { Some(count) } else { None }
+    if count <= ROWS_LIMIT {
+        Some(count)
+    } else {
+        None
+    }
 }
 
 impl Sorted for Seen<'_> {

@@ -19,8 +19,8 @@ loop-at-preserved c =
 pub loop-at-smaller : goal.loop-at-smaller
 loop-at-smaller c = c.change.ensures.lower
 
-pub returns-then-count : goal.returns-then-count
-returns-then-count c =
+pub returns-then-count-le-ROWS_LIMIT : goal.returns-then-count-le-ROWS_LIMIT
+returns-then-count-le-ROWS_LIMIT c =
     let tree = subst (λ (r : Branches). IsTree r.layers) c.self.view_is c.self.invariant.0 in
     let root = ap (λ (x : State). length (rows_at x c.args.rel.0)) (seen_root c.args.stored.now.state c.args.self.now.layers c.loop-at.at tree c.loop-at-test.false) in
     (omega (arith, root, c.loop-at.invariant.sum, c.requires.pending.0), omega arith)

@@ -4,8 +4,8 @@ use Rattle.hera_reads.specs.Branched.{pending_of}
 use Rattle.hera_reads.proofs.Counting.{rows_before, rows_behind}
 use Rattle.hera_reads.proofs.counts.Counts.next.Goals as goal
 
-pub returns-then-next : goal.returns-then-next
-returns-then-next c =
+pub returns-then-next-le-ROWS_LIMIT : goal.returns-then-next-le-ROWS_LIMIT
+returns-then-next-le-ROWS_LIMIT c =
     let s = apply_of c.args.stored.now.state (pending_of c.args.changes.now.layers) in
     let i = c.args.i in
     let before = rows_before s i c.pending_rel-rows.result c.pending_rel-rows.ensures in
@@ -14,4 +14,4 @@ returns-then-next c =
     let change = c.in_ok-change.ensures in
     let sum = c.in_ok-checked_add.ensures in
     let next = c.in_ok-next.ensures in
-    (omega (arith, before, behind, known.0, change, sum, next), c.if-next.true)
+    (omega (arith, before, behind, known.0, change, sum, next), omega (arith, c.if-next-le-ROWS_LIMIT.true))
