@@ -78,8 +78,8 @@ module _ (limit : ℕ) (before now : Seen) where
 module _ {D : Type 0} (q : output.Ghosts D) (w : files.Ghosts D) (a : D) where
   pub fault_answered : (Comes : Outcome → Type 0) (r : Result Ending Stop) (fault : ScriptFault) → IsErrAnd r (λ e. e ≡ stop_of_script fault)
       → ((cause : Cause) (at : ℕ) → fault ≡ script_fault.Refused cause at → Comes (refused (Script cause at))) → Answered Comes r (passage q w a a)
-  fault_answered Comes r (script_fault.Refused cause at) is refuses = handed_on (λ x. Answered Comes x (passage q w a a)) r (Refused (Script cause at)) is (refuses cause at refl, pending_none q w a)
-  fault_answered Comes r script_fault.Memory is refuses = handed_on (λ x. Answered Comes x (passage q w a a)) r Memory is (inr (given_up_none q w a))
+  fault_answered Comes r (script_fault.Refused cause at) is comes = handed_on (λ x. Answered Comes x (passage q w a a)) r (Refused (Script cause at)) is (comes cause at refl, pending_none q w a)
+  fault_answered Comes r script_fault.Memory is comes = handed_on (λ x. Answered Comes x (passage q w a a)) r Memory is (inr (given_up_none q w a))
 
   pub fault_apart : (r : Result Ending Stop) (fault : ScriptFault) → IsErrAnd r (λ e. e ≡ stop_of_script fault) → IsApart r (passage q w a a)
   fault_apart r (script_fault.Refused cause at) is = handed_on (λ x. IsApart x (passage q w a a)) r (Refused (Script cause at)) is (record { keeps = keeps_none q w a; no_device = λ h. cc (h) })
@@ -94,8 +94,8 @@ module _ (before now : Seen) where
   missing_stopped hosts _ (has_no_memory still) = lacks_memory still
 
   pub fault_stopped : (hosts : List Host) (script : List ℕ) (fault : ScriptFault) → IsRead script_limit before now script → ((cause : Cause) (at : ℕ) → fault ≡ script_fault.Refused cause at → IsRefused hosts script cause at) → IsStopped hosts before now (stop_of_script fault)
-  fault_stopped hosts script (script_fault.Refused cause at) read refused = refuses script read (refused cause at refl)
-  fault_stopped hosts script script_fault.Memory read refused = lacks_memory read.still
+  fault_stopped hosts script (script_fault.Refused cause at) read why = refuses script read (why cause at refl)
+  fault_stopped hosts script script_fault.Memory read why = lacks_memory read.still
 
   pub missing_lines : (stop : Stop) → IsMissing script_limit before now stop → GivesNoLines before now stop
   missing_lines _ (is_unread it) = misses_rules it
@@ -103,5 +103,5 @@ module _ (before now : Seen) where
   missing_lines _ (has_no_memory still) = still
 
   pub fault_lines : (rules : List ℕ) (fault : ScriptFault) → IsRead script_limit before now rules → IsRulesFault rules fault → GivesNoLines before now (stop_of_script fault)
-  fault_lines rules (script_fault.Refused cause at) read refused = refuses_rules rules read refused
-  fault_lines rules script_fault.Memory read refused = read.still
+  fault_lines rules (script_fault.Refused cause at) read why = refuses_rules rules read why
+  fault_lines rules script_fault.Memory read why = read.still

@@ -1,4 +1,4 @@
-use Rattle.std.proofs.Common.{◌≡◌, ◌∙◌, List, sym, ap, Err, inl, inr, subst}
+use Rattle.std.proofs.Common.{◌∙◌, List, sym, ap, Err, inl, inr, subst}
 use Rattle.hera_code.specs.declared.instrs.Code.{Code}
 use Rattle.hera_code.specs.Reached.{code_at}
 use Rattle.hera_codegen.specs.Correct.{AreStoresOf, events_in}

@@ -1,4 +1,4 @@
-use Rattle.std.proofs.Common.{◌≡◌, List, sym, inl, inr, subst}
+use Rattle.std.proofs.Common.{List, sym, inl, inr, subst}
 use Rattle.hera_code.specs.declared.instrs.Code.{Code}
 use Rattle.hera_code.specs.Reached.{code_at}
 use Rattle.hera_code.specs.Scheme.{code_of}

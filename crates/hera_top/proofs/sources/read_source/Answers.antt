@@ -1,4 +1,4 @@
-use Rattle.std.proofs.Common.{◌≡◌, ◌≤◌, ◌∙◌, ap, Err, sym, inl, inr, subst, List, ℕ, length}
+use Rattle.std.proofs.Common.{◌≤◌, ◌∙◌, ap, Err, sym, inl, inr, subst, List, ℕ, length}
 use Rattle.hera_causes.specs.declared.fails.ReadFail.{ReadFail}
 use Rattle.hera_causes.specs.Causes.{EndsBy}
 use Rattle.hera_top.specs.Sources.{Seen, seen, IsRead}

@@ -13,8 +13,8 @@ returns-in_err-script-clause-stopped g c =
     let now = seen g.S.Source.left g.S.Source.faults c.read_source.new.source in
     err_is (IsStopped c.args.hosts.now.names before now) c.from_residual.result c.in_err-script.field-0.0 c.from_residual.ensures.1 (missing_stopped before now c.args.hosts.now.names _ c.in_err-script.ensures.missing)
 
-pub read_program-program-requires : goal.read_program-program-requires
-read_program-program-requires g c = subst (λ (l : List ℕ). length l ≤ script_limit) (sym c.deref.ensures.value) c.in_ok-script.ensures.whole.short
+pub read_program-requires : goal.read_program-requires
+read_program-requires g c = subst (λ (l : List ℕ). length l ≤ script_limit) (sym c.deref.ensures.value) c.in_ok-script.ensures.whole.short
 
 pub returns-in_err-program-clause-stopped : goal.returns-in_err-program-clause-stopped
 returns-in_err-program-clause-stopped g c =
