@@ -1,6 +1,6 @@
 -- A journal that is printed is read.
-use Rattle.std.proofs.Common.{◌≡◌, ◌≢◌, ◌≤◌, ◌<◌, ℕ, zero, suc, ◌+◌, Bool, true, false, cond, List, [], ◌∷◌, ◌++◌, length, take, drop, map, Option, Some, None, refl, sym, ap, subst, ◌∙◌, append_assoc, arith, inl, inr}
-use Rattle.std.specs.Prelude.{◌==◌, ◌&&◌, nat_le, nat_lt, All}
+use Rattle.std.proofs.Common.{◌≡◌, ◌≢◌, ◌≤◌, ◌<◌, ℕ, ◌+◌, Bool, true, cond, List, [], ◌∷◌, ◌++◌, length, take, drop, Option, Some, None, refl, sym, ap, subst, ◌∙◌, append_assoc, arith, inl, inr}
+use Rattle.std.specs.Prelude.{◌&&◌, nat_lt, All}
 use Rattle.std.specs.List.{flat_map}
 use Rattle.std.specs.Option.{option_map, option_and_then}
 use Rattle.std.specs.Int.{w16, w32, to_be_bytes, from_be_bytes}
@@ -18,12 +18,11 @@ use Rattle.hera_meaning.specs.Rows.{IsRow}
 use Rattle.hera_meaning.specs.Deltas.{Atom, key_of, keys_of, schema_of, IsAtomOf}
 use Rattle.hera_row.specs.Reading.{row_len_of}
 use Rattle.hera_row.proofs.RowLemmas.{row_len_of-row_of}
-use Rattle.rel_format.specs.Fields.{kept, number, first_byte, first_row}
+use Rattle.rel_format.specs.Fields.{kept, number, first_byte}
 use Rattle.rel_format.specs.Journal.{sign_byte, atom_bytes, record_of, sealed, IsRecordOf}
-use Rattle.rel_format.proofs.Walks.{step_by}
-use Rattle.commit_journal.specs.Table.{JournalStand, Opened, at_gate, at_atom_count, at_sign, at_rel, at_row, at_end, behind_gate, behind_atom, opened, with_atom, atom_read, last_atom, sign_field, follows, rel_field, row_keeps, row_field}
+use Rattle.commit_journal.specs.Table.{Opened, at_gate, at_sign, at_end, behind_atom, opened, with_atom, last_atom, sign_field, follows, rel_field, row_keeps, row_field}
 use Rattle.commit_journal.specs.Places.{Reaches}
-use Rattle.commit_journal.proofs.Steps.{to_rel, to_row, behind_row, to_atoms, behind_open, behind_closed, third}
+use Rattle.commit_journal.proofs.Steps.{to_rel, to_row, behind_row, to_atoms, behind_open, behind_closed}
 
 -- ---- the rules of an atom, from the order of atoms
 

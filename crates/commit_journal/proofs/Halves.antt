@@ -1,16 +1,15 @@
 -- A half after its journal was scanned, and after a record was sealed.
-use Rattle.std.proofs.Common.{◌≡◌, ◌≢◌, ◌≤◌, ◌<◌, ◌⊎◌, inl, inr, max, ℕ, ◌+◌, ◌-◌, ◌*◌, List, [], ◌∷◌, ◌++◌, length, take, drop, map, get_or, refl, sym, ap, subst, ◌∙◌, append_assoc, arith}
-use Rattle.std.specs.Prelude.{false, All}
+use Rattle.std.proofs.Common.{◌≡◌, ◌≤◌, ◌<◌, ◌⊎◌, inl, inr, ℕ, ◌+◌, ◌-◌, List, [], ◌∷◌, ◌++◌, length, take, drop, map, get_or, refl, sym, ap, ◌∙◌, append_assoc, arith}
+use Rattle.std.specs.Prelude.{false}
 use Rattle.std.specs.List.{flat_map}
 use Rattle.std.proofs.lemmas.List.{length-append, length-take, take_at, drop_at, get_or-append_right}
 use Rattle.std.proofs.lemmas.List.Elements.{All-push}
 use Rattle.hera_meaning.specs.Commits.{after_all}
 use Rattle.hera_meaning.specs.declared.schemas.RelDecl.{RelDecl}
-use Rattle.hera_meaning.specs.Catalogues.{IsCatalogue}
 use Rattle.hera_meaning.specs.Deltas.{State, Atom, Delta, fail, atoms, apply_of, is_fail, IsDelta, IsDeltaOf}
 use Rattle.delta_atoms.specs.Atoms.{atoms_in}
 use Rattle.rel_format.specs.Pages.{Format, pages_of}
-use Rattle.rel_format.specs.Journal.{atom_bytes, record_of, sealed, IsRecordOf, IsHalf, half_limit}
+use Rattle.rel_format.specs.Journal.{record_of, sealed, IsRecordOf, IsHalf, half_limit}
 use Rattle.rel_format.proofs.Printed.{one_more}
 use Rattle.hera_volume.specs.Disk.{Disk, IsSettled}
 use Rattle.commit_journal.specs.Gate.{IsWithout, IsWith, IsEither, IsReady}

@@ -1,5 +1,5 @@
 -- A walk has one end, so a journal is read in one way.
-use Rattle.std.proofs.Common.{◌≡◌, ◌≢◌, ◌≤◌, ◌<◌, ℕ, zero, suc, ◌+◌, ◌-◌, Bool, true, false, List, [], ◌∷◌, ◌++◌, length, drop, map, Option, Some, None, refl, sym, ap, subst, ◌∙◌, arith, inl, inr}
+use Rattle.std.proofs.Common.{◌≡◌, ◌≢◌, ◌≤◌, ◌<◌, ℕ, zero, suc, ◌+◌, ◌-◌, List, [], ◌∷◌, ◌++◌, length, drop, map, Some, None, refl, sym, ap, ◌∙◌, arith, inl, inr}
 use Rattle.std.specs.Prelude.{All}
 use Rattle.std.specs.List.{flat_map}
 use Rattle.std.proofs.lemmas.Bool.{both_ways, cases_order}
@@ -9,7 +9,7 @@ use Rattle.hera_meaning.specs.Deltas.{Atom, Delta, atoms}
 use Rattle.rel_format.specs.Journal.{sealed, IsRecordOf}
 use Rattle.rel_format.specs.Walk.{Table, forward, onward, walk_by, ReachesBy}
 use Rattle.commit_journal.specs.Table.{JournalStand, at_gate, at_end, next, is_whole}
-use Rattle.commit_journal.specs.Places.{Reaches, Stops, IsJournal}
+use Rattle.commit_journal.specs.Places.{Stops, IsJournal}
 use Rattle.commit_journal.proofs.Complete.{journal_printed}
 
 abbrev spot : {S : Type 0} → ℕ → S → ℕ × S

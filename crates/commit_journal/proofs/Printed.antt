@@ -1,8 +1,8 @@
 -- What was read of a journal is spelled as it is printed, and its records are valid.
 use Rattle.std.proofs.Common.{◌≡◌, ◌≢◌, ◌≤◌, ◌<◌, ℕ, zero, suc, ◌+◌, ◌-◌, Bool, true, false, cond, List, [], ◌∷◌, ◌++◌, length, take, drop, map, Option, Some, None, refl, sym, ap, subst, ◌∙◌, append_assoc, arith}
 use Rattle.std.specs.Prelude.{◌==◌, ◌&&◌, nat_le, nat_lt, All}
-use Rattle.std.specs.List.{flat_map, slice_get}
-use Rattle.std.specs.Option.{option_map, option_and_then}
+use Rattle.std.specs.List.{flat_map}
+use Rattle.std.specs.Option.{option_and_then}
 use Rattle.std.specs.Int.{w16, w32, to_be_bytes, from_be_bytes}
 use Rattle.std.proofs.Math.Seq.{take-add}
 use Rattle.std.proofs.lemmas.Bool.{eqb-true, eqb-false, leb-true, ltb-true, and_parts}
@@ -16,14 +16,14 @@ use Rattle.hera_meaning.specs.declared.scalars.Sign.TheVariants.{Plus, Minus}
 use Rattle.hera_meaning.specs.declared.schemas.Attr.{Attr}
 use Rattle.hera_meaning.specs.declared.schemas.RelDecl.{RelDecl}
 use Rattle.hera_meaning.specs.Rows.{IsRow}
-use Rattle.hera_meaning.specs.Deltas.{Atom, Delta, atoms, key_of, keys_of, schema_of, IsAtomOf}
+use Rattle.hera_meaning.specs.Deltas.{Atom, Delta, atoms, keys_of, schema_of, IsAtomOf}
 use Rattle.hera_row.specs.Reading.{row_len_of}
 use Rattle.hera_row.proofs.RowLemmas.{row_len_some}
 use Rattle.hera_row.proofs.FieldLemmas.{AreBytes, AreBytes-take, AreBytes-drop}
-use Rattle.rel_format.specs.Fields.{kept, number, first_byte, first_row}
-use Rattle.rel_format.specs.Journal.{sign_byte, atom_bytes, record_of, sealed, IsRecordOf}
+use Rattle.rel_format.specs.Fields.{number, first_byte, first_row}
+use Rattle.rel_format.specs.Journal.{sign_byte, atom_bytes, sealed, IsRecordOf}
 use Rattle.rel_format.proofs.Walks.{kept_by}
-use Rattle.rel_format.proofs.Printed.{kept_is, one_more, number16_small}
+use Rattle.rel_format.proofs.Printed.{kept_is, one_more}
 use Rattle.commit_journal.specs.Table.{JournalStand, Opened, at_gate, at_atom_count, at_sign, at_rel, at_row, at_end, behind_gate, behind_atom, opened, with_atom, atom_read, last_atom, sign_of, sign_field, follows, rel_field, row_keeps, row_field, field, long_field, next}
 use Rattle.commit_journal.specs.Places.{Reaches, IsJournal}
 use Rattle.commit_journal.proofs.Steps.{past_atom, ascending_behind}

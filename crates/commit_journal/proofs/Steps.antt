@@ -1,12 +1,12 @@
 -- Walking on by the fields of a journal.
-use Rattle.std.proofs.Common.{◌≡◌, ◌≤◌, ◌<◌, ℕ, zero, suc, ◌+◌, ◌-◌, Result, Ok, Err, Bool, true, false, cond, List, [], ◌∷◌, ◌++◌, length, drop, map, Option, Some, None, refl, sym, ap, subst, ◌∙◌, arith}
+use Rattle.std.proofs.Common.{◌≡◌, ◌≤◌, ◌<◌, ℕ, zero, suc, ◌+◌, ◌-◌, Err, Bool, true, false, cond, List, [], ◌∷◌, ◌++◌, length, drop, map, Option, Some, None, refl, sym, ap, subst, ◌∙◌, arith}
 use Rattle.std.specs.Prelude.{◌==◌, slice_get}
 use Rattle.std.specs.Option.{option_map}
 use Rattle.std.specs.Int.{w32}
 use Rattle.std.proofs.lemmas.Bool.{eqb-true, eqb-false, leb-true}
 use Rattle.std.proofs.lemmas.List.{map_push}
 use Rattle.std.proofs.lemmas.Option.{none-some, same_Some}
-use Rattle.hera_sets.specs.Rows.{Row, is_below, is_past, IsBelowAll, IsAscending}
+use Rattle.hera_sets.specs.Rows.{Row, is_below, is_past, IsAscending}
 use Rattle.hera_sets.proofs.Order.{below_cons_less, below_cons_same}
 use Rattle.hera_sets.proofs.Lists.{all_below_trans}
 use Rattle.hera_meaning.specs.declared.scalars.Sign.{Sign}
@@ -20,7 +20,7 @@ use Rattle.rel_format.specs.Fields.{number, first_byte}
 use Rattle.rel_format.proofs.Walks.{step_by}
 use Rattle.commit_journal.specs.declared.scanning.ScanFault.{ScanFault}
 use Rattle.commit_journal.specs.declared.scanning.ScanFault.TheVariants.{Damaged, Memory}
-use Rattle.commit_journal.specs.Table.{JournalStand, Opened, at_gate, at_atom_count, at_sign, at_rel, at_row, at_end, behind_gate, behind_atom, opened, with_atom, atom_read, last_atom, sign_field, follows, rel_field, row_keeps, row_field, field, long_field, next, is_whole}
+use Rattle.commit_journal.specs.Table.{JournalStand, Opened, at_gate, at_atom_count, at_sign, at_rel, at_row, at_end, behind_gate, behind_atom, opened, with_atom, atom_read, last_atom, sign_field, follows, rel_field, row_keeps, row_field, field, long_field, next}
 use Rattle.commit_journal.specs.Places.{Reaches, Stops, Reads, JournalIs}
 
 -- ---- the order of atoms

@@ -1,14 +1,12 @@
 -- The fields before the first gate and those of the journal are the fields of the half.
-use Rattle.std.proofs.Common.{◌≡◌, ◌≤◌, ℕ, zero, suc, ◌+◌, Bool, true, false, cond, List, [], ◌∷◌, drop, Option, Some, None, refl, sym, ap, subst, ◌∙◌}
-use Rattle.std.proofs.lemmas.Option.{none-some, same_Some}
-use Rattle.std.proofs.lemmas.Bool.{both_ways}
+use Rattle.std.proofs.Common.{◌≡◌, ◌≤◌, ℕ, zero, suc, Bool, true, false, cond, List, [], drop, Some, None, refl, sym, ap, subst, ◌∙◌}
+use Rattle.std.proofs.lemmas.Option.{none-some}
 use Rattle.hera_meaning.specs.declared.schemas.RelDecl.{RelDecl}
 use Rattle.rel_format.specs.Pages.{Format}
-use Rattle.rel_format.specs.Walk.{walk_by, StopsBy}
 use Rattle.rel_format.specs.Table.{Stand, Book, at_magic, at_count, at_rels, at_name, at_width, at_attr, at_attr_name, at_kind, at_page, at_row_count, at_row, at_fill, is_whole as are_pages_whole, next as next_in_pages}
 use Rattle.rel_format.specs.Places.{Reaches as ReachesInPages, Stops as StopsInPages}
 use Rattle.rel_format.proofs.Walks.{step_by, longest_by, kept_by}
-use Rattle.commit_journal.specs.Table.{JournalStand, at_gate, next as next_in_journal, is_whole as is_journal_whole}
+use Rattle.commit_journal.specs.Table.{JournalStand, at_gate, next as next_in_journal}
 use Rattle.commit_journal.specs.Places.{Reaches, Stops}
 use Rattle.commit_journal.specs.Halves.{HalfStand, in_pages, in_journal, rels_of, entered, onto, next_in_half, is_half_whole, ReachesInHalf, IsDamageOfHalf}
 

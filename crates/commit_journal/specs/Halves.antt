@@ -1,16 +1,15 @@
 -- The fields of a whole half, those before its first gate and then those of its journal, and what stands in it.
-use Rattle.std.specs.Prelude.{◌≡◌, ◌≤◌, ◌<◌, ◌⊎◌, ℕ, ◌+◌, Bool, true, false, cond, List, [], ◌∷◌, ◌++◌, Option, None, Some, length, take}
+use Rattle.std.specs.Prelude.{◌≡◌, ◌≤◌, ◌<◌, ℕ, ◌+◌, Bool, false, cond, List, [], ◌++◌, Option, None, Some, length, take}
 use Rattle.std.specs.List.{flat_map}
 use Rattle.hera_meaning.specs.declared.schemas.RelDecl.{RelDecl}
 use Rattle.hera_meaning.specs.Catalogues.{IsCatalogue}
-use Rattle.hera_meaning.specs.Deltas.{State, IsState, Delta, apply_of}
+use Rattle.hera_meaning.specs.Deltas.{State, IsState}
 use Rattle.rel_format.specs.Pages.{Format, Fit, pages_of}
 use Rattle.rel_format.specs.Journal.{IsHalf, half_limit, sealed}
 use Rattle.rel_format.specs.Walk.{ReachesBy, StopsBy}
 use Rattle.rel_format.specs.Table.{Stand, Book, at_magic, at_page, is_whole as are_pages_whole, next as next_in_pages}
 use Rattle.rel_format.specs.Places.{Reaches as ReachesInPages}
 use Rattle.commit_journal.specs.Table.{JournalStand, at_gate, is_whole as is_journal_whole, next as next_in_journal}
-use Rattle.commit_journal.specs.Places.{IsJournal}
 
 -- ---- the fields of the whole
 

@@ -5,7 +5,7 @@ use Rattle.std.specs.Option.{option_map}
 use Rattle.std.proofs.lemmas.Bool.{both_ways, eq-eqb}
 use Rattle.std.proofs.lemmas.Option.{none-some, same_Some}
 use Rattle.std.proofs.lemmas.List.{drop_more, length-take-le}
-use Rattle.hera_sets.specs.Rows.{Row, is_below, is_same, is_past, IsAscending, holds}
+use Rattle.hera_sets.specs.Rows.{Row, is_below, is_same, is_past, holds}
 use Rattle.hera_sets.specs.Sets.{union_of, least_of}
 use Rattle.hera_sets.proofs.Order.{same_true, same_itself, below_cons_less, below_cons_same, below_not}
 use Rattle.hera_sets.proofs.Next.{find-union}

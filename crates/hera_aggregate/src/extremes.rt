@@ -11,7 +11,7 @@ ghost use Rattle.hera_aggregate.specs.Extremes.{with_lesser, with_greater, found
 use crate::behind::behind;
 use crate::ends::AggEnd;
 use hera_meaning::{Scalar, ScalarRef, Schema, Text};
-use hera_row::field;
+use hera_row::{field, is_before};
 use hera_rows::{RowMark, Sorted};
 use hera_sets::is_below;
 use std::alloc::Global;
@@ -98,7 +98,7 @@ fn lesser<'a>(best: Option<ScalarRef<'a>>, value: ScalarRef<'a>) -> ScalarRef<'a
 {
     match best {
         None => value,
-        Some(old) => if is_less(value, old) { value } else { old },
+        Some(old) => if is_before(value, old) { value } else { old },
     }
 }
 
@@ -108,19 +108,7 @@ fn greater<'a>(best: Option<ScalarRef<'a>>, value: ScalarRef<'a>) -> ScalarRef<'
 {
     match best {
         None => value,
-        Some(old) => if is_less(old, value) { value } else { old },
-    }
-}
-
-/// Whether the first scalar stands before the second of its kind.
-fn is_less(a: ScalarRef<'_>, b: ScalarRef<'_>) -> bool
-    ensures { result ≡ scalar_less (told a.entry) (told b.entry) }
-{
-    match (a, b) {
-        (ScalarRef::Int(v), ScalarRef::Int(w)) => v < w,
-        (ScalarRef::Bool(v), ScalarRef::Bool(w)) => !v && w,
-        (ScalarRef::Text(v), ScalarRef::Text(w)) => is_below(v, w),
-        _ => false,
+        Some(old) => if is_before(old, value) { value } else { old },
     }
 }
 

@@ -5,6 +5,7 @@ ghost use Rattle.hera_meaning.specs.Rows.{field_bytes, shifted};
 ghost use Rattle.hera_row.specs.Fields.{told};
 
 use hera_meaning::ScalarRef;
+use hera_row::shifted;
 use std::alloc::AllocError;
 
 /// Puts the bytes of a field behind the others.
@@ -27,15 +28,4 @@ fn int_bytes(number: i64) -> [u8; 8]
     ensures { result ≡ to_be_bytes w64 (shifted number) }
 {
     shifted(number).to_be_bytes()
-}
-
-/// The int plus 2^63.
-fn shifted(number: i64) -> u64
-    ensures { result ≡ shifted number }
-{
-    if number >= 0 {
-        number as u64 + (1 << 63)
-    } else {
-        (number - i64::MIN) as u64
-    }
 }

@@ -1,21 +1,19 @@
 -- Files that are read are those that are written.
-use Rattle.std.proofs.Common.{◌≡◌, ℕ, Bool, List, [], ◌∷◌, ◌++◌, length, take, Option, Some, None, Result, Ok, Err, refl, sym, ap, subst, ◌∙◌, append_assoc, arith}
+use Rattle.std.proofs.Common.{◌≡◌, ℕ, List, [], ◌∷◌, ◌++◌, Option, Result, Ok, Err, refl, sym, ap, subst, ◌∙◌, append_assoc}
 use Rattle.std.specs.Prelude.{IfSome}
 use Rattle.std.proofs.lemmas.List.{append-nil}
 use Rattle.hera_sets.specs.Rows.{is_same}
 use Rattle.hera_sets.proofs.Order.{same_itself, same_true}
 use Rattle.hera_meaning.specs.declared.schemas.Attr.{Attr}
-use Rattle.hera_meaning.specs.declared.schemas.RelDecl.{RelDecl}
 use Rattle.hera_meaning.specs.declared.trees.Shape.{Shape}
 use Rattle.hera_meaning.specs.Catalogues.{IsCatalogue}
-use Rattle.hera_code.specs.declared.instrs.Instr.{Instr}
 use Rattle.hera_typed.specs.declared.notes.SlotNote.{SlotNote}
 use Rattle.hera_row.proofs.FieldLemmas.{AreBytes}
 use Rattle.rel_format.specs.Fields.{kept, piece, magic_field}
 use Rattle.rel_format.proofs.Printed.{kept_is}
 use Rattle.hera_code_file.specs.Printing.{word, flag, list_bytes, option_bytes, schema_bytes, shape_bytes, instr_bytes, slot_bytes, File_body, body_bytes, File, code_magic, relations_bytes, file_bytes}
 use Rattle.hera_code_file.specs.Fitting.{IsWord, Each, IsNamed, ShapeFits, InstrFits, SlotFits, BodyFits, FileFits}
-use Rattle.hera_code_file.specs.Reading.{◌>>=◌, Reader, field, word_at, flag_at, option_at, list_at, schema_at, shape_at, relations_at, instrs_at, slot_at, slots_at, body_at, bodies_at, magic_at, parts_at, ends, file_at}
+use Rattle.hera_code_file.specs.Reading.{◌>>=◌, Reader, word_at, flag_at, option_at, schema_at, shape_at, relations_at, instrs_at, slot_at, slots_at, body_at, bodies_at, magic_at, parts_at, ends, file_at}
 use Rattle.hera_code_file.proofs.Laws.{bind_ok, ok_is, Taken, then, Law, field_ok, word_law, list_law}
 use Rattle.rel_format.proofs.Printed.{piece_is}
 use Rattle.rel_format.proofs.Printing.{kept_pass, piece_printed}

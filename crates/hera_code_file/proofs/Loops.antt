@@ -3,7 +3,7 @@ use Rattle.std.proofs.Common.{◌≡◌, ℕ, zero, suc, ◌-◌, ◌+◌, ◌�
 use Rattle.std.proofs.lemmas.List.{length-append}
 use Rattle.hera_code_file.specs.declared.stop.Stop.{Stop}
 use Rattle.hera_code_file.specs.declared.stop.Stop.TheVariants as stops
-use Rattle.hera_code_file.specs.Reading.{◌>>=◌, Fails, Reader, many}
+use Rattle.hera_code_file.specs.Reading.{Fails, Reader, many}
 use Rattle.hera_code_file.proofs.Laws.{bind_ok, ok_is}
 
 pub goes_on : {A : Type 0} (read : List A → Reader A) (count i : ℕ) (before : List A) (bytes : List ℕ) (x : A) (behind : List ℕ) (total : Result (List A × List ℕ) ℕ) → i < count → read before bytes ≡ Ok (x, behind)

@@ -1,9 +1,9 @@
 -- Parts of instructions that are read are those that are written.
-use Rattle.std.proofs.Common.{◌≡◌, ◌≤◌, ◌<◌, ◌^◌, ℕ, zero, suc, ◌+◌, Bool, true, false, cond, List, [], ◌∷◌, ◌++◌, length, take, drop, Option, Some, None, Result, Ok, Err, refl, sym, ap, subst, ◌∙◌, append_assoc, arith, ℤ, pos, ◌-ℤ◌}
+use Rattle.std.proofs.Common.{◌≡◌, ◌≤◌, ◌<◌, ◌^◌, ℕ, zero, suc, ◌+◌, Bool, true, false, List, [], ◌∷◌, ◌++◌, length, take, Option, Some, None, Result, Ok, refl, sym, ap, subst, ◌∙◌, append_assoc, arith, ℤ}
 use Rattle.std.specs.Prelude.{nat_le, nat_lt, IfSome}
 use Rattle.std.specs.Option.{option_and_then}
 use Rattle.std.specs.Int.{w16, w64, to_be_bytes}
-use Rattle.std.proofs.lemmas.Bool.{leb-true, le-leb}
+use Rattle.std.proofs.lemmas.Bool.{le-leb}
 use Rattle.std.proofs.lemmas.Option.{none-some, same_Some}
 use Rattle.hera_meaning.specs.declared.scalars.RelId.{RelId}
 use Rattle.hera_meaning.specs.declared.scalars.Sign.{Sign}
@@ -24,9 +24,9 @@ use Rattle.rel_format.specs.Fields.{kept, piece, number, first_byte}
 use Rattle.rel_format.proofs.Printed.{kept_is}
 use Rattle.hera_code_file.specs.Printing.{word, flag, list_bytes, option_bytes, schema_bytes, shape_bytes, scalar_bytes, const_bytes, sign_bytes, relation_bytes, agg_bytes}
 use Rattle.hera_code_file.specs.Fitting.{IsWord, IsRelation, Each, IsNamed, ShapeFits, ConstFits, AggFits}
-use Rattle.hera_code_file.specs.Reading.{◌>>=◌, Reader, field, bare, one, at_place, small, numbered, number_at, word_at, list_at, flag_at, option_at, schema_at, shape_readers, shape_at, text_len_at, text_piece, text_at, int_const, bool_const, text_const, const_readers, const_at, sign_of, sign_at, relation_id, relation_id_at, agg_readers, agg_at, places_at, aggs_at}
+use Rattle.hera_code_file.specs.Reading.{◌>>=◌, Reader, field, bare, one, small, numbered, number_at, word_at, flag_at, option_at, schema_at, shape_readers, shape_at, text_len_at, text_piece, text_at, int_const, bool_const, text_const, const_readers, const_at, sign_of, sign_at, relation_id, relation_id_at, agg_readers, agg_at, places_at, aggs_at}
 use Rattle.hera_code_file.proofs.Laws.{bind_ok, ok_is, Taken, then, Law, field_ok, small_takes, half_law, word_law, double_law, Entry, Entries, entry_bare, entry_one, numbered_takes, numbered_again, one_again, list_law}
-use Rattle.rel_format.proofs.Printed.{byte_is, piece_is}
+use Rattle.rel_format.proofs.Printed.{piece_is}
 use Rattle.rel_format.proofs.Printing.{kept_pass, piece_printed}
 use Rattle.hera_code_file.proofs.Schema_law.{field_taken, field_again, schema_law}
 

@@ -1,6 +1,6 @@
 -- A code file read from the left: what each part gives, and the bytes behind it. Where a field breaks its rule, or
 -- does not lie wholly in the file, the answer is how many bytes are left from that field's first one on.
-use Rattle.std.specs.Prelude.{◌≡◌, ℕ, zero, suc, ◌^◌, Bool, cond, not, ◌&&◌, List, [], ◌∷◌, ◌++◌, length, map, take, drop, Option, Some, None, Result, Ok, Err, pos, ◌-ℤ◌, nat_lt, nat_le}
+use Rattle.std.specs.Prelude.{◌≡◌, ℕ, zero, suc, ◌^◌, Bool, not, List, [], ◌∷◌, ◌++◌, length, map, drop, Option, Some, None, Result, Ok, Err, pos, ◌-ℤ◌, nat_lt, nat_le}
 use Rattle.std.specs.Option.{option_and_then}
 use Rattle.std.specs.Int.{Width, w16, w32, w64, byte_len}
 use Rattle.hera_meaning.specs.declared.scalars.RelId.{RelId}

@@ -1,5 +1,5 @@
 //! The parts of instructions, read.
-ghost use Rattle.std.specs.Prelude.{◌≡◌, ◌<◌, ◌∷◌, [], ◌-ℤ◌, ◌^◌, pos, ℕ, List, Some, IfOk, IfErr, length, true};
+ghost use Rattle.std.specs.Prelude.{◌≡◌, ◌<◌, ◌∷◌, [], ℕ, List, Some, IfOk, IfErr, length, true};
 ghost use Rattle.std.specs.Option.{option_copied};
 ghost use Rattle.hera_meaning.specs.Texts.{is_text};
 ghost use Rattle.rel_format.specs.Fields.{kept, piece};
@@ -10,6 +10,7 @@ use crate::fields::{bad, double_word, flag, small, word};
 use crate::schemas::schema;
 use crate::stop::Stop;
 use hera_meaning::{Agg, Aggs, Const, Places, Scalar, Schema, Shape, TEXT_LIMIT, Text, TextFault};
+use hera_row::unshifted;
 use rel_format::number16;
 use std::alloc::Global;
 
@@ -130,23 +131,12 @@ fn text(alloc: Global, bytes: &[u8]) -> Result<(Text, &[u8]), Stop>
     text_of_len(alloc, rest, len as usize)
 }
 
-/// The int that is kept with 2^63 added.
-fn int_of(number: u64) -> i64
-    ensures { result ≡ pos number -ℤ pos (2 ^ 63) }
-{
-    if number >= 1 << 63 {
-        (number - (1 << 63)) as i64
-    } else {
-        number as i64 + i64::MIN
-    }
-}
-
 /// An int.
 fn an_int(bytes: &[u8]) -> Result<(Const, &[u8]), Stop>
     ensures { Gives (λ x. (x.0, x.1.now)) result (one int_const (number_at w64) bytes.now) }
 {
     let (number, rest) = double_word(bytes)?;
-    Ok((Const::Scalar(Scalar::Int(int_of(number))), rest))
+    Ok((Const::Scalar(Scalar::Int(unshifted(number))), rest))
 }
 
 /// A bool.

@@ -1,12 +1,11 @@
 -- Bodies beside their notes, one by one.
-use Rattle.std.proofs.Common.{◌≡◌, ◌≤◌, ◌<◌, ℕ, zero, suc, ◌+◌, Bool, true, false, get_or, List, [], ◌∷◌, length, Some, None, refl, sym, ap, subst, ◌∙◌, arith}
+use Rattle.std.proofs.Common.{◌≡◌, ◌≤◌, ◌<◌, ℕ, zero, suc, true, false, get_or, List, [], ◌∷◌, length, Some, None, refl, sym, ap, subst, ◌∙◌, arith}
 use Rattle.std.specs.Prelude.{nat_lt}
 use Rattle.std.specs.List.{slice_get, AllByRecursion}
 use Rattle.std.proofs.lemmas.Bool.{ltb-true, ltb-false}
 use Rattle.std.proofs.lemmas.Option.{none-some, same_Some, slice_get-get_or}
 use Rattle.hera_code.specs.declared.instrs.BodyInfo.{BodyInfo}
 use Rattle.hera_typed.specs.declared.notes.BodyNote.{BodyNote}
-use Rattle.hera_code_file.specs.Printing.{File_body}
 use Rattle.hera_code_file.specs.Files.{file_body, file_bodies, AreNoted}
 
 pub bodies_length : (bs : List BodyInfo) (ns : List BodyNote) → AreNoted bs ns → length (file_bodies bs ns) ≡ length bs

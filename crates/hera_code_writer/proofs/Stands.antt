@@ -4,7 +4,6 @@ use Rattle.std.specs.Prelude.{IfSome}
 use Rattle.std.specs.List.{AllByRecursion, slice_get}
 use Rattle.std.proofs.lemmas.List.{take_all}
 use Rattle.std.proofs.lemmas.Option.{none-some, same_Some, slice_get-get_or}
-use Rattle.hera_meaning.specs.declared.schemas.Attr.{Attr}
 use Rattle.hera_meaning.specs.declared.trees.Shape.{Shape}
 use Rattle.hera_meaning.specs.declared.trees.Shape.TheVariants as shapes
 use Rattle.hera_meaning.specs.declared.trees.Op.{Op}
@@ -13,7 +12,7 @@ use Rattle.hera_code.specs.declared.instrs.Instr.{Instr}
 use Rattle.hera_code.specs.declared.instrs.Instr.TheVariants as instrs
 use Rattle.hera_typed.specs.declared.notes.SlotNote.{SlotNote}
 use Rattle.hera_code_file.specs.Printing.{File_body, File}
-use Rattle.hera_code_file.specs.Fitting.{Each, IsNamed, ShapeFits, OpFits, InstrFits, SlotFits, BodyFits, FileFits}
+use Rattle.hera_code_file.specs.Fitting.{IsNamed, ShapeFits, OpFits, InstrFits, SlotFits, BodyFits, FileFits}
 use Rattle.hera_code_writer.specs.Writable.{AreNames, ShapeStands, OpStands, InstrStands, SlotStands, BodyStands, FileStands}
 
 -- one of a list more

@@ -9,7 +9,8 @@ ghost use Rattle.hera_code_file.specs.Fitting.{IsNamed, IsWord};
 ghost use Rattle.hera_code_writer.specs.Writable.{AreNames};
 
 use hera_meaning::writing::put;
-use hera_meaning::{Attr, Kind, RelDecl, Schema};
+use hera_meaning::{Attr, RelDecl, Schema};
+use rel_format::kind_byte;
 use std::alloc::AllocError;
 
 /// A byte.
@@ -57,17 +58,6 @@ fn put_name(out: &mut Vec<u8>, name: &[u8]) -> Result<(), AllocError>
 {
     put_byte(out, name.len() as u8)?;
     put(out, name)
-}
-
-/// The byte of a kind.
-fn kind_byte(kind: Kind) -> u8
-    ensures { result ≡ kind_byte kind }
-{
-    match kind {
-        Kind::Int => 1,
-        Kind::Bool => 2,
-        Kind::Text => 3,
-    }
 }
 
 /// An attribute.

@@ -1,6 +1,5 @@
 //! Code files, written.
 ghost use Rattle.std.specs.Prelude.{◌≡◌, ◌∷◌, ◌++◌, [], List, ℕ, length, slice_get, Some, None, OnOk, IfOk, IfSome, IfNone};
-ghost use Rattle.hera_meaning.specs.Rows.{shifted};
 ghost use Rattle.hera_code_file.specs.Printing.{word, list_bytes, option_bytes, schema_bytes, shape_bytes, scalar_bytes, const_bytes, sign_bytes, relation_bytes, agg_bytes, op_bytes, instr_bytes, slot_bytes, body_bytes, file_bytes};
 ghost use Rattle.hera_code_file.specs.Fitting.{IsWord, IsRelation, Each, IsNamed, AggFits, ShapeFits, ConstFits, OpFits, InstrFits, SlotFits, BodyFits, FileFits};
 ghost use Rattle.hera_code_writer.specs.Writable.{AreNames, ShapeStands, OpStands, InstrStands, SlotStands, BodyStands, FileStands};
@@ -12,6 +11,7 @@ use crate::putting::{
 use hera_code::{Bodies, BodyInfo, Code, Instr, Instrs};
 use hera_meaning::writing::put;
 use hera_meaning::{Agg, Const, Line, Op, RelDecl, RelId, Scalar, Schema, Shape, Sign, Text};
+use hera_row::shifted;
 use hera_typed::{BodyNote, Notes, SlotNote};
 use std::alloc::{AllocError, Global};
 
@@ -34,17 +34,6 @@ fn put_shape(out: &mut Vec<u8>, shape: &Shape) -> Result<(), AllocError>
             put_schema(out, schema)
         }
         Shape::Delta => put_byte(out, 5),
-    }
-}
-
-/// The int plus 2^63.
-fn shifted(value: i64) -> u64
-    ensures { result ≡ shifted value }
-{
-    if value >= 0 {
-        value as u64 + (1 << 63)
-    } else {
-        (value - i64::MIN) as u64
     }
 }
 

@@ -10,6 +10,7 @@ use crate::Args;
 use crate::shapes::{are_rows, is_row};
 use delta_atoms::Value;
 use hera_meaning::{Kind, Scalar, Schema};
+use hera_row::is_kind;
 
 /// What an operand has to be.
 #[derive(Clone, Copy)]
@@ -30,17 +31,6 @@ pub(crate) fn kind_of(scalar: &Scalar) -> Kind
         Scalar::Int(_) => Kind::Int,
         Scalar::Bool(_) => Kind::Bool,
         Scalar::Text(_) => Kind::Text,
-    }
-}
-
-/// Whether the scalar is of the kind.
-fn is_kind(kind: Kind, scalar: &Scalar) -> bool
-    ensures { result ≡ is_kind kind scalar.now }
-{
-    match scalar {
-        Scalar::Int(_) => kind == Kind::Int,
-        Scalar::Bool(_) => kind == Kind::Bool,
-        Scalar::Text(_) => kind == Kind::Text,
     }
 }
 

@@ -1,5 +1,5 @@
 -- The host of a place.
-use Rattle.std.proofs.Common.{◌≡◌, ◌∙◌, sym, subst, ℕ, zero, suc, ◌<◌, List, [], ◌∷◌, Some, IsSomeAnd, true, length, map, get_or, refl, ap, arith}
+use Rattle.std.proofs.Common.{◌≡◌, ◌∙◌, sym, subst, ℕ, zero, suc, ◌<◌, List, [], ◌∷◌, Some, IsSomeAnd, true, length, map, get_or, ap, arith}
 use Rattle.std.proofs.lemmas.List.{length-map}
 use Rattle.hera_meaning.specs.Hosts.{host_takes, host_gives, host_at, host_of}
 use Rattle.hera_meaning.specs.declared.hosts.HostAnswer.{HostAnswer}

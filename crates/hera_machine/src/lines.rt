@@ -1,5 +1,5 @@
 //! The lines of commits and of the ends of runs, put behind a text.
-ghost use Rattle.std.specs.Prelude.{◌≡◌, ◌++◌, OnOk, codes};
+ghost use Rattle.std.specs.Prelude.{◌≡◌, ◌++◌, OnOk};
 ghost use Rattle.hera_meaning.specs.Printed.{commit_text, trap_name, trap_line, spent_line};
 ghost use Rattle.hera_machine.specs.Ends.{last_text};
 

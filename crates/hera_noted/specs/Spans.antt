@@ -1,5 +1,5 @@
 -- The range of a slot: from behind the instruction that writes it first, up to where ways lead in from elsewhere.
-use Rattle.std.specs.Prelude.{◌≡◌, ◌<◌, ◌≤◌, ◌&&◌, ℕ, ◌+◌, Bool, true, false, cond, List, Option, Some, None, length, slice_get, nat_eq, nat_lt, nat_le}
+use Rattle.std.specs.Prelude.{◌≡◌, ◌<◌, ◌≤◌, ℕ, ◌+◌, Bool, true, false, cond, List, Option, Some, None, length, slice_get, nat_eq, nat_le}
 use Rattle.hera_code.specs.declared.instrs.Instr.{Instr}
 use Rattle.hera_code.specs.declared.instrs.Instr.TheVariants.{Store, Jump, Unless, Back, Next}
 use Rattle.hera_code.specs.declared.instrs.BodyInfo.{BodyInfo}

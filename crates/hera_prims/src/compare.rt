@@ -11,6 +11,7 @@ use crate::PrimEnd;
 use delta_atoms::{Delta, Value};
 use hera_fits::{Args, has_row_at, row_at, scalar_at, truth, truth_at};
 use hera_meaning::{Op, Scalar, ScalarRef};
+use hera_row::is_before;
 use hera_rows::RowSet;
 use hera_sets::{is_below, is_same};
 
@@ -22,18 +23,6 @@ fn same_scalar(a: &Scalar, b: &Scalar) -> bool
         (Scalar::Int(v), Scalar::Int(w)) => *v == *w,
         (Scalar::Bool(v), Scalar::Bool(w)) => *v == *w,
         (Scalar::Text(v), Scalar::Text(w)) => is_same(v.bytes(), w.bytes()),
-        _ => false,
-    }
-}
-
-/// Whether the first stands before the second: ints by value, false before true, texts by their bytes.
-fn is_scalar_less(a: ScalarRef<'_>, b: ScalarRef<'_>) -> bool
-    ensures { result ≡ scalar_less (told a.entry) (told b.entry) }
-{
-    match (a, b) {
-        (ScalarRef::Int(v), ScalarRef::Int(w)) => v < w,
-        (ScalarRef::Bool(v), ScalarRef::Bool(w)) => !v && w,
-        (ScalarRef::Text(v), ScalarRef::Text(w)) => is_below(v, w),
         _ => false,
     }
 }
@@ -97,14 +86,14 @@ fn are_same(args: &Args) -> bool
 fn is_less(args: &Args) -> bool
     ensures { result ≡ is_less args.now }
 {
-    is_scalar_less(scalar_at(args, 0), scalar_at(args, 1))
+    is_before(scalar_at(args, 0), scalar_at(args, 1))
 }
 
 /// Whether the second of two operands stands before the first.
 fn is_greater(args: &Args) -> bool
     ensures { result ≡ is_greater args.now }
 {
-    is_scalar_less(scalar_at(args, 1), scalar_at(args, 0))
+    is_before(scalar_at(args, 1), scalar_at(args, 0))
 }
 
 /// The other truth.

@@ -15,7 +15,7 @@ use Rattle.hera_syntax.specs.declared.expr.Atoms.{Atoms}
 use Rattle.hera_syntax.specs.declared.expr.LineTrees.{LineTrees}
 use Rattle.hera_syntax.specs.declared.expr.AggTree.TheVariants.{Count, Of}
 use Rattle.hera_syntax.specs.declared.expr.Prime.{Int, Text, True, False, Fail, Name, Call', Paren', Row', Delta', Rows', Walk', Project', Rename', Pair', Group', Measure', Fold', Bulk', Part', Prime-Call-2-None', Prime-Call-2-Some', Prime-Delta-1-None', Prime-Delta-1-Some', Prime-Rows-4-None', Prime-Rows-4-Some'}
-use Rattle.hera_syntax.specs.Grammar.{Production, Part, alternatives}
+use Rattle.hera_syntax.specs.Grammar.{Part, alternatives}
 use Rattle.hera_syntax.specs.Grammar as phrases
 use Rattle.hera_syntax.specs.Outline.{node, hold, skip, agg_row, args_row, atoms_row, bindings_row, atom_outline, binding_outline, expr_outline, line_outline, lines_row, more_of, named_agg_outline, renaming_outline, some_atoms_outline, some_lines_outline, tail_row, name_row, operand_outline, production_of, renaming_row}
 use Rattle.hera_readings.proofs.Vecs.{box, vec_of}

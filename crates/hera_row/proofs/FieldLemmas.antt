@@ -1,5 +1,5 @@
 -- A field: what its bytes are read as, and which bytes are a field's.
-use Rattle.std.proofs.Common.{◌≡◌, ◌≢◌, ℕ, zero, suc, ◌+◌, ◌-◌, ◌*◌, ◌^◌, ◌<◌, ◌≤◌, Bool, true, false, cond, ◌&&◌, List, [], ◌∷◌, ◌++◌, Option, Some, None, length, take, drop, refl, sym, ap, subst, ◌∙◌, inl, inr, arith, nat_lt, nat_le, nat_eq, ℤ, pos, negsuc, get_or, length-append, length-take, length-take-le, All}
+use Rattle.std.proofs.Common.{◌≡◌, ◌≢◌, ℕ, zero, suc, ◌+◌, ◌-◌, ◌<◌, ◌≤◌, Bool, true, false, cond, ◌&&◌, List, [], ◌∷◌, ◌++◌, Some, None, length, take, drop, refl, sym, ap, subst, ◌∙◌, inl, inr, arith, nat_lt, nat_le, nat_eq, get_or, length-append, length-take, length-take-le, All}
 use Rattle.std.specs.List.{position}
 use Rattle.std.specs.Int.{to_be_bytes, w64}
 use Rattle.std.specs.Str.{is_utf8}

@@ -5,6 +5,8 @@ ghost use Rattle.hera_meaning.specs.Rows.{IsRow, row_of, field_bytes, shifted};
 ghost use Rattle.hera_meaning.specs.Scalars.{is_kind, is_scalar, fits_int};
 ghost use Rattle.hera_row.specs.Fields.{have_kinds};
 
+use crate::ints::shifted;
+use crate::scalars::is_kind;
 use byteorder::{BigEndian, ByteOrder};
 use hera_meaning::{Kind, Scalar, Schema};
 use hera_rows::RowBuf;
@@ -40,17 +42,6 @@ pub fn have_kinds(schema: &Schema, fields: &[Scalar]) -> bool
     true
 }
 
-/// Whether the scalar is of the kind.
-fn is_kind(kind: Kind, scalar: &Scalar) -> bool
-    ensures { result ≡ is_kind kind scalar.now }
-{
-    match scalar {
-        Scalar::Int(_) => kind == Kind::Int,
-        Scalar::Bool(_) => kind == Kind::Bool,
-        Scalar::Text(_) => kind == Kind::Text,
-    }
-}
-
 /// Puts the bytes of a field behind the others.
 fn push_field(row: &mut Vec<u8>, field: &Scalar) -> Result<(), AllocError>
     ensures ok { OnOk result (row.new.items ≡ row.old.items ++ field_bytes field.now) }
@@ -75,15 +66,4 @@ pub(crate) fn push_int(row: &mut Vec<u8>, value: i64) -> Result<(), AllocError>
     let mut bytes = [0; 8];
     BigEndian::write_u64(&mut bytes, shifted(value));
     row.extend_from_slice(&bytes)
-}
-
-/// The int plus 2^63.
-fn shifted(value: i64) -> u64
-    ensures { result ≡ shifted value }
-{
-    if value >= 0 {
-        value as u64 + (1 << 63)
-    } else {
-        (value - i64::MIN) as u64
-    }
 }

@@ -8,12 +8,18 @@
 
 mod catalogue;
 mod encoding;
+mod ints;
 mod names;
+mod pieces;
 mod reading;
+mod scalars;
 mod widening;
 
 pub use catalogue::{Catalogue, CatalogueFault};
 pub use encoding::{encode, have_kinds};
+pub use ints::{shifted, unshifted};
 pub use names::{has_names, is_name};
+pub use pieces::{piece_len, zero_at};
 pub use reading::{check_row, field, field_of_row, row_len};
+pub use scalars::{is_before, is_kind};
 pub use widening::{a_widened_relation_is_found_by_number, is_prefix, widen_row};

@@ -6,6 +6,8 @@ ghost use Rattle.hera_meaning.specs.Rows.{IsRow, field_at, first_piece, scalar_o
 ghost use Rattle.hera_row.specs.Fields.{told};
 ghost use Rattle.hera_row.specs.Reading.{field_len, row_len_of, BeginsField};
 
+use crate::ints::unshifted;
+use crate::pieces::{piece_len, zero_at};
 use byteorder::{BigEndian, ByteOrder};
 use hera_meaning::{Kind, ScalarRef, Schema, TEXT_LIMIT};
 
@@ -100,13 +102,6 @@ fn field_len(kind: Kind, bytes: &[u8]) -> Option<usize>
     }
 }
 
-/// Where the first zero byte stands.
-fn zero_at(bytes: &[u8]) -> Option<usize>
-    ensures { result ≡ position (λ b. nat_eq b 0) bytes.now }
-{
-    bytes.iter().position(|b| *b == 0)
-}
-
 /// Whether the bytes are UTF-8.
 fn is_utf8(bytes: &[u8]) -> bool
     ensures { result ≡ is_utf8 bytes.now }
@@ -114,21 +109,6 @@ fn is_utf8(bytes: &[u8]) -> bool
     match std::str::from_utf8(bytes) {
         Ok(_) => true,
         Err(_) => false,
-    }
-}
-
-/// The length of the piece of a field of this kind that stands first, where one does.
-fn piece_len(kind: Kind, bytes: &[u8]) -> usize
-    ensures length { result ≡ length (first_piece kind bytes.now) }
-    ensures within { result ≤ length bytes.now }
-{
-    match kind {
-        Kind::Int => bytes.len().min(8),
-        Kind::Bool => bytes.len().min(1),
-        Kind::Text => match zero_at(bytes) {
-            Some(n) => n + 1,
-            None => bytes.len(),
-        },
     }
 }
 
@@ -149,12 +129,7 @@ fn int(bytes: &[u8]) -> i64
     requires { 8 ≤ length bytes.now }
     ensures { result ≡ pos (number_from 0 (take 8 bytes.now)) -ℤ pos (2 ^ 63) }
 {
-    let number = BigEndian::read_u64(bytes);
-    if number >= 1 << 63 {
-        (number - (1 << 63)) as i64
-    } else {
-        number as i64 + i64::MIN
-    }
+    unshifted(BigEndian::read_u64(bytes))
 }
 
 /// The bytes before the first zero byte.

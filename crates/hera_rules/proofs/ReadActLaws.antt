@@ -12,7 +12,6 @@ use Rattle.hera_syntax.specs.declared.tree.StmtTree.{Row_of-StmtTree, end_of-Stm
 use Rattle.hera_syntax.specs.declared.tree.StmtTree.TheBlock.{hidden-the_row-StmtTree-0, hidden-the_row-ElseIf-1, back-StmtTree-If-5}
 use Rattle.hera_syntax.specs.declared.tree.StmtTree.TheViews as view
 use Rattle.hera_syntax.specs.declared.tree.StmtTree.TheVariants as variant
-use Rattle.hera_syntax.specs.declared.tree.StmtTree.TheViews.{the_lemmas}
 use Rattle.hera_rules.specs.Phrases.{Act, declaring, assigning, performing, choosing, looping, visiting, printing, applying, asserting, committing, rolling_back, Acts, act, Branches, branch}
 use Rattle.hera_rules.specs.Read.{word_of, expr_phrase}
 use Rattle.hera_rules.specs.ReadActs.{type_phrase, some_args, return_act, label_of, act_of, acts_of, branches_of, last_acts, acts_in, block_acts, branches_in, last_in}

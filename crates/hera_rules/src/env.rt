@@ -22,6 +22,23 @@ pub struct Local {
     pub shape: Shape,
 }
 
+impl Local {
+    ghost use Rattle.std.specs.Prelude.{◌≡◌, IfOk};
+
+    /// A copy.
+    pub fn copy(&self) -> Result<Local, AllocError>
+        ensures { IfOk result (λ copy. copy ≡ self.now) }
+    {
+        let name = self.name.copy()?;
+        let shape = self.shape.copy()?;
+        Ok(Local {
+            name,
+            slot: self.slot,
+            shape,
+        })
+    }
+}
+
 /// Locals, the oldest first.
 #[derive(Drop)]
 pub struct LocalList {

@@ -14,7 +14,7 @@ ghost use Rattle.hera_syntax.specs.Tokens.{HaveValues, script_limit};
 ghost use Rattle.hera_syntax.specs.Trees.{IsTextOf};
 
 use crate::acts::block;
-use crate::typed::{add_slot, local_copy, push_local};
+use crate::typed::{add_slot, push_local};
 use hera_host::{HostNames, HostTable};
 use hera_meaning::{BodyShapes, Shape};
 use hera_rules::{FuncSig, Local, LocalScope, ProcSig};
@@ -37,7 +37,7 @@ fn scope_of(alloc: Global, params: &[Local]) -> Result<LocalScope, AllocError>
         next,
     };
     for local in params {
-        push_local(&mut scope, local_copy(local)?)?;
+        push_local(&mut scope, local.copy()?)?;
     }
     Ok(scope)
 }

@@ -81,19 +81,6 @@ pub fn leave(scope: &mut LocalScope, depth: usize)
     scope.locals.truncate(depth);
 }
 
-/// A copy.
-pub fn local_copy(local: &Local) -> Result<Local, AllocError>
-    ensures { IfOk result (λ copy. copy ≡ local.now) }
-{
-    let name = local.name.copy()?;
-    let shape = local.shape.copy()?;
-    Ok(Local {
-        name,
-        slot: local.slot,
-        shape,
-    })
-}
-
 // ---- asking
 
 /// The visible locals as typing takes them.
@@ -103,7 +90,7 @@ fn names_in(alloc: Global, scope: &LocalScope) -> Result<LocalNames, AllocError>
 {
     let mut names = LocalNames::new(alloc, scope.next);
     for local in &scope.locals {
-        names.push_local(local_copy(local)?)?;
+        names.push_local(local.copy()?)?;
     }
     Ok(names)
 }
@@ -215,7 +202,7 @@ pub fn walk_over(
 {
     let mut names = names_in(alloc, scope)?;
     let variable = variable_of(alloc, globals, &mut names, name, word.at, over)?;
-    names.push_local(local_copy(&variable)?)?;
+    names.push_local(variable.copy()?)?;
     let made = shape_of(alloc, globals, &mut names, body)?;
     let gathers = gathered_of(walk_word(word), &variable.shape, &made)?;
     Ok(Walk { variable, gathers })

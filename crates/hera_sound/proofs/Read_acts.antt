@@ -25,7 +25,7 @@ use Rattle.hera_syntax.specs.declared.tree.Main.{Main}
 use Rattle.hera_syntax.specs.declared.tree.Tree.{Tree}
 use Rattle.hera_syntax.specs.Grammar as phrases
 use Rattle.hera_syntax.specs.Tokens.{HasValue, HaveValues, script_limit}
-use Rattle.hera_syntax.specs.Grammar.{Allows, terminal_of, Part, keep, leave, phrase, alternatives, alternative, Production}
+use Rattle.hera_syntax.specs.Grammar.{Allows, Part, keep, leave, phrase, alternative, Production}
 use Rattle.hera_syntax.specs.declared.token.Terminal.{Terminal}
 use Rattle.hera_syntax.specs.Trees.{IsTextOf, Obeys, keeps, leaves, produces}
 use Rattle.hera_syntax.specs.Outline.{Entry, at_node, kept, left_out}

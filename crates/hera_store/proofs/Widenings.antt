@@ -3,7 +3,6 @@ use Rattle.std.proofs.Common.{◌≡◌, ℕ, zero, suc, ◌+◌, ◌≤◌, Boo
 use Rattle.std.specs.Prelude.{All, slice_get}
 use Rattle.std.specs.List.{position_from, filter, find}
 use Rattle.std.specs.Option.{option_map}
-use Rattle.std.proofs.lemmas.Bool.{false≢true}
 use Rattle.std.proofs.lemmas.Option.{none-some, same_Some, slice_get-map}
 use Rattle.std.proofs.lemmas.List.Elements.{All-head, All-tail}
 use Rattle.hera_sets.specs.Rows.{Row, is_same, is_past, holds, IsAscending}
@@ -15,7 +14,7 @@ use Rattle.hera_meaning.specs.Schemas.{AreDistinct}
 use Rattle.hera_meaning.specs.Catalogues.{IsCatalogue, decl_name}
 use Rattle.hera_meaning.specs.Deltas.{State, IsState}
 use Rattle.hera_meaning.specs.Rows.{IsRow, row_of}
-use Rattle.hera_meaning.specs.Wider.{is_prefix, blanks, widened_row, widened_rows, keeps, Wider, first_narrowed, widen_of}
+use Rattle.hera_meaning.specs.Wider.{blanks, widened_row, widened_rows, keeps, Wider, first_narrowed, widen_of}
 use Rattle.hera_meaning.proofs.WiderLaws.{none_narrowed}
 use Rattle.hera_row.specs.Numbers.{number_named}
 use Rattle.hera_row.proofs.Widened.{kept_found}

@@ -1,12 +1,12 @@
 -- The delta of an import is one of the catalogue.
-use Rattle.std.proofs.Common.{◌≡◌, ◌<◌, ◌∙◌, ℕ, zero, suc, false, List, [], ◌∷◌, length, Some, refl, sym, ap, subst}
+use Rattle.std.proofs.Common.{◌≡◌, ◌<◌, ℕ, List, [], ◌∷◌, length, refl, sym, subst}
 use Rattle.std.specs.Prelude.{All}
 use Rattle.std.proofs.lemmas.List.Elements.{All-head, All-tail, All-cons, All-nil}
 use Rattle.hera_sets.specs.Rows.{Row}
 use Rattle.hera_meaning.specs.declared.scalars.Sign.TheVariants.{Plus}
 use Rattle.hera_meaning.specs.declared.schemas.Attr.{Attr}
 use Rattle.hera_meaning.specs.declared.schemas.RelDecl.{RelDecl}
-use Rattle.hera_meaning.specs.Deltas.{Delta, atoms, is_fail, schema_of, IsAtomOf, IsDeltaOf}
+use Rattle.hera_meaning.specs.Deltas.{Delta, schema_of, IsAtomOf}
 use Rattle.hera_meaning.specs.Rows.{IsRow}
 use Rattle.delta_atoms.specs.Atoms.{atom_of, bulk_of}
 use Rattle.hera_run.specs.Action.{IsProper}

@@ -6,7 +6,7 @@ use Rattle.hera_causes.specs.declared.traits.Output as output
 use Rattle.hera_meaning.specs.Deltas.{Delta, State, apply_of}
 use Rattle.hera_meaning.specs.Run.{printed, finished}
 use Rattle.hera_meaning.specs.Worlds.{Event, out, store}
-use Rattle.hera_volume.specs.Disk.{Disk, IsSettled}
+use Rattle.hera_volume.specs.Disk.{IsSettled}
 use Rattle.hera_volume.specs.Time.{Image, IsImageAmid, LeavesOnly}
 use Rattle.hera_volume.specs.declared.file_id.FileId.{FileId}
 use Rattle.hera_volume.specs.declared.outside.Outside as files

@@ -1,8 +1,8 @@
 -- What an addition does to a state.
-use Rattle.std.proofs.Common.{◌≡◌, ◌≢◌, ◌<◌, ◌+◌, ◌∙◌, ℕ, zero, suc, Bool, true, false, cond, not, List, [], ◌∷◌, ◌++◌, length, refl, sym, ap, subst, arith, append-nil}
+use Rattle.std.proofs.Common.{◌≡◌, ◌<◌, ◌+◌, ◌∙◌, ℕ, zero, suc, Bool, true, false, cond, not, List, [], ◌∷◌, ◌++◌, length, refl, ap, subst, arith, append-nil}
 use Rattle.std.specs.Prelude.{filter, map, nat_eq}
 use Rattle.std.proofs.lemmas.Bool.{eq-eqb, eqb-true, false_from_ne_true}
-use Rattle.hera_sets.specs.Rows.{Row, holds, normal, IsAscending}
+use Rattle.hera_sets.specs.Rows.{Row, holds, normal}
 use Rattle.hera_sets.specs.Sets.{union_of}
 use Rattle.hera_sets.proofs.Members.{normal_ascending}
 use Rattle.hera_meaning.specs.declared.scalars.Sign.TheVariants.{Plus}

@@ -1,10 +1,9 @@
 -- The steps of an import.
-use Rattle.std.specs.Prelude.{◌≡◌, ℕ, true, false, List, length, All, None, Some}
+use Rattle.std.specs.Prelude.{◌≡◌, ℕ, true, false, List, length, None, Some}
 use Rattle.hera_sets.specs.Rows.{Row}
 use Rattle.hera_meaning.specs.declared.schemas.Attr.{Attr}
 use Rattle.hera_meaning.specs.declared.schemas.RelDecl.{RelDecl}
 use Rattle.hera_meaning.specs.Deltas.{Delta, schema_of}
-use Rattle.hera_meaning.specs.Rows.{IsRow}
 use Rattle.hera_row.specs.Numbers.{number_named}
 use Rattle.rel_format.specs.Versions.{is_old}
 use Rattle.hera_csv.specs.Records.{records_of, bad_in, rows_of}

@@ -67,19 +67,6 @@ fn block_returns(stmts: &[Stmt]) -> bool
 
 // ---- bodies
 
-/// A copy of a local.
-fn local_copy(local: &Local) -> Result<Local, AllocError>
-    ensures { IfOk result (λ copy. copy ≡ local.now) }
-{
-    let name = local.name.copy()?;
-    let shape = local.shape.copy()?;
-    Ok(Local {
-        name,
-        slot: local.slot,
-        shape,
-    })
-}
-
 /// The scope of a body: its parameters, and the first slot behind them. Where two have one name, which the third
 /// pass rules out, it answers Memory.
 fn body_locals(alloc: Global, params: &[Local]) -> Result<LocalNames, TypeFault>
@@ -90,7 +77,7 @@ fn body_locals(alloc: Global, params: &[Local]) -> Result<LocalNames, TypeFault>
     let count = number_of(params.len())?;
     let mut scope = LocalNames::new(alloc, count);
     for local in params {
-        scope.push_local(local_copy(local)?)?;
+        scope.push_local(local.copy()?)?;
     }
     Ok(scope)
 }

@@ -1,6 +1,6 @@
 -- The names that a set of keys has.
-use Rattle.std.proofs.Common.{◌≡◌, ℕ, ◌+◌, ◌≤◌, Bool, true, false, cond, not, List, [], ◌∷◌, ◌++◌, length, map, take, nat_eq, ◌||◌, refl, ap, sym, ◌∙◌, Vec}
-use Rattle.std.specs.Prelude.{Option, Some, None, find, slice_get, nat_lt}
+use Rattle.std.proofs.Common.{◌≡◌, ℕ, ◌+◌, ◌≤◌, Bool, true, false, cond, not, List, [], ◌∷◌, ◌++◌, length, map, nat_eq, ◌||◌, refl, ap, sym, ◌∙◌, Vec}
+use Rattle.std.specs.Prelude.{Some, None, find, slice_get, nat_lt}
 use Rattle.std.specs.Cmp.Lexicographic.{pointwise, texts_ties}
 use Rattle.std.specs.Global.{Global}
 use Rattle.std.specs.List.{list_any, position, position_or_len}

@@ -14,7 +14,7 @@ use crate::joining::put_pair;
 use hera_meaning::Schema;
 use hera_rows::{RowMark, RowSet, Sorted};
 use hera_sets::{is_below, is_same};
-use rel_algebra::piece;
+use rel_algebra::{begun_in, piece};
 use std::alloc::{AllocError, Global};
 
 /// Some bytes, and the first row of a set past them: no row stands between.
@@ -134,23 +134,4 @@ fn last_or<'s>(front: &'s [u8], last: Option<&'s [u8]>) -> &'s [u8]
     ensures { result.now ≡ last_or front.now (option_copied last.entry) }
 {
     last.unwrap_or(front)
-}
-
-/// The row, where there is one and it begins with these bytes.
-#[inline]
-fn begun_in<'s>(front: &[u8], row: Option<&'s [u8]>) -> Option<&'s [u8]>
-    ensures { option_copied result ≡ begun_in front.now (option_copied row.entry) }
-{
-    match row {
-        Some(r) if begins(front, r) => row,
-        _ => None,
-    }
-}
-
-/// Whether the row begins with these bytes.
-#[inline]
-fn begins(front: &[u8], row: &[u8]) -> bool
-    ensures { result ≡ begins front.now row.now }
-{
-    is_same(&row[..front.len().min(row.len())], front)
 }

@@ -44,7 +44,8 @@ impl<A: Sorted> Sorted for Begun<'_, A> {
 }
 
 /// The row, where there is one and it begins with these bytes.
-fn begun_in<'s>(front: &[u8], row: Option<&'s [u8]>) -> Option<&'s [u8]>
+#[inline]
+pub fn begun_in<'s>(front: &[u8], row: Option<&'s [u8]>) -> Option<&'s [u8]>
     ensures { option_copied result ≡ begun_in front.now (option_copied row.entry) }
 {
     match row {
@@ -54,6 +55,7 @@ fn begun_in<'s>(front: &[u8], row: Option<&'s [u8]>) -> Option<&'s [u8]>
 }
 
 /// Whether the row begins with these bytes.
+#[inline]
 fn begins(front: &[u8], row: &[u8]) -> bool
     ensures { result ≡ begins front.now row.now }
 {

@@ -10,7 +10,7 @@ mod pieces;
 mod projection;
 mod sets;
 
-pub use fronts::Begun;
-pub use pieces::{piece, piece_len};
+pub use fronts::{Begun, begun_in};
+pub use pieces::piece;
 pub use projection::project;
 pub use sets::{Both, Common, Without, inter, minus, same_rows, union};

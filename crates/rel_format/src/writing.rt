@@ -55,7 +55,7 @@ fn push_name(bytes: &mut Vec<u8>, name: &[u8]) -> Result<(), AllocError>
 }
 
 /// The byte of a kind.
-fn kind_byte(kind: Kind) -> u8
+pub fn kind_byte(kind: Kind) -> u8
     ensures { result ≡ kind_byte kind }
 {
     match kind {

@@ -4,6 +4,7 @@ ghost use Rattle.std.specs.List.{position};
 ghost use Rattle.hera_row.specs.Reading.{field_len, row_len_of};
 
 use hera_meaning::{Kind, Schema};
+use hera_row::zero_at;
 
 /// The length of the row with which the bytes begin, where they begin with one. Its texts are not
 /// looked at but for their ends.
@@ -34,11 +35,4 @@ fn piece_len(kind: Kind, bytes: &[u8]) -> usize
             None => unreachable!(),
         },
     }
-}
-
-/// Where the first zero byte stands.
-fn zero_at(bytes: &[u8]) -> Option<usize>
-    ensures { result ≡ position (λ b. nat_eq b 0) bytes.now }
-{
-    bytes.iter().position(|b| *b == 0)
 }

@@ -9,7 +9,8 @@ ghost use Rattle.hera_steps.specs.Answering.{answer_for, answer_to};
 
 use delta_atoms::Value;
 use hera_host::HostTable;
-use hera_meaning::{HostAnswer, Kind, Scalar};
+use hera_meaning::{HostAnswer, Scalar};
+use hera_row::is_kind;
 use hera_values::Datum;
 
 /// What the host of this number answers for a value: nothing where there is no such host, and where the value is no
@@ -32,21 +33,10 @@ fn answer_to(hosts: &HostTable, h: u32, scalar: &Scalar) -> Option<HostAnswer>
     if h >= hosts.len() {
         return None;
     }
-    if !is_of(hosts.param(h), scalar) {
+    if !is_kind(hosts.param(h), scalar) {
         return None;
     }
     Some(hosts.call(h, scalar))
-}
-
-/// Whether the scalar is of the kind.
-fn is_of(kind: Kind, scalar: &Scalar) -> bool
-    ensures { result ≡ is_kind kind scalar.now }
-{
-    match scalar {
-        Scalar::Int(_) => kind == Kind::Int,
-        Scalar::Bool(_) => kind == Kind::Bool,
-        Scalar::Text(_) => kind == Kind::Text,
-    }
 }
 
 /// The answer as a value. It takes no memory.

@@ -1,4 +1,4 @@
-use Rattle.std.proofs.Common.{◌≡◌, ◌+◌, Some, None, refl, sym, ap, subst, ◌∙◌, arith, length}
+use Rattle.std.proofs.Common.{◌≡◌, ◌+◌}
 use Rattle.std.specs.Option.{option_map}
 use Rattle.delta_atoms.specs.Refs.{atom_in}
 use Rattle.commit_journal.proofs.Steps.{past_before, schema_here, to_rel, no_sign, to_row, no_rel, behind_row, no_row, third}

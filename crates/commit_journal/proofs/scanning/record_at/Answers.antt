@@ -1,9 +1,8 @@
-use Rattle.std.proofs.Common.{◌≡◌, ◌+◌, ◌-◌, ◌∷◌, [], ◌++◌, List, Some, None, refl, sym, ap, subst, ◌∙◌, arith}
-use Rattle.std.specs.Option.{option_map}
+use Rattle.std.proofs.Common.{◌≡◌, ◌+◌, ◌-◌, ◌∷◌, [], ◌++◌, refl, arith}
 use Rattle.std.proofs.lemmas.Result.{err_from_is_err_and}
-use Rattle.hera_meaning.specs.Deltas.{Delta, is_fail, IsDelta}
+use Rattle.hera_meaning.specs.Deltas.{Delta}
 use Rattle.delta_atoms.specs.declared.atom.AtomRef.{AtomRef}
-use Rattle.delta_atoms.specs.Atoms.{atoms_in, with_last}
+use Rattle.delta_atoms.specs.Atoms.{atoms_in}
 use Rattle.delta_atoms.specs.Refs.{atom_in}
 use Rattle.commit_journal.specs.Table.{at_gate, at_atom_count, at_sign, behind_atom, with_atom, opened}
 use Rattle.commit_journal.proofs.Steps.{no_count, begun, next_atom, one_more, all_read, may_push, still_atoms, last_pushed, fault_on}

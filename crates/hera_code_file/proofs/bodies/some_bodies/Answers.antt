@@ -1,4 +1,4 @@
-use Rattle.std.proofs.Common.{[], ◌∷◌, ◌++◌}
+use Rattle.std.proofs.Common.{[]}
 use Rattle.std.proofs.lemmas.Result.{err_from_is_err_and}
 use Rattle.hera_code_file.specs.Reading.{many, body_at}
 use Rattle.hera_code_file.specs.Files.{file_body, file_bodies}

@@ -1,5 +1,4 @@
-use Rattle.std.proofs.Common.{◌≡◌, Ok, Err, sym, ap, ◌∙◌, arith}
-use Rattle.hera_row.proofs.FieldLemmas.{AreBytes}
+use Rattle.std.proofs.Common.{◌≡◌, sym, ap, ◌∙◌, arith}
 use Rattle.hera_code_file.specs.Reading.{file_at}
 use Rattle.hera_code_file.specs.Files.{file_of}
 use Rattle.hera_code_file.proofs.Laws.{ok_is}

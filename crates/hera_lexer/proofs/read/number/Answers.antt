@@ -1,4 +1,4 @@
-use Rattle.std.proofs.Common.{◌≡◌, ℕ, ◌+◌, ◌-◌, ◌*◌, ◌<◌, ◌≤◌, ◌^◌, ◌∙◌, ap, sym, List, length, true, rules, refl, w64, pos, arith, Option, Some, None, Result, Ok, Err}
+use Rattle.std.proofs.Common.{◌≡◌, ℕ, ◌+◌, ◌-◌, ◌*◌, ◌<◌, ◌≤◌, true, rules, w64, pos, arith, Result, Ok, Err}
 use Rattle.std.specs.Prelude.{ℤ, MatchOption}
 use Rattle.std.specs.List.{fold}
 use Rattle.std.specs.Result.{OkIff, result_ok}

@@ -1,4 +1,4 @@
-use Rattle.std.proofs.Common.{◌≡◌, ◌<◌, ◌+◌, ◌++◌, ◌∷◌, [], ℕ, List, Option, None, Some, suc, length, true, false, not, Err, ⊎_elim, refl, sym, ap, ◌∙◌, subst, arith}
+use Rattle.std.proofs.Common.{◌≡◌, ◌<◌, ◌+◌, ◌++◌, ◌∷◌, [], None, Some, suc, length, true, false, not, Err, ⊎_elim, refl, sym, ap, ◌∙◌, subst, arith}
 use Rattle.std.specs.List.{list_all}
 use Rattle.std.proofs.KnownBytes.{Appends-nil}
 use Rattle.std.specs.Io.KnownBytes.{Appends}
@@ -18,7 +18,6 @@ use Rattle.rel_pages.specs.Stored.{Stored}
 use Rattle.hera_volume.specs.Time.{LeavesOnly}
 use Rattle.hera_volume.proofs.Moments.{leaves-none, leaves-on}
 use Rattle.hera_store.specs.Databases.{Database}
-use Rattle.hera_outcome.specs.declared.answer.Stop.{Stop}
 use Rattle.hera_outcome.specs.declared.answer.Stop.TheVariants.{Memory}
 use Rattle.hera_outcome.specs.Answers.{IsSpoken}
 use Rattle.hera_outcome.specs.Passages.{passage}

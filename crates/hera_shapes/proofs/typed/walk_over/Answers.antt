@@ -16,7 +16,7 @@ returns c =
       variable = variable_at g (word_of c.args.name.now) c.args.word.now.at (expr_phrase c.args.over.now) v names.locals names.next of.variable;
       made = c.in_ok-made.made;
       typed = typed_at g (expr_phrase c.args.body.now) c.in_ok-made.made
-          (pushed.locals ∙ ap (λ l. c.variable_of.new.names.locals.items ++ l ∷ []) c.in_ok-local_copy.ensures ∙ ap (λ ls. ls ++ v ∷ []) (of.keeps.locals ∙ names.locals))
+          (pushed.locals ∙ ap (λ l. c.variable_of.new.names.locals.items ++ l ∷ []) c.in_ok-copy.ensures ∙ ap (λ ls. ls ++ v ∷ []) (of.keeps.locals ∙ names.locals))
           (omega (arith, pushed.next, of.keeps.next, names.next)) c.in_ok-made.ensures.typed;
       gathers_is = c.in_ok-gathers.ensures ∙ ap (λ k. gathered k v.shape c.in_ok-made.made) c.walk_word.ensures;
     }

@@ -1,4 +1,4 @@
-use Rattle.std.proofs.Common.{◌≡◌, ◌∙◌, Some, None, [], List, length, map, sym, ap, subst}
+use Rattle.std.proofs.Common.{◌≡◌, ◌∙◌, Some, None, List, length, map, sym, ap, subst}
 use Rattle.std.specs.Prelude.{slice_get, OnOk, IfErr}
 use Rattle.std.proofs.lemmas.Option.{slice_get_within}
 use Rattle.hera_sets.specs.Rows.{Row}

@@ -1,7 +1,6 @@
-use Rattle.std.proofs.Common.{◌≡◌, ◌≤◌, length, map, List, sym, subst, arith}
+use Rattle.std.proofs.Common.{◌≡◌, ◌≤◌, length, List, sym, subst, arith}
 use Rattle.std.specs.Prelude.{OnOk, IfErr}
 use Rattle.hera_sets.specs.Rows.{Row}
-use Rattle.hera_meaning.specs.Wider.{widened_row}
 use Rattle.rel_format.specs.declared.version.TheConstants.{PAGE_TWO}
 use Rattle.rel_format.specs.Pages.{paged}
 use Rattle.half_writer.specs.Written.{IsFirstFull, with_rel, need_of}

@@ -1,5 +1,4 @@
 use Rattle.std.proofs.Common.{◌≡◌, ◌∙◌, ◌++◌, ◌∷◌, [], List, map, sym, ap, subst}
-use Rattle.std.specs.List.{filter}
 use Rattle.std.specs.Option.{option_copied}
 use Rattle.hera_sets.specs.Rows.{Row, IsAscending, is_past}
 use Rattle.hera_sets.proofs.Lists.{filter_past_none, walk_falls}

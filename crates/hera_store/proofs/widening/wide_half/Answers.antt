@@ -1,8 +1,7 @@
-use Rattle.std.proofs.Common.{◌≡◌, ◌≤◌, ◌∙◌, inr, List, ℕ, length, ap, subst, arith}
+use Rattle.std.proofs.Common.{◌≡◌, ◌≤◌, ◌∙◌, inr, ℕ, length, ap, subst, arith}
 use Rattle.std.proofs.lemmas.List.{take_all}
 use Rattle.std.proofs.lemmas.Result.{err_from_is_err_and}
 use Rattle.hera_meaning.specs.Commits.{after_all}
-use Rattle.hera_meaning.specs.declared.schemas.RelDecl.{RelDecl}
 use Rattle.hera_meaning.specs.Catalogues.{IsCatalogue}
 use Rattle.hera_meaning.specs.Deltas.{IsState}
 use Rattle.hera_meaning.specs.Wider.{widen_of}
@@ -11,9 +10,9 @@ use Rattle.hera_meaning.proofs.WiderLaws.{wide_state}
 use Rattle.rel_format.specs.declared.version.TheConstants.{PAGE_TWO}
 use Rattle.rel_format.specs.Pages.{format_two, paged}
 use Rattle.rel_pages.proofs.States.{state_length}
-use Rattle.half_writer.specs.Written.{Written, IsFirstFull, IsFullAt, written_of, need_of}
+use Rattle.half_writer.specs.Written.{Written, IsFirstFull, written_of, need_of}
 use Rattle.hera_store.specs.Widened.{rows_under}
-use Rattle.hera_store.proofs.Printings.{rows_are, one_more, full_adding, full_finished, finished_fits}
+use Rattle.hera_store.proofs.Printings.{rows_are, one_more, full_adding, finished_fits}
 use Rattle.hera_store.proofs.Widenings.{begins_as, widened_at, print_widen}
 use Rattle.hera_store.proofs.widening.wide_half.Goals as goal
 

@@ -3,7 +3,7 @@ use Rattle.hera_meaning.specs.Deltas.{schema_of, rows_at}
 use Rattle.hera_csv.specs.Writers.{csv_of}
 use Rattle.hera_store.specs.Standing.{database_of}
 use Rattle.hera_outcome.specs.Outcomes.{prints}
-use Rattle.hera_outcome.specs.Passages.{passage, syncs_all}
+use Rattle.hera_outcome.specs.Passages.{passage}
 use Rattle.hera_outcome.proofs.Passing.{tell_answered}
 use Rattle.hera_transfer.specs.Transfers.{unknown, writes}
 use Rattle.hera_transfer.proofs.Importing.{export_unopened}

@@ -1,4 +1,4 @@
-use Rattle.std.proofs.Common.{◌≡◌, ◌∙◌, [], ℕ, List, length, map, sym, ap, subst, arith}
+use Rattle.std.proofs.Common.{◌≡◌, ◌∙◌, [], List, length, map, sym, subst, arith}
 use Rattle.hera_meaning.specs.Plain.{program_of}
 use Rattle.hera_host.specs.Tables.{specs_of}
 use Rattle.hera_sessions.specs.Sessions.{Task}

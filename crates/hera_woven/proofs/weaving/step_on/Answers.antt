@@ -1,4 +1,4 @@
-use Rattle.std.proofs.Common.{◌∙◌, ℕ, List, Option, Ok, is_some, ap, subst}
+use Rattle.std.proofs.Common.{◌∙◌, List, Option, Ok, is_some, ap, subst}
 use Rattle.hera_host.specs.Tables.{specs_of}
 use Rattle.hera_meaning.specs.Worlds.{Event}
 use Rattle.hera_sessions.specs.Weaving.{Outcome}

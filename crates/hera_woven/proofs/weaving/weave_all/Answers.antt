@@ -1,4 +1,4 @@
-use Rattle.std.proofs.Common.{◌∙◌, ◌++◌, ◌∷◌, [], ℕ, List, sym}
+use Rattle.std.proofs.Common.{◌∙◌, ◌++◌, ◌∷◌, [], sym}
 use Rattle.hera_host.specs.Tables.{specs_of}
 use Rattle.hera_outcome.specs.Passages.{passage}
 use Rattle.hera_run.proofs.Results.{err_is}

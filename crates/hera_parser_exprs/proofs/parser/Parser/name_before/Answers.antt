@@ -1,4 +1,4 @@
-use Rattle.std.proofs.Common.{rules, arith, ap}
+use Rattle.std.proofs.Common.{rules, ap}
 use Rattle.hera_syntax.specs.Outline.{hold}
 use Rattle.hera_parser_exprs.proofs.Steps.{next, stops, idle, as_marks}
 use Rattle.hera_parser_exprs.proofs.JoinedParts.{ok_on, on_less}

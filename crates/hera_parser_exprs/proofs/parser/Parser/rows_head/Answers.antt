@@ -1,4 +1,4 @@
-use Rattle.std.proofs.Common.{rules, arith, ap, ◌++◌, ◌∷◌, []}
+use Rattle.std.proofs.Common.{rules, ap, ◌++◌, ◌∷◌, []}
 use Rattle.hera_syntax.specs.declared.token.Token.{Token}
 use Rattle.hera_syntax.specs.Grammar.{keep}
 use Rattle.hera_syntax.specs.Grammar as phrases

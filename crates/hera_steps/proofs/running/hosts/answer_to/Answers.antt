@@ -6,12 +6,12 @@ use Rattle.hera_steps.proofs.running.hosts.answer_to.Goals as goal
 pub returns-then-h-len : goal.returns-then-h-len
 returns-then-h-len g c = past_hosts c.args.hosts.now.names c.args.h c.args.scalar.now (omega (arith, c.if-h-len.true, c.len.ensures.count))
 
-pub returns-then-not-is_of : goal.returns-then-not-is_of
-returns-then-not-is_of g c =
+pub returns-then-not-is_kind : goal.returns-then-not-is_kind
+returns-then-not-is_kind g c =
     other_kind c.args.hosts.now.names c.args.h c.args.scalar.now (omega (arith, c.if-h-len.false, c.len.ensures.count))
-    (ap (λ k. is_kind k c.args.scalar.now) (sym c.param.ensures) ∙ sym c.is_of.ensures ∙ c.if-not-is_of.true)
+    (ap (λ k. is_kind k c.args.scalar.now) (sym c.param.ensures) ∙ sym c.is_kind.ensures ∙ c.if-not-is_kind.true)
 
 pub returns : goal.returns
 returns g c =
     own_kind c.args.hosts.now.names c.args.h c.args.scalar.now c.call.result (omega (arith, c.if-h-len.false, c.len.ensures.count))
-    (ap (λ k. is_kind k c.args.scalar.now) (sym c.param.ensures) ∙ sym c.is_of.ensures ∙ c.if-not-is_of.false) c.call.ensures.answer
+    (ap (λ k. is_kind k c.args.scalar.now) (sym c.param.ensures) ∙ sym c.is_kind.ensures ∙ c.if-not-is_kind.false) c.call.ensures.answer

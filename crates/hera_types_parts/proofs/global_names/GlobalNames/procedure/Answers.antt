@@ -1,4 +1,4 @@
-use Rattle.std.proofs.Common.{◌∙◌, ap, sym}
+use Rattle.std.proofs.Common.{◌∙◌, ap}
 use Rattle.std.specs.List.{position}
 use Rattle.hera_sets.specs.Rows.{is_same}
 use Rattle.hera_rules.specs.Environments.{proc_named}

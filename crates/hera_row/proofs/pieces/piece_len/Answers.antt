@@ -1,6 +1,6 @@
 use Rattle.std.proofs.Common.{◌+◌, ◌≤◌, ap, sym, ◌∙◌, length, arith, length-take-le}
 use Rattle.hera_row.proofs.Zeros.{through_zero-found, through_zero-missing, zero_found}
-use Rattle.hera_row.proofs.reading.piece_len.Goals as goal
+use Rattle.hera_row.proofs.pieces.piece_len.Goals as goal
 
 pub returns-in-Some-clause-length : goal.returns-in-Some-clause-length
 returns-in-Some-clause-length c =
