@@ -23,10 +23,7 @@ fn tuple_line(alloc: Global, schema: &Schema, row: &[u8]) -> Result<Line, AllocE
     let schema = schema.copy()?;
     let shape = Shape::Tuple(schema);
     let value = Value::Row(row);
-    let line = value_line(alloc, &shape, &value, &[]);
-    drop(value);
-    drop(shape);
-    line
+    value_line(alloc, &shape, &value, &[])
 }
 
 /// The line `guard HOST refused R[..]` of a row of the declared relation.

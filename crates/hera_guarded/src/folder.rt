@@ -50,10 +50,8 @@ fn break_off<W: Outside>(outside: &mut W, store: &Store, line: &[u8]) -> Result<
     ensures fault { IfErr result IsFault }
 {
     let _ = store;
-    match say(outside, line) {
-        Ok(()) => Ok(Ending::Broken),
-        Err(stop) => Err(stop),
-    }
+    say(outside, line)?;
+    Ok(Ending::Broken)
 }
 
 /// Runs a bound program over an open store of which no row breaks a guard.
@@ -75,28 +73,12 @@ fn run_under<W: Outside>(
 {
     code_does_what_the_program_means();
     let hosts = rules.hosts;
-    let Ok(code) = generate(alloc, program) else {
-        drop(store);
-        return Err(Stop::Memory);
-    };
-    let Ok(kept) = InFolder::over(alloc, store) else {
-        return Err(Stop::Memory);
-    };
+    let code = generate(alloc, program)?;
+    let kept = InFolder::over(alloc, store)?;
     let mut keeper = GuardedFolder { kept, rules };
-    let outcome = run_code(
-        alloc,
-        &code,
-        &program.relations,
-        &mut keeper,
-        turns,
-        outside,
-        hosts,
-    );
-    drop(keeper);
-    match outcome {
-        Ok(close) => Ok(ending_under(close)),
-        Err(stop) => Err(stop),
-    }
+    let relations = &program.relations;
+    let close = run_code(alloc, &code, relations, &mut keeper, turns, outside, hosts)?;
+    Ok(ending_under(close))
 }
 
 /// Runs a bound program over an open store under guards: where a row of the store breaks one, its line is printed alone.
@@ -115,19 +97,9 @@ fn guard_bound<W: Outside>(
     ensures told { IsToldBehind (guarded_outcome (database_of store) store.end (guarded_of (program_of program.now) (database_of store).state rules.entry.hosts.now.names turns rules.entry.table)) (number_of result) (passage W.Output W.Outside.own outside.old outside.new) }
     ensures fault { IfErr result IsFault }
 {
-    match rules.stored(alloc, &store) {
-        Ok(None) => run_under(alloc, program, store, rules, turns, outside),
-        Ok(Some(line)) => {
-            let answer = break_off(outside, &store, line.bytes());
-            drop(store);
-            drop(rules);
-            answer
-        }
-        Err(_) => {
-            drop(store);
-            drop(rules);
-            Err(Stop::Memory)
-        }
+    match rules.stored(alloc, &store)? {
+        None => run_under(alloc, program, store, rules, turns, outside),
+        Some(line) => break_off(outside, &store, line.bytes()),
     }
 }
 
@@ -153,22 +125,17 @@ pub fn guard_in_folder<W: Outside>(
     requires sound { Sound (program_of program) (specs_of hosts.now.names) }
     ensures answered { Answered (GuardsTo hosts.now.names lines.now turns (program_of program) (start W.Outside.own outside.old)) result (passage W.Output W.Outside.own outside.old outside.new) }
 {
-    match open_under(alloc, &program.relations, lines, outside, hosts) {
-        Ok((store, table)) => match bind(alloc, program, store.base().catalogue()) {
-            Ok(program) => {
-                let rules = Rules {
-                    table,
-                    lines,
-                    hosts,
-                };
-                guard_bound(alloc, &program, store, rules, turns, outside)
-            }
-            Err(BindFault::Differs { .. }) => unreachable!(),
-            Err(BindFault::Memory) => Err(Stop::Memory),
-        },
-        Err(stop) => {
-            drop(program);
-            Err(stop)
+    let (store, table) = open_under(alloc, &program.relations, lines, outside, hosts)?;
+    match bind(alloc, program, store.base().catalogue()) {
+        Ok(program) => {
+            let rules = Rules {
+                table,
+                lines,
+                hosts,
+            };
+            guard_bound(alloc, &program, store, rules, turns, outside)
         }
+        Err(BindFault::Differs { .. }) => unreachable!(),
+        Err(BindFault::Memory) => Err(Stop::Memory),
     }
 }

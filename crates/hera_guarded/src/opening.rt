@@ -74,16 +74,9 @@ fn renew_under<W: Outside>(
     ensures renewed { IfOk result (λ both. IsRenewedUnder hosts.now.names lines.now own.now store both.0 both.1 (passage W.Output W.Outside.own outside.old outside.new)) }
     ensures unrenewed { IfErr result (λ stop. IsUnrenewed hosts.now.names lines.now own.now store stop (passage W.Output W.Outside.own outside.old outside.new)) }
 {
-    match rewrite(alloc, store, outside) {
-        Ok(next) => match guards_for(alloc, own, lines, next.base().catalogue(), hosts) {
-            Ok(table) => Ok((next, table)),
-            Err(stop) => {
-                drop(next);
-                Err(stop)
-            }
-        },
-        Err(stop) => Err(stop),
-    }
+    let next = rewrite(alloc, store, outside)?;
+    let table = guards_for(alloc, own, lines, next.base().catalogue(), hosts)?;
+    Ok((next, table))
 }
 
 /// Opens the folder for a program with these relations, under the guards that the lines mean. A half of format 1 is
@@ -98,22 +91,11 @@ pub fn open_under<W: Outside>(
     ensures ready { IfOk result (λ both. IsReadyUnder hosts.now.names lines.now own.now both.0 both.1 (passage W.Output W.Outside.own outside.old outside.new)) }
     ensures unready { IfErr result (λ stop. IsUnreadyUnder hosts.now.names lines.now own.now stop (passage W.Output W.Outside.own outside.old outside.new)) }
 {
-    let store = match open_folder(alloc, outside) {
-        Ok(store) => store,
-        Err(stop) => return Err(stop),
-    };
-    match guards_for(alloc, own, lines, store.base().catalogue(), hosts) {
-        Ok(table) => {
-            if store.old_format() {
-                drop(table);
-                renew_under(alloc, own, lines, store, outside, hosts)
-            } else {
-                Ok((store, table))
-            }
-        }
-        Err(stop) => {
-            drop(store);
-            Err(stop)
-        }
+    let store = open_folder(alloc, outside)?;
+    let table = guards_for(alloc, own, lines, store.base().catalogue(), hosts)?;
+    if store.old_format() {
+        renew_under(alloc, own, lines, store, outside, hosts)
+    } else {
+        Ok((store, table))
     }
 }

@@ -54,7 +54,6 @@ impl<'a> Rules<'a> {
             None => Ok(None),
             Some(found) => {
                 let line = break_line(alloc, catalogue, self.host_name(found.guard), &found)?;
-                drop(found);
                 Ok(Some(line))
             }
         }

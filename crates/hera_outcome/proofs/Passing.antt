@@ -117,6 +117,11 @@ says_as text v x y says = record { whole = says.whole; part = tt; fault = tt; ke
 pub says_so : {T U : Type 0} (text : List ℕ) (v : Passage) (stop : Stop) → Says {T = T} text (Err stop) v → Says {T = U} text (Err stop) v
 says_so text v stop says = record { whole = tt; part = says.part; fault = says.fault; keeps = says.keeps; moments = says.moments }
 
+-- an error that is handed on
+pub handed_on : {T : Type 0} (P : Result T Stop → Type 0) (r : Result T Stop) (stop : Stop) → IsErrAnd r (λ e. e ≡ stop) → P (Err stop) → P r
+handed_on P (Ok x) stop none p = absurd none
+handed_on P (Err e) stop same p = subst (λ (s : Stop). P (Err s)) (sym same) p
+
 -- an outcome that leaves the files alone, by its text that was said
 pub told_by : {T : Type 0} (o : Outcome) (v : Passage) (text : List ℕ) (r : Result T Stop) (status : ℕ) → LeavesAlone o → text_of_outcome o ≡ text → Says text r v
     → OnOk r (status ≡ status_of_outcome o) → IfErr r (λ stop. status ≡ number_of_stop stop) → IsTold o status v
@@ -222,6 +227,10 @@ module _ {D : Type 0} (q : output.Ghosts D) (w : files.Ghosts D) where
 
   pub given_up_none : (a : D) → IsGivenUp 9 (over a a)
   given_up_none a = record { cause = inr (refl, refl); unseen = unseen_none a; syncs = λ t. does_nothing refl }
+
+  -- want of memory before anything was done
+  pub no_memory_answered : (a : D) (Comes : Outcome → Type 0) (r : Result Ending Stop) → IsErrAnd r (λ e. e ≡ Memory) → Answered Comes r (over a a)
+  no_memory_answered a Comes r is = handed_on (λ x. Answered Comes x (over a a)) r Memory is (inr (given_up_none a))
 
   -- there was no memory before anything was said
   pub told_none : (o : Outcome) (a : D) → LeavesAlone o → IsTold o 9 (over a a)

@@ -40,10 +40,8 @@ pub fn tell<W: Outside>(outside: &mut W, text: &[u8]) -> Result<Ending, Stop>
     ensures said { Says text.now result (passage W.Output W.Outside.own outside.old outside.new) }
     ensures done { IfOk result (λ ending. ending ≡ Ending.Done) }
 {
-    match say(outside, text) {
-        Ok(()) => Ok(Ending::Done),
-        Err(stop) => Err(stop),
-    }
+    say(outside, text)?;
+    Ok(Ending::Done)
 }
 
 /// The status of an answer. A refusal is told first.

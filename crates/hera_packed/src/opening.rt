@@ -51,14 +51,8 @@ pub fn open_code(alloc: Global, bytes: &[u8], hosts: &HostTable) -> Result<CodeF
     match read_code(alloc, bytes) {
         Ok(file) => match verify(alloc, &file, hosts) {
             Ok(()) => Ok(file),
-            Err(VerifyFault::Rejected { at }) => {
-                drop(file);
-                Err(OpenFault::Rejected { at })
-            }
-            Err(VerifyFault::Memory) => {
-                drop(file);
-                Err(OpenFault::Memory)
-            }
+            Err(VerifyFault::Rejected { at }) => Err(OpenFault::Rejected { at }),
+            Err(VerifyFault::Memory) => Err(OpenFault::Memory),
         },
         Err(CodeFault::BadCode { at }) => Err(OpenFault::BadCode { at }),
         Err(CodeFault::Memory) => Err(OpenFault::Memory),

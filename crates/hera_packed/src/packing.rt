@@ -57,9 +57,7 @@ fn pack(
     ensures { IfOk result (λ line. IsPackOf (specs_of hosts.now.names) (program_of program.now) line) }
 {
     let notes = script_notes(alloc, tree, hosts, program, code)?;
-    let written = write(alloc, &program.relations, code, &notes);
-    drop(notes);
-    written
+    write(alloc, &program.relations, code, &notes)
 }
 
 /// A code file of a script that `elaborate` accepts: its relations and its code, with notes with which that is typed code.
@@ -75,7 +73,5 @@ pub fn pack_script(
     ensures packed { IfOk result (λ line. IsPackOf (specs_of hosts.now.names) (program_of program.now) line) }
 {
     let code = generate(alloc, program)?;
-    let packed = pack(alloc, tree, hosts, program, &code);
-    drop(code);
-    packed
+    pack(alloc, tree, hosts, program, &code)
 }

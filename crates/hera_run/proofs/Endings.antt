@@ -1,5 +1,5 @@
 -- Ends of runs that print nothing.
-use Rattle.std.proofs.Common.{◌≡◌, ℕ, zero, suc, List, [], take, Option}
+use Rattle.std.proofs.Common.{ℕ, zero, suc, List, [], take, Option}
 use Rattle.std.specs.Io.KnownBytes.{Appends}
 
 pub none_part : (before now : Option (List ℕ)) (line : List ℕ) → ((n : ℕ) × Appends before now (take n [])) → (n : ℕ) × Appends before now (take n line)

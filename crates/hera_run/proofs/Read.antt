@@ -1,5 +1,5 @@
 -- What is read after a run is as a stop might have left it.
-use Rattle.std.proofs.Common.{◌≡◌, ◌≤◌, ℕ, inl, List, [], Some, refl}
+use Rattle.std.proofs.Common.{◌≤◌, ℕ, inl, List, [], Some, refl}
 use Rattle.hera_meaning.specs.Worlds.{Event}
 use Rattle.hera_causes.specs.declared.traits.Output as output
 use Rattle.hera_volume.specs.Disk.{IsImage}

@@ -39,27 +39,11 @@ fn run_bound<W: Outside>(
     ensures fault { IfErr result IsFault }
 {
     code_does_what_the_program_means();
-    let Ok(code) = generate(alloc, program) else {
-        drop(store);
-        return Err(Stop::Memory);
-    };
-    let Ok(mut keeper) = InFolder::over(alloc, store) else {
-        return Err(Stop::Memory);
-    };
-    let outcome = run_code(
-        alloc,
-        &code,
-        &program.relations,
-        &mut keeper,
-        turns,
-        outside,
-        hosts,
-    );
-    drop(keeper);
-    match outcome {
-        Ok(close) => Ok(ending_of(close)),
-        Err(stop) => Err(stop),
-    }
+    let code = generate(alloc, program)?;
+    let mut keeper = InFolder::over(alloc, store)?;
+    let relations = &program.relations;
+    let close = run_code(alloc, &code, relations, &mut keeper, turns, outside, hosts)?;
+    Ok(ending_of(close))
 }
 
 /// Opens the folder, binds the program to its relations, and runs it with at most so many turns. A half of format 1 is
@@ -81,17 +65,10 @@ pub fn run_in_folder<W: Outside>(
     requires sound { Sound (program_of program) (specs_of hosts.now.names) }
     ensures answered { Answered (RunsTo hosts.now.names turns (program_of program) (start W.Outside.own outside.old)) result (passage W.Output W.Outside.own outside.old outside.new) }
 {
-    match open_for(alloc, &program.relations, outside) {
-        Ok(store) => match bind(alloc, program, store.base().catalogue()) {
-            Ok(program) => run_bound(alloc, &program, store, turns, outside, hosts),
-            Err(BindFault::Differs { relation }) => {
-                Err(Stop::Refused(Refusal::Differing { relation }))
-            }
-            Err(BindFault::Memory) => Err(Stop::Memory),
-        },
-        Err(stop) => {
-            drop(program);
-            Err(stop)
-        }
+    let store = open_for(alloc, &program.relations, outside)?;
+    match bind(alloc, program, store.base().catalogue()) {
+        Ok(program) => run_bound(alloc, &program, store, turns, outside, hosts),
+        Err(BindFault::Differs { relation }) => Err(Stop::Refused(Refusal::Differing { relation })),
+        Err(BindFault::Memory) => Err(Stop::Memory),
     }
 }

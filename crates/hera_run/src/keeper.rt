@@ -114,13 +114,8 @@ impl InFolder {
         ensures store { IfOk result (λ keeper. keeper.store ≡ store) }
         ensures levelled { IfOk result (λ keeper. IsLevelled keeper.levels store) }
     {
-        match Levels::of(alloc, store.commits()) {
-            Ok(levels) => Ok(InFolder { store, levels }),
-            Err(fault) => {
-                drop(store);
-                Err(fault)
-            }
-        }
+        let levels = Levels::of(alloc, store.commits())?;
+        Ok(InFolder { store, levels })
     }
 }
 
@@ -229,7 +224,6 @@ impl Keeper for InMemory {
     fn keep<W: Outside>(&mut self, outside: &mut W, delta: Delta) -> Result<(), Stop> {
         let _ = outside;
         self.levels.push(&delta)?;
-        drop(delta);
         Ok(())
     }
 

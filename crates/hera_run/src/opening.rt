@@ -49,15 +49,11 @@ pub fn open_for<W: Outside>(alloc: Global, own: &[RelDecl], outside: &mut W) -> 
     ensures ready { IfOk result (λ store. IsReady own.now store (passage W.Output W.Outside.own outside.old outside.new)) }
     ensures unready { IfErr result (λ stop. IsUnready own.now stop (passage W.Output W.Outside.own outside.old outside.new)) }
 {
-    match open_folder(alloc, outside) {
-        Ok(store) => {
-            if is_to_rewrite(own, &store) {
-                rewrite(alloc, store, outside)
-            } else {
-                Ok(store)
-            }
-        }
-        Err(stop) => Err(stop),
+    let store = open_folder(alloc, outside)?;
+    if is_to_rewrite(own, &store) {
+        rewrite(alloc, store, outside)
+    } else {
+        Ok(store)
     }
 }
 

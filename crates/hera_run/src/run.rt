@@ -144,10 +144,7 @@ pub fn run_code<K: Keeper, W: Outside>(
 {
     let mut counts = Counts::new(alloc, relations.len())?;
     let mut machine = Machine::new(alloc, code, relations, turns)?;
-    let outcome = carry_all(alloc, &mut machine, &mut counts, keeper, outside, hosts);
-    drop(machine);
-    drop(counts);
-    outcome
+    carry_all(alloc, &mut machine, &mut counts, keeper, outside, hosts)
 }
 
 /// Carries out the events of a machine at the start of its code, up to the end or a refusal.
@@ -181,19 +178,14 @@ fn carry_all<K: Keeper, W: Outside>(
             Event::Commit => {
                 let next = next_number(number)?;
                 let delta = machine.take_pending();
-                match keeper.test(alloc, &delta) {
-                    Ok(None) => {
+                match keeper.test(alloc, &delta)? {
+                    None => {
                         commit(alloc, outside, keeper, delta, next)?;
                         number = next;
                     }
-                    Ok(Some(line)) => {
-                        drop(delta);
+                    Some(line) => {
                         carry_out(outside, keeper, Action::Say(line))?;
                         return Ok(Close::Refused);
-                    }
-                    Err(_) => {
-                        drop(delta);
-                        return Err(Stop::Memory);
                     }
                 }
             }

@@ -130,11 +130,6 @@ pub fn read_program(alloc: Global, script: &[u8], hosts: &HostTable) -> Result<P
     ensures sound { IfOk result (λ program. Sound (program_of program) (specs_of hosts.now.names)) }
     ensures refused { (cause : Cause) (at : ℕ) → result ≡ Err (ScriptFault.Refused cause at) → IsRefused hosts.now.names script.now cause at }
 {
-    match read_script(alloc, script, hosts) {
-        Ok((tree, program)) => {
-            drop(tree);
-            Ok(program)
-        }
-        Err(fault) => Err(fault),
-    }
+    let (_tree, program) = read_script(alloc, script, hosts)?;
+    Ok(program)
 }

@@ -1,5 +1,5 @@
 -- What a call answers where a source, or the script that came of it, gave nothing.
-use Rattle.std.proofs.Common.{◌≡◌, ◌⊎◌, ⊎_elim, ◌<◌, ◌≤◌, inl, inr, ℕ, List, [], ◌∷◌, length, Result, Ok, Err, IsErrAnd, refl, sym, subst}
+use Rattle.std.proofs.Common.{◌≡◌, ◌⊎◌, ⊎_elim, ◌<◌, ◌≤◌, inl, inr, ℕ, List, [], ◌∷◌, length, Result, Err, IsErrAnd, refl}
 use Rattle.hera_causes.specs.Causes.{Rose}
 use Rattle.hera_causes.specs.declared.traits.Output as output
 use Rattle.hera_host.specs.Tables.{Host}
@@ -19,17 +19,17 @@ use Rattle.hera_outcome.specs.Answers.{stop_of_script}
 use Rattle.hera_outcome.specs.Outcomes.{Outcome, refused}
 use Rattle.hera_outcome.specs.Passages.{Passage, passage, start, start_of}
 use Rattle.hera_outcome.specs.Told.{Answered}
-use Rattle.hera_outcome.proofs.Passing.{answered_weaker, pending_none, given_up_none, keeps_none}
+use Rattle.hera_outcome.proofs.Passing.{handed_on, answered_weaker, pending_none, given_up_none, keeps_none}
 use Rattle.hera_words.specs.declared.command.Command.{Command}
 use Rattle.hera_top.specs.Commands.{ComesTo, IsAnswered, IsApart}
 use Rattle.hera_top.specs.Guarding.{GivesNoLines, misses_rules, refuses_rules}
 use Rattle.hera_top.specs.Sources.{Seen, IsRead, IsWhole, IsUnread, this_failed}
 use Rattle.hera_top.specs.Stopping.{IsMissing, is_unread, is_too_long, has_no_memory, IsStopped, fails, refuses, lacks_memory}
 
--- an error that is handed on
-handed_on : (P : Result Ending Stop → Type 0) (r : Result Ending Stop) (stop : Stop) → IsErrAnd r (λ e. e ≡ stop) → P (Err stop) → P r
-handed_on P (Ok x) stop none p = absurd none
-handed_on P (Err e) stop same p = subst (λ (s : Stop). P (Err s)) (sym same) p
+-- ---- memory
+
+pub no_memory_apart : {D : Type 0} (q : output.Ghosts D) (w : files.Ghosts D) (a : D) (r : Result Ending Stop) → IsErrAnd r (λ e. e ≡ Memory) → IsApart r (passage q w a a)
+no_memory_apart q w a r is = handed_on (λ x. IsApart x (passage q w a a)) r Memory is (record { keeps = keeps_none q w a; no_device = λ h. cc (h) })
 
 -- ---- sources
 

@@ -42,10 +42,8 @@ fn print_pack<W: Outside>(
     ensures answered { Answered (PrintsPack (specs_of hosts.now.names) (program_of program.now)) result (passage W.Output W.Outside.own outside.old outside.new) }
     ensures apart { IsApart result (passage W.Output W.Outside.own outside.old outside.new) }
 {
-    match pack_script(alloc, tree, hosts, program) {
-        Ok(text) => tell(outside, text.bytes()),
-        Err(_) => Err(Stop::Memory),
-    }
+    let text = pack_script(alloc, tree, hosts, program)?;
+    tell(outside, text.bytes())
 }
 
 /// Prints a code file of a script, where it is accepted.
@@ -60,10 +58,7 @@ fn pack<W: Outside>(
     ensures apart { IsApart result (passage W.Output W.Outside.own outside.old outside.new) }
 {
     let (tree, program) = read_script(alloc, script, hosts)?;
-    let answer = print_pack(alloc, &tree, &program, outside, hosts);
-    drop(tree);
-    drop(program);
-    answer
+    print_pack(alloc, &tree, &program, outside, hosts)
 }
 
 /// Reads a script and prints a code file of it.
@@ -92,11 +87,7 @@ fn execute<W: Outside>(
     ensures apart { IsApart result (passage W.Output W.Outside.own outside.old outside.new) }
 {
     match open_code(alloc, bytes, hosts) {
-        Ok(file) => {
-            let answer = run(alloc, &file.code, &file.relations, turns, outside, hosts);
-            drop(file);
-            answer
-        }
+        Ok(file) => run(alloc, &file.code, &file.relations, turns, outside, hosts),
         Err(OpenFault::BadCode { at }) => Err(Stop::Refused(Refusal::BadCode { at })),
         Err(OpenFault::Rejected { at }) => Err(Stop::Refused(Refusal::Rejected { at })),
         Err(OpenFault::Memory) => Err(Stop::Memory),

@@ -36,15 +36,9 @@ fn list<W: Outside>(
     ensures answered { Answered (Performs hosts.now.names (program_of program.now) (start W.Outside.own outside.old) Command.List) result (passage W.Output W.Outside.own outside.old outside.new) }
     ensures apart { IsApart result (passage W.Output W.Outside.own outside.old outside.new) }
 {
-    let Ok(code) = generate(alloc, program) else {
-        return Err(Stop::Memory);
-    };
-    let text = listing(alloc, &code);
-    drop(code);
-    match text {
-        Ok(text) => tell(outside, text.bytes()),
-        Err(_) => Err(Stop::Memory),
-    }
+    let code = generate(alloc, program)?;
+    let text = listing(alloc, &code)?;
+    tell(outside, text.bytes())
 }
 
 /// Runs a program on its relations without rows, with at most so many turns.
@@ -60,12 +54,8 @@ fn eval<W: Outside>(
     ensures apart { IsApart result (passage W.Output W.Outside.own outside.old outside.new) }
 {
     code_does_what_the_program_means();
-    let Ok(code) = generate(alloc, program) else {
-        return Err(Stop::Memory);
-    };
-    let answer = run(alloc, &code, &program.relations, turns, outside, hosts);
-    drop(code);
-    answer
+    let code = generate(alloc, program)?;
+    run(alloc, &code, &program.relations, turns, outside, hosts)
 }
 
 /// Makes the database of a catalogue in the folder, without rows.
@@ -89,12 +79,8 @@ fn init<W: Outside>(alloc: Global, relations: &[RelDecl], outside: &mut W) -> Re
     requires { IsCatalogue relations.now }
     ensures answered { Answered (IsMade relations.now (start W.Outside.own outside.old)) result (passage W.Output W.Outside.own outside.old outside.new) }
 {
-    let Ok(catalogue) = catalogue_of(alloc, relations) else {
-        return Err(Stop::Memory);
-    };
-    let answer = make_from(alloc, &catalogue, outside);
-    drop(catalogue);
-    answer
+    let catalogue = catalogue_of(alloc, relations)?;
+    make_from(alloc, &catalogue, outside)
 }
 
 /// Widens the database in the folder to these relations.
@@ -102,12 +88,8 @@ fn widen<W: Outside>(alloc: Global, relations: &[RelDecl], outside: &mut W) -> R
     requires { IsCatalogue relations.now }
     ensures answered { Answered (IsWidened relations.now (start W.Outside.own outside.old)) result (passage W.Output W.Outside.own outside.old outside.new) }
 {
-    let Ok(catalogue) = catalogue_of(alloc, relations) else {
-        return Err(Stop::Memory);
-    };
-    let answer = widen_to(alloc, &catalogue, outside);
-    drop(catalogue);
-    answer
+    let catalogue = catalogue_of(alloc, relations)?;
+    widen_to(alloc, &catalogue, outside)
 }
 
 /// Carries out a command on an accepted script's program.
@@ -125,11 +107,7 @@ pub(crate) fn perform<W: Outside>(
 {
     match command {
         Command::Run(turns) => run_in_folder(alloc, program, turns, outside, hosts),
-        _ => {
-            let answer = perform_on(alloc, command, &program, outside, hosts);
-            drop(program);
-            answer
-        }
+        _ => perform_on(alloc, command, &program, outside, hosts),
     }
 }
 

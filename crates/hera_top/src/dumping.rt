@@ -40,10 +40,7 @@ fn table_line(alloc: Global, schema: &Schema, rows: RowSet) -> Result<Line, Allo
 {
     let shape = Shape::Rel(schema.copy()?);
     let value = Value::Rel(rows);
-    let line = value_line(alloc, &shape, &value, &[]);
-    drop(value);
-    drop(shape);
-    line
+    value_line(alloc, &shape, &value, &[])
 }
 
 /// Puts the declaration and the rows of a relation.

@@ -18,32 +18,22 @@ use std::alloc::Global;
 pub(crate) fn dump<W: Outside>(alloc: Global, outside: &mut W) -> Result<Ending, Stop>
     ensures answered { Answered (Finds (start W.Outside.own outside.old) Command.Dump) result (passage W.Output W.Outside.own outside.old outside.new) }
 {
-    match open_folder(alloc, outside) {
-        Ok(store) => {
-            let text = text_of_store(alloc, &store);
-            drop(store);
-            match text {
-                Ok(text) => tell(outside, &text),
-                Err(_) => Err(Stop::Memory),
-            }
-        }
-        Err(stop) => Err(stop),
-    }
+    let store = open_folder(alloc, outside)?;
+    let text = text_of_store(alloc, &store)?;
+    tell(outside, &text)
 }
 
 /// Writes the other half of the database in the folder anew and selects it.
 pub(crate) fn checkpoint<W: Outside>(alloc: Global, outside: &mut W) -> Result<Ending, Stop>
     ensures answered { Answered (Finds (start W.Outside.own outside.old) Command.Checkpoint) result (passage W.Output W.Outside.own outside.old outside.new) }
 {
-    match open_folder(alloc, outside) {
-        Ok(store) => match store.checkpoint(outside, HALF_LIMIT) {
-            Ok(()) => tell(outside, b"checkpointed\n"),
-            Err(CheckFault::Full { .. }) => Err(Stop::Full),
-            Err(CheckFault::Device) => Err(Stop::Device),
-            Err(CheckFault::Memory) => Err(Stop::Memory),
-            Err(CheckFault::Closed) => unreachable!(),
-        },
-        Err(stop) => Err(stop),
+    let store = open_folder(alloc, outside)?;
+    match store.checkpoint(outside, HALF_LIMIT) {
+        Ok(()) => tell(outside, b"checkpointed\n"),
+        Err(CheckFault::Full { .. }) => Err(Stop::Full),
+        Err(CheckFault::Device) => Err(Stop::Device),
+        Err(CheckFault::Memory) => Err(Stop::Memory),
+        Err(CheckFault::Closed) => unreachable!(),
     }
 }
 
@@ -55,17 +45,13 @@ pub(crate) fn widen_to<W: Outside>(
 ) -> Result<Ending, Stop>
     ensures answered { Answered (IsWidened catalogue.now (start W.Outside.own outside.old)) result (passage W.Output W.Outside.own outside.old outside.new) }
 {
-    match open_folder(alloc, outside) {
-        Ok(store) => match store.widen(outside, catalogue, HALF_LIMIT) {
-            Ok(()) => tell(outside, b"widened\n"),
-            Err(WidenFault::Narrows { relation }) => {
-                Err(Stop::Refused(Refusal::Narrows { relation }))
-            }
-            Err(WidenFault::Full { .. }) => Err(Stop::Full),
-            Err(WidenFault::Device) => Err(Stop::Device),
-            Err(WidenFault::Memory) => Err(Stop::Memory),
-            Err(WidenFault::Closed) => unreachable!(),
-        },
-        Err(stop) => Err(stop),
+    let store = open_folder(alloc, outside)?;
+    match store.widen(outside, catalogue, HALF_LIMIT) {
+        Ok(()) => tell(outside, b"widened\n"),
+        Err(WidenFault::Narrows { relation }) => Err(Stop::Refused(Refusal::Narrows { relation })),
+        Err(WidenFault::Full { .. }) => Err(Stop::Full),
+        Err(WidenFault::Device) => Err(Stop::Device),
+        Err(WidenFault::Memory) => Err(Stop::Memory),
+        Err(WidenFault::Closed) => unreachable!(),
     }
 }

@@ -72,12 +72,6 @@ pub(crate) fn guard_sources<S: Source, W: Outside>(
     requires both { length sources.old.items ≡ 2 }
     ensures answered { (name : List ℕ) → IsAnswered hosts.now.names name (Command.Guard turns) (seen_of S.left S.faults sources.old.items) (seen_of S.left S.faults sources.new.items) result (passage W.Output W.Outside.own outside.old outside.new) }
 {
-    match lines_of(alloc, &mut sources[0]) {
-        Ok(lines) => {
-            let answer = guard_source(alloc, turns, &lines, &mut sources[1], outside, hosts);
-            drop(lines);
-            answer
-        }
-        Err(stop) => Err(stop),
-    }
+    let lines = lines_of(alloc, &mut sources[0])?;
+    guard_source(alloc, turns, &lines, &mut sources[1], outside, hosts)
 }

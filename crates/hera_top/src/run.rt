@@ -50,14 +50,8 @@ pub(crate) fn run<W: Outside>(
     ensures spoken { IfErr result IsSpoken }
     ensures keeps { KeepsFiles (passage W.Output W.Outside.own outside.old outside.new) }
 {
-    let Ok(base) = base_of(alloc, relations) else {
-        return Err(Stop::Memory);
-    };
+    let base = base_of(alloc, relations)?;
     let mut keeper = InMemory::over(alloc, base);
-    let outcome = run_code(alloc, code, relations, &mut keeper, turns, outside, hosts);
-    drop(keeper);
-    match outcome {
-        Ok(close) => Ok(ending_of(close)),
-        Err(stop) => Err(stop),
-    }
+    let close = run_code(alloc, code, relations, &mut keeper, turns, outside, hosts)?;
+    Ok(ending_of(close))
 }

@@ -35,9 +35,7 @@ fn drill<W: Outside>(
     ensures answered { Answered (ComesToFor hosts.now.names (drill_text rows) (start W.Outside.own outside.old) (Command.Eval drill_turns)) result (passage W.Output W.Outside.own outside.old outside.new) }
     ensures apart { IsApart result (passage W.Output W.Outside.own outside.old outside.new) }
 {
-    let Ok(text) = drill_text(alloc, rows) else {
-        return Err(Stop::Memory);
-    };
+    let text = drill_text(alloc, rows)?;
     answer_script(alloc, Command::Eval(DRILL_TURNS), &text, outside, hosts)
 }
 

@@ -39,10 +39,8 @@ fn put<T: Drop>(items: &mut Vec<T>, item: T) -> Result<(), Stop>
     ensures put { OnOk result (items.new.items ≡ items.old.items ++ item ∷ []) }
     ensures short { IfErr result (λ stop. stop ≡ Stop.Memory) }
 {
-    match items.push(item) {
-        Ok(()) => Ok(()),
-        Err(_) => Err(Stop::Memory),
-    }
+    items.push(item)?;
+    Ok(())
 }
 
 /// Reads a script from each source, in their order, and accepts it.
@@ -77,8 +75,6 @@ pub(crate) fn weave_sources<S: Source, W: Outside>(
     ensures answered { (name : List ℕ) (files : ℕ) → IsAnswered hosts.now.names name (Command.Weave turns order files) (seen_of S.left S.faults sources.old.items) (seen_of S.left S.faults sources.new.items) result (passage W.Output W.Outside.own outside.old outside.new) }
     ensures unread { length sources.old.items ≡ 0 → sources.new ≡ sources.old }
 {
-    match read_scripts(alloc, sources, hosts) {
-        Ok(programs) => weave_in_folder(alloc, programs, turns, order, outside, hosts),
-        Err(stop) => Err(stop),
-    }
+    let programs = read_scripts(alloc, sources, hosts)?;
+    weave_in_folder(alloc, programs, turns, order, outside, hosts)
 }

@@ -47,20 +47,14 @@ fn read(alloc: Global, store: &Store, name: &[u8], file: Vec<u8>) -> Result<File
     ensures valid { IfOk result (λ read. All (IsRow read.schema) read.rows) }
     ensures unread { IfErr result (IsUnread store.now.base.catalogue name.now file.items) }
 {
-    match relation_named(store, name) {
-        Some(rel) => {
-            let Ok(schema) = store.base().catalogue().decl(rel).schema.copy() else {
-                return Err(Stop::Memory);
-            };
-            match read_rows(alloc, &schema, file) {
-                Ok(rows) => Ok(FileRows { schema, rows }),
-                Err(CsvFault::Record { number }) => {
-                    Err(Stop::Refused(Refusal::Record { number }))
-                }
-                Err(CsvFault::Memory) => Err(Stop::Memory),
-            }
-        }
-        None => Err(Stop::Refused(Refusal::NoRelation)),
+    let Some(rel) = relation_named(store, name) else {
+        return Err(Stop::Refused(Refusal::NoRelation));
+    };
+    let schema = store.base().catalogue().decl(rel).schema.copy()?;
+    match read_rows(alloc, &schema, file) {
+        Ok(rows) => Ok(FileRows { schema, rows }),
+        Err(CsvFault::Record { number }) => Err(Stop::Refused(Refusal::Record { number })),
+        Err(CsvFault::Memory) => Err(Stop::Memory),
     }
 }
 
@@ -102,19 +96,13 @@ fn plan(alloc: Global, store: &Store, name: &[u8], read: FileRows) -> Result<Pla
     ensures proper { IfOk result (λ planned. IsProper store.now.base.catalogue (Action.Store planned.delta)) }
     ensures unadded { IfErr result (IsUnadded store.now.base.catalogue name.now read.schema) }
 {
-    match relation_named(store, name) {
-        Some(rel) => {
-            if store.base().catalogue().decl(rel).schema.same(&read.schema) {
-                match added(alloc, rel, &read.rows) {
-                    Ok(planned) => Ok(planned),
-                    Err(_) => Err(Stop::Memory),
-                }
-            } else {
-                Err(Stop::Refused(Refusal::NoRelation))
-            }
-        }
-        None => Err(Stop::Refused(Refusal::NoRelation)),
+    let Some(rel) = relation_named(store, name) else {
+        return Err(Stop::Refused(Refusal::NoRelation));
+    };
+    if !store.base().catalogue().decl(rel).schema.same(&read.schema) {
+        return Err(Stop::Refused(Refusal::NoRelation));
     }
+    Ok(added(alloc, rel, &read.rows)?)
 }
 
 /// Stores what is added, and then tells it.
@@ -129,10 +117,8 @@ fn store_and_tell<W: Outside>(
     ensures fault { IfErr result IsFault }
 {
     let Planned { delta, line } = planned;
-    match keep_in(outside, &mut store, delta) {
-        Ok(()) => tell(outside, line.bytes()),
-        Err(stop) => Err(stop),
-    }
+    keep_in(outside, &mut store, delta)?;
+    tell(outside, line.bytes())
 }
 
 /// Adds the rows of a CSV file to the relation of a name in the folder's database: one commit, and then a line tells how many
@@ -150,17 +136,9 @@ pub fn import<W: Outside>(
 ) -> Result<Ending, Stop>
     ensures answered { Answered (ImportsTo name.now file.items (start W.Outside.own outside.old)) result (passage W.Output W.Outside.own outside.old outside.new) }
 {
-    match open_folder(alloc, outside) {
-        Ok(store) => match read(alloc, &store, name, file) {
-            Ok(read) => match made_new(alloc, store, outside) {
-                Ok(store) => match plan(alloc, &store, name, read) {
-                    Ok(planned) => store_and_tell(store, planned, outside),
-                    Err(stop) => Err(stop),
-                },
-                Err(stop) => Err(stop),
-            },
-            Err(stop) => Err(stop),
-        },
-        Err(stop) => Err(stop),
-    }
+    let old = open_folder(alloc, outside)?;
+    let read = read(alloc, &old, name, file)?;
+    let store = made_new(alloc, old, outside)?;
+    let planned = plan(alloc, &store, name, read)?;
+    store_and_tell(store, planned, outside)
 }

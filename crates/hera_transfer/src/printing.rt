@@ -42,18 +42,10 @@ fn text_of(alloc: Global, store: &Store, rel: RelId) -> Result<Line, AllocError>
 pub fn export<W: Outside>(alloc: Global, name: &[u8], outside: &mut W) -> Result<Ending, Stop>
     ensures answered { Answered (ExportsTo name.now (start W.Outside.own outside.old)) result (passage W.Output W.Outside.own outside.old outside.new) }
 {
-    match open_folder(alloc, outside) {
-        Ok(store) => match relation_named(&store, name) {
-            Some(rel) => {
-                let text = text_of(alloc, &store, rel);
-                drop(store);
-                match text {
-                    Ok(text) => tell(outside, text.bytes()),
-                    Err(_) => Err(Stop::Memory),
-                }
-            }
-            None => Err(Stop::Refused(Refusal::NoRelation)),
-        },
-        Err(stop) => Err(stop),
-    }
+    let store = open_folder(alloc, outside)?;
+    let Some(rel) = relation_named(&store, name) else {
+        return Err(Stop::Refused(Refusal::NoRelation));
+    };
+    let text = text_of(alloc, &store, rel)?;
+    tell(outside, text.bytes())
 }

@@ -56,9 +56,7 @@ fn weave_coded<W: Outside>(
     let mut rota = Rota::new(alloc, warp.order, warp.programs.len())?;
     let sessions = all_sessions(alloc, warp.programs, warp.codes, warp.turns)?;
     let mut weave = Weave::new(alloc, sessions, folder.commits.len())?;
-    let outcome = weave_all(alloc, &mut weave, &mut rota, folder, outside, hosts);
-    drop(weave);
-    outcome
+    weave_all(alloc, &mut weave, &mut rota, folder, outside, hosts)
 }
 
 /// Weaves bound programs over an open store.
@@ -78,27 +76,16 @@ fn weave_bound<W: Outside>(
         → IsToldBehind (outcome_from (database_of store) store.end (report_of (tasks_of turns (map program_of programs.now)) (database_of store).state schedule (specs_of hosts.now.names))) (number_of result) (passage W.Output W.Outside.own outside.old outside.new) }
     ensures fault { IfErr result IsFault }
 {
-    let Ok(codes) = all_codes(alloc, programs) else {
-        drop(store);
-        return Err(Stop::Memory);
-    };
-    let Ok(mut folder) = Folder::over(alloc, store) else {
-        drop(codes);
-        return Err(Stop::Memory);
-    };
+    let codes = all_codes(alloc, programs)?;
+    let mut folder = Folder::over(alloc, store)?;
     let warp = Warp {
         programs,
         codes: &codes,
         turns,
         order,
     };
-    let outcome = weave_coded(alloc, &warp, &mut folder, outside, hosts);
-    drop(folder);
-    drop(codes);
-    match outcome {
-        Ok(()) => Ok(Ending::Done),
-        Err(stop) => Err(stop),
-    }
+    weave_coded(alloc, &warp, &mut folder, outside, hosts)?;
+    Ok(Ending::Done)
 }
 
 /// Opens the folder, binds the programs to its relations one after another, and runs them as sessions, an instruction at a
@@ -127,20 +114,8 @@ pub fn weave_in_folder<W: Outside>(
     requires sound { AreSound (specs_of hosts.now.names) (map program_of programs.items) }
     ensures answered { Answered (WeavesTo hosts.now.names turns order (map program_of programs.items) (start W.Outside.own outside.old)) result (passage W.Output W.Outside.own outside.old outside.new) }
 {
-    match all_relations(alloc, &programs) {
-        Ok(own) => match open_for(alloc, &own, outside) {
-            Ok(store) => match bind_all(alloc, programs, store.base().catalogue()) {
-                Ok(programs) => weave_bound(alloc, &programs, store, turns, order, outside, hosts),
-                Err(stop) => Err(stop),
-            },
-            Err(stop) => {
-                drop(programs);
-                Err(stop)
-            }
-        },
-        Err(_) => {
-            drop(programs);
-            Err(Stop::Memory)
-        }
-    }
+    let own = all_relations(alloc, &programs)?;
+    let store = open_for(alloc, &own, outside)?;
+    let programs = bind_all(alloc, programs, store.base().catalogue())?;
+    weave_bound(alloc, &programs, store, turns, order, outside, hosts)
 }

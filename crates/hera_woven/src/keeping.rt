@@ -97,13 +97,8 @@ impl Folder {
         ensures does { IfOk result (λ folder. state_over store.base.state folder.commits.items ≡ (database_of store).state) }
         ensures proper { IfOk result (λ folder. All (IsCommitOf store.base.catalogue) folder.commits.items) }
     {
-        match few_commits(alloc, &store) {
-            Ok(commits) => Ok(Folder { store, commits }),
-            Err(fault) => {
-                drop(store);
-                Err(fault)
-            }
-        }
+        let commits = few_commits(alloc, &store)?;
+        Ok(Folder { store, commits })
     }
 
     /// Stores a commit, and then prints a line.

@@ -11,8 +11,8 @@ use Rattle.hera_packed.specs.Packed.{code_in, notes_in, IsFileOf, IsPackOf}
 use Rattle.hera_packed.proofs.Noting.{fit_noted, code_back, noted_back}
 use Rattle.hera_packed.proofs.packing.pack.Goals as goal
 
-pub write-written-requires-clause-noted : goal.write-written-requires-clause-noted
-write-written-requires-clause-noted g c = fit_noted c.args.code.now c.in_ok-notes.notes c.in_ok-notes.ensures.fit
+pub write-requires-clause-noted : goal.write-requires-clause-noted
+write-requires-clause-noted g c = fit_noted c.args.code.now c.in_ok-notes.notes c.in_ok-notes.ensures.fit
 
 pub returns : goal.returns
 returns g c =
@@ -28,5 +28,5 @@ returns g c =
     let typed : IsVerified (code_in file) rels hosts (notes_in file) =
     subst (λ (rs : List RelDecl). IsVerified (code_in file) rs hosts (notes_in file)) (sym c.deref.ensures.value)
     (subst (λ (x : Code). IsVerified x p.relations hosts (notes_in file)) (sym code_is) (subst (λ (ns : List Body_note). IsVerified code p.relations hosts ns) (sym notes_are) c.in_ok-notes.ensures.typed)) in
-    IfOk-weaker c.write-written.result (λ line. IsFileOf line file) (λ line. IsPackOf hosts p line)
-    (λ line is. record { file = file; is = is; relations = c.deref.ensures.value; code = code_is ∙ c.requires.code; typed = typed }) c.write-written.ensures
+    IfOk-weaker c.write.result (λ line. IsFileOf line file) (λ line. IsPackOf hosts p line)
+    (λ line is. record { file = file; is = is; relations = c.deref.ensures.value; code = code_is ∙ c.requires.code; typed = typed }) c.write.ensures

@@ -1,4 +1,4 @@
-use Rattle.std.proofs.Common.{◌≡◌, ◌<◌, ◌+◌, ◌++◌, ◌∷◌, [], None, Some, suc, length, true, false, not, Err, ⊎_elim, refl, sym, ap, ◌∙◌, subst, arith}
+use Rattle.std.proofs.Common.{◌≡◌, ◌<◌, ◌++◌, ◌∷◌, [], None, Some, suc, length, true, false, not, Err, ⊎_elim, refl, sym, ap, ◌∙◌, subst, arith}
 use Rattle.std.specs.List.{list_all}
 use Rattle.std.proofs.KnownBytes.{Appends-nil}
 use Rattle.std.specs.Io.KnownBytes.{Appends}
@@ -87,18 +87,18 @@ pub returns-in_err-next-in-Commit-clause-faults : goal.returns-in_err-next-in-Co
 returns-in_err-next-in-Commit-clause-faults g c =
     memory_faults c.from_residual-in_err-next-in-Commit.result (passage g.W.Output g.W.Outside c.args.outside.now c.steps.outside) c.from_residual-in_err-next-in-Commit.ensures.1 c.steps.invariant.output c.steps.invariant.device
 
-pub returns-in-Err-clause-stopped : goal.returns-in-Err-clause-stopped
-returns-in-Err-clause-stopped g c =
+pub returns-in_err-test-in-Commit-clause-stopped : goal.returns-in_err-test-in-Commit-clause-stopped
+returns-in_err-test-in-Commit-clause-stopped g c =
     let i = c.steps.invariant in
     let work : Job = job g.K.Keeper c.args.keeper.now c.args.machine.now.code c.args.machine.now.relations (specs_of c.args.hosts.now.names) (turns_of c.args.machine.now) in
     let old = g.K.Keeper.database c.steps.keeper in
     let start = g.W.Output.emitted c.args.outside.now in
     let mid = g.W.Output.emitted c.steps.outside in
-    stopped_for_memory work g.K.Keeper.apart start mid (g.K.Keeper.database c.steps.keeper) (g.W.Outside.told → g.K.Keeper.stands (g.W.Outside.disk c.steps.outside) c.steps.keeper) (part_here work i.events c.steps.machine start mid i.at i.carried.pass i.carried.fit i.said)
+    err_is (λ stop. IsStopped work g.K.Keeper.apart start (g.W.Output.emitted c.steps.outside) (g.K.Keeper.database c.steps.keeper) (g.W.Outside.told → g.K.Keeper.stands (g.W.Outside.disk c.steps.outside) c.steps.keeper) stop) c.from_residual-in_err-test-in-Commit.result Memory c.from_residual-in_err-test-in-Commit.ensures.1 (stopped_for_memory work g.K.Keeper.apart start mid (g.K.Keeper.database c.steps.keeper) (g.W.Outside.told → g.K.Keeper.stands (g.W.Outside.disk c.steps.outside) c.steps.keeper) (part_here work i.events c.steps.machine start mid i.at i.carried.pass i.carried.fit i.said))
 
-pub returns-in-Err-clause-faults : goal.returns-in-Err-clause-faults
-returns-in-Err-clause-faults g c =
-    (c.steps.invariant.output, c.steps.invariant.device)
+pub returns-in_err-test-in-Commit-clause-faults : goal.returns-in_err-test-in-Commit-clause-faults
+returns-in_err-test-in-Commit-clause-faults g c =
+    memory_faults c.from_residual-in_err-test-in-Commit.result (passage g.W.Output g.W.Outside c.args.outside.now c.steps.outside) c.from_residual-in_err-test-in-Commit.ensures.1 c.steps.invariant.output c.steps.invariant.device
 
 pub steps-preserved-in-Quiet : goal.steps-preserved-in-Quiet
 steps-preserved-in-Quiet g c =
@@ -254,11 +254,11 @@ steps-preserved g c =
     let d = c.take_pending-delta.result in
     let waits : commit_over (state_after work.from.state i.events) n.waits n ≡ commits d (machine_over (apply_of (state_after work.from.state i.events) d) n) = ap (λ o. commit_over (state_after work.from.state i.events) o n) c.take_pending-delta.ensures.delta in
     let next = commits_next work i.events m n d to waits in
-    let allowed = refusal_here work i.events d old (g.K.Keeper.refusal c.steps.keeper) None i.carried.kept i.carried.same (sym c.in-Ok-None.field-0-is ∙ c.in-Ok-None.ensures.refusal) in
+    let allowed = refusal_here work i.events d old (g.K.Keeper.refusal c.steps.keeper) None i.carried.kept i.carried.same (sym c.in-None.is ∙ c.in_ok-test-in-Commit.ensures.refusal) in
     let adds = adds_commit work i.events m d next i.carried.pass allowed in
     let number = c.in_ok-next-in-Commit.next in
     let count : number ≡ suc (stores i.events) = omega (arith, c.in_ok-next-in-Commit.ensures, i.count) in
-    let done = c.in_ok-commit-in-Ok-None.ensures in
+    let done = c.in_ok-commit-in-None.ensures in
     let yes = done.fits in
     record {
       events = i.events ++ committing work i.events d;
@@ -278,8 +278,8 @@ steps-preserved g c =
       keeps = λ apart. keeps_on g.W.Output g.W.Outside c.args.outside.now c.steps.outside c.commit.new.outside (i.keeps apart) (c.commit.ensures.keeps apart);
     }
 
-pub returns-in_err-commit-in-Ok-None-clause-stopped : goal.returns-in_err-commit-in-Ok-None-clause-stopped
-returns-in_err-commit-in-Ok-None-clause-stopped g c =
+pub returns-in_err-commit-in-None-clause-stopped : goal.returns-in_err-commit-in-None-clause-stopped
+returns-in_err-commit-in-None-clause-stopped g c =
     let i = c.steps.invariant in
     let work : Job = job g.K.Keeper c.args.keeper.now c.args.machine.now.code c.args.machine.now.relations (specs_of c.args.hosts.now.names) (turns_of c.args.machine.now) in
     let old = g.K.Keeper.database c.steps.keeper in
@@ -293,28 +293,28 @@ returns-in_err-commit-in-Ok-None-clause-stopped g c =
     let d = c.take_pending-delta.result in
     let waits : commit_over (state_after work.from.state i.events) n.waits n ≡ commits d (machine_over (apply_of (state_after work.from.state i.events) d) n) = ap (λ o. commit_over (state_after work.from.state i.events) o n) c.take_pending-delta.ensures.delta in
     let next = commits_next work i.events m n d to waits in
-    let allowed = refusal_here work i.events d old (g.K.Keeper.refusal c.steps.keeper) None i.carried.kept i.carried.same (sym c.in-Ok-None.field-0-is ∙ c.in-Ok-None.ensures.refusal) in
+    let allowed = refusal_here work i.events d old (g.K.Keeper.refusal c.steps.keeper) None i.carried.kept i.carried.same (sym c.in-None.is ∙ c.in_ok-test-in-Commit.ensures.refusal) in
     let adds = adds_commit work i.events m d next i.carried.pass allowed in
     let number = c.in_ok-next-in-Commit.next in
     let count : number ≡ suc (stores i.events) = omega (arith, c.in_ok-next-in-Commit.ensures, i.count) in
-    err_is (λ stop. IsStopped work g.K.Keeper.apart start (g.W.Output.emitted c.commit.new.outside) (g.K.Keeper.database c.commit.new.keeper) (g.W.Outside.told → g.K.Keeper.stands (g.W.Outside.disk c.commit.new.outside) c.commit.new.keeper) stop) c.from_residual-in_err-commit-in-Ok-None.result c.in_err-commit-in-Ok-None.field-0.0 c.from_residual-in_err-commit-in-Ok-None.ensures.1 (record {
+    err_is (λ stop. IsStopped work g.K.Keeper.apart start (g.W.Output.emitted c.commit.new.outside) (g.K.Keeper.database c.commit.new.keeper) (g.W.Outside.told → g.K.Keeper.stands (g.W.Outside.disk c.commit.new.outside) c.commit.new.keeper) stop) c.from_residual-in_err-commit-in-None.result c.in_err-commit-in-None.field-0.0 c.from_residual-in_err-commit-in-None.ensures.1 (record {
       part = ⊎_elim
-          (λ (yes : fits (g.K.Keeper.gate c.steps.keeper) d ≡ true). part_commit work i.events m d number start mid _ adds i.carried.fit (ap (λ k. fits k d) (sym i.carried.ends) ∙ yes) count i.said c.in_err-commit-in-Ok-None.ensures.part)
+          (λ (yes : fits (g.K.Keeper.gate c.steps.keeper) d ≡ true). part_commit work i.events m d number start mid _ adds i.carried.fit (ap (λ k. fits k d) (sym i.carried.ends) ∙ yes) count i.said c.in_err-commit-in-None.ensures.part)
           (λ (no : fits (g.K.Keeper.gate c.steps.keeper) d ≡ false). part_here work i.events m start _ i.at i.carried.pass i.carried.fit (subst (λ x. Appends start (g.W.Output.emitted x) (printed i.events)) (sym (c.commit.ensures.nothing_done no)) i.said))
           (true_or_false (fits (g.K.Keeper.gate c.steps.keeper) d));
       full = λ is.
-          let no : fits (g.K.Keeper.gate c.steps.keeper) d ≡ false = c.commit.ensures.full (c.in_err-commit-in-Ok-None.was ∙ ap Err is) in (
+          let no : fits (g.K.Keeper.gate c.steps.keeper) d ≡ false = c.commit.ensures.full (c.in_err-commit-in-None.was ∙ ap Err is) in (
             done_up_to work i.events (committing work i.events d) m (g.K.Keeper.database c.commit.new.keeper) start (g.W.Output.emitted c.commit.new.outside) adds i.carried.fit
                 (ap not (ap (λ k. fits k d) (sym i.carried.ends) ∙ no))
-                (c.commit.ensures.full_kept (c.in_err-commit-in-Ok-None.was ∙ ap Err is) ∙ i.carried.kept)
+                (c.commit.ensures.full_kept (c.in_err-commit-in-None.was ∙ ap Err is) ∙ i.carried.kept)
                 (subst (λ x. Appends start (g.W.Output.emitted x) (printed i.events)) (sym (c.commit.ensures.nothing_done no)) i.said),
-            λ told. c.commit.ensures.full_stands told (c.in_err-commit-in-Ok-None.was ∙ ap Err is),
+            λ told. c.commit.ensures.full_stands told (c.in_err-commit-in-None.was ∙ ap Err is),
           );
-      spoken = c.in_err-commit-in-Ok-None.ensures.spoken;
+      spoken = c.in_err-commit-in-None.ensures.spoken;
     })
 
-pub returns-in_err-commit-in-Ok-None-clause-any_moment : goal.returns-in_err-commit-in-Ok-None-clause-any_moment
-returns-in_err-commit-in-Ok-None-clause-any_moment g c =
+pub returns-in_err-commit-in-None-clause-any_moment : goal.returns-in_err-commit-in-None-clause-any_moment
+returns-in_err-commit-in-None-clause-any_moment g c =
     let i = c.steps.invariant in
     let work : Job = job g.K.Keeper c.args.keeper.now c.args.machine.now.code c.args.machine.now.relations (specs_of c.args.hosts.now.names) (turns_of c.args.machine.now) in
     let old = g.K.Keeper.database c.steps.keeper in
@@ -328,7 +328,7 @@ returns-in_err-commit-in-Ok-None-clause-any_moment g c =
     let d = c.take_pending-delta.result in
     let waits : commit_over (state_after work.from.state i.events) n.waits n ≡ commits d (machine_over (apply_of (state_after work.from.state i.events) d) n) = ap (λ o. commit_over (state_after work.from.state i.events) o n) c.take_pending-delta.ensures.delta in
     let next = commits_next work i.events m n d to waits in
-    let allowed = refusal_here work i.events d old (g.K.Keeper.refusal c.steps.keeper) None i.carried.kept i.carried.same (sym c.in-Ok-None.field-0-is ∙ c.in-Ok-None.ensures.refusal) in
+    let allowed = refusal_here work i.events d old (g.K.Keeper.refusal c.steps.keeper) None i.carried.kept i.carried.same (sym c.in-None.is ∙ c.in_ok-test-in-Commit.ensures.refusal) in
     let adds = adds_commit work i.events m d next i.carried.pass allowed in
     let number = c.in_ok-next-in-Commit.next in
     let count : number ≡ suc (stores i.events) = omega (arith, c.in_ok-next-in-Commit.ensures, i.count) in
@@ -337,19 +337,19 @@ returns-in_err-commit-in-Ok-None-clause-any_moment g c =
     (λ (no : fits (g.K.Keeper.gate c.steps.keeper) d ≡ false). subst (λ x. LeavesOnly g.W.Outside.moment g.W.Outside.left_since c.args.outside.now x (IsCodeCut (g.K.Keeper.finds c.args.keeper.now (g.W.Outside.disk c.args.outside.now)) work start)) (sym (c.commit.ensures.nothing_done no)) (i.any_moment told))
     (true_or_false (fits (g.K.Keeper.gate c.steps.keeper) d))
 
-pub returns-in_err-commit-in-Ok-None-clause-faults : goal.returns-in_err-commit-in-Ok-None-clause-faults
-returns-in_err-commit-in-Ok-None-clause-faults g c =
+pub returns-in_err-commit-in-None-clause-faults : goal.returns-in_err-commit-in-None-clause-faults
+returns-in_err-commit-in-None-clause-faults g c =
     let i = c.steps.invariant in
-    faults_by g.W.Output g.W.Outside c.args.outside.now c.steps.outside i.device i.output c.from_residual-in_err-commit-in-Ok-None.result c.commit.new.outside
-    (stop_faults c.from_residual-in_err-commit-in-Ok-None.result c.in_err-commit-in-Ok-None.field-0.0 (passage g.W.Output g.W.Outside c.steps.outside c.commit.new.outside) c.from_residual-in_err-commit-in-Ok-None.ensures.1 c.in_err-commit-in-Ok-None.ensures.faults)
+    faults_by g.W.Output g.W.Outside c.args.outside.now c.steps.outside i.device i.output c.from_residual-in_err-commit-in-None.result c.commit.new.outside
+    (stop_faults c.from_residual-in_err-commit-in-None.result c.in_err-commit-in-None.field-0.0 (passage g.W.Output g.W.Outside c.steps.outside c.commit.new.outside) c.from_residual-in_err-commit-in-None.ensures.1 c.in_err-commit-in-None.ensures.faults)
 
-pub returns-in_err-commit-in-Ok-None-clause-keeps : goal.returns-in_err-commit-in-Ok-None-clause-keeps
-returns-in_err-commit-in-Ok-None-clause-keeps g c =
+pub returns-in_err-commit-in-None-clause-keeps : goal.returns-in_err-commit-in-None-clause-keeps
+returns-in_err-commit-in-None-clause-keeps g c =
     let i = c.steps.invariant in
     λ apart. keeps_on g.W.Output g.W.Outside c.args.outside.now c.steps.outside c.commit.new.outside (i.keeps apart) (c.commit.ensures.keeps apart)
 
-pub returns-in_err-carry_out-in-Ok-Some-clause-stopped : goal.returns-in_err-carry_out-in-Ok-Some-clause-stopped
-returns-in_err-carry_out-in-Ok-Some-clause-stopped g c =
+pub returns-in_err-carry_out-in-Some-clause-stopped : goal.returns-in_err-carry_out-in-Some-clause-stopped
+returns-in_err-carry_out-in-Some-clause-stopped g c =
     let i = c.steps.invariant in
     let work : Job = job g.K.Keeper c.args.keeper.now c.args.machine.now.code c.args.machine.now.relations (specs_of c.args.hosts.now.names) (turns_of c.args.machine.now) in
     let old = g.K.Keeper.database c.steps.keeper in
@@ -363,17 +363,17 @@ returns-in_err-carry_out-in-Ok-Some-clause-stopped g c =
     let d = c.take_pending-delta.result in
     let waits : commit_over (state_after work.from.state i.events) n.waits n ≡ commits d (machine_over (apply_of (state_after work.from.state i.events) d) n) = ap (λ o. commit_over (state_after work.from.state i.events) o n) c.take_pending-delta.ensures.delta in
     let next = commits_next work i.events m n d to waits in
-    let line = c.in-Ok-Some.line in
-    let refused = refusal_here work i.events d old (g.K.Keeper.refusal c.steps.keeper) (Some line) i.carried.kept i.carried.same (sym c.in-Ok-Some.field-0-is ∙ c.in-Ok-Some.ensures.refusal) in
+    let line = c.in-Some.line in
+    let refused = refusal_here work i.events d old (g.K.Keeper.refusal c.steps.keeper) (Some line) i.carried.kept i.carried.same (sym c.in-Some.is ∙ c.in_ok-test-in-Commit.ensures.refusal) in
     let adds = adds_refused work i.events m d line next i.carried.pass refused in
-    err_is (λ stop. IsStopped work g.K.Keeper.apart start (g.W.Output.emitted c.carry_out-in-Ok-Some.new.outside) (g.K.Keeper.database c.carry_out-in-Ok-Some.new.keeper) (g.W.Outside.told → g.K.Keeper.stands (g.W.Outside.disk c.carry_out-in-Ok-Some.new.outside) c.carry_out-in-Ok-Some.new.keeper) stop) c.from_residual-in_err-carry_out-in-Ok-Some.result c.in_err-carry_out-in-Ok-Some.field-0.0 c.from_residual-in_err-carry_out-in-Ok-Some.ensures.1 (record {
-      part = part_out work i.events m line start mid _ adds i.carried.fit i.said c.in_err-carry_out-in-Ok-Some.ensures.part;
-      full = λ is. absurd (line_never_full (c.carry_out-in-Ok-Some.ensures.full (c.in_err-carry_out-in-Ok-Some.was ∙ ap Err is)));
-      spoken = c.in_err-carry_out-in-Ok-Some.ensures.spoken;
+    err_is (λ stop. IsStopped work g.K.Keeper.apart start (g.W.Output.emitted c.carry_out-in-Some.new.outside) (g.K.Keeper.database c.carry_out-in-Some.new.keeper) (g.W.Outside.told → g.K.Keeper.stands (g.W.Outside.disk c.carry_out-in-Some.new.outside) c.carry_out-in-Some.new.keeper) stop) c.from_residual-in_err-carry_out-in-Some.result c.in_err-carry_out-in-Some.field-0.0 c.from_residual-in_err-carry_out-in-Some.ensures.1 (record {
+      part = part_out work i.events m line start mid _ adds i.carried.fit i.said c.in_err-carry_out-in-Some.ensures.part;
+      full = λ is. absurd (line_never_full (c.carry_out-in-Some.ensures.full (c.in_err-carry_out-in-Some.was ∙ ap Err is)));
+      spoken = c.in_err-carry_out-in-Some.ensures.spoken;
     })
 
-pub returns-in_err-carry_out-in-Ok-Some-clause-any_moment : goal.returns-in_err-carry_out-in-Ok-Some-clause-any_moment
-returns-in_err-carry_out-in-Ok-Some-clause-any_moment g c =
+pub returns-in_err-carry_out-in-Some-clause-any_moment : goal.returns-in_err-carry_out-in-Some-clause-any_moment
+returns-in_err-carry_out-in-Some-clause-any_moment g c =
     let i = c.steps.invariant in
     let work : Job = job g.K.Keeper c.args.keeper.now c.args.machine.now.code c.args.machine.now.relations (specs_of c.args.hosts.now.names) (turns_of c.args.machine.now) in
     let old = g.K.Keeper.database c.steps.keeper in
@@ -387,24 +387,24 @@ returns-in_err-carry_out-in-Ok-Some-clause-any_moment g c =
     let d = c.take_pending-delta.result in
     let waits : commit_over (state_after work.from.state i.events) n.waits n ≡ commits d (machine_over (apply_of (state_after work.from.state i.events) d) n) = ap (λ o. commit_over (state_after work.from.state i.events) o n) c.take_pending-delta.ensures.delta in
     let next = commits_next work i.events m n d to waits in
-    let line = c.in-Ok-Some.line in
-    let refused = refusal_here work i.events d old (g.K.Keeper.refusal c.steps.keeper) (Some line) i.carried.kept i.carried.same (sym c.in-Ok-Some.field-0-is ∙ c.in-Ok-Some.ensures.refusal) in
+    let line = c.in-Some.line in
+    let refused = refusal_here work i.events d old (g.K.Keeper.refusal c.steps.keeper) (Some line) i.carried.kept i.carried.same (sym c.in-Some.is ∙ c.in_ok-test-in-Commit.ensures.refusal) in
     let adds = adds_refused work i.events m d line next i.carried.pass refused in
-    λ told. leaves-on _ _ (i.any_moment told) (c.carry_out-in-Ok-Some.ensures.any_moment told) (λ image cut. cut_next work (g.K.Keeper.finds c.args.keeper.now (g.W.Outside.disk c.args.outside.now)) (g.K.Keeper.finds c.steps.keeper (g.W.Outside.disk c.steps.outside)) i.events (out line ∷ []) m old start mid image adds i.carried.fit refl i.carried.kept i.said (i.found told) cut)
+    λ told. leaves-on _ _ (i.any_moment told) (c.carry_out-in-Some.ensures.any_moment told) (λ image cut. cut_next work (g.K.Keeper.finds c.args.keeper.now (g.W.Outside.disk c.args.outside.now)) (g.K.Keeper.finds c.steps.keeper (g.W.Outside.disk c.steps.outside)) i.events (out line ∷ []) m old start mid image adds i.carried.fit refl i.carried.kept i.said (i.found told) cut)
 
-pub returns-in_err-carry_out-in-Ok-Some-clause-faults : goal.returns-in_err-carry_out-in-Ok-Some-clause-faults
-returns-in_err-carry_out-in-Ok-Some-clause-faults g c =
+pub returns-in_err-carry_out-in-Some-clause-faults : goal.returns-in_err-carry_out-in-Some-clause-faults
+returns-in_err-carry_out-in-Some-clause-faults g c =
     let i = c.steps.invariant in
-    faults_by g.W.Output g.W.Outside c.args.outside.now c.steps.outside i.device i.output c.from_residual-in_err-carry_out-in-Ok-Some.result c.carry_out-in-Ok-Some.new.outside
-    (stop_faults c.from_residual-in_err-carry_out-in-Ok-Some.result c.in_err-carry_out-in-Ok-Some.field-0.0 (passage g.W.Output g.W.Outside c.steps.outside c.carry_out-in-Ok-Some.new.outside) c.from_residual-in_err-carry_out-in-Ok-Some.ensures.1 c.in_err-carry_out-in-Ok-Some.ensures.faults)
+    faults_by g.W.Output g.W.Outside c.args.outside.now c.steps.outside i.device i.output c.from_residual-in_err-carry_out-in-Some.result c.carry_out-in-Some.new.outside
+    (stop_faults c.from_residual-in_err-carry_out-in-Some.result c.in_err-carry_out-in-Some.field-0.0 (passage g.W.Output g.W.Outside c.steps.outside c.carry_out-in-Some.new.outside) c.from_residual-in_err-carry_out-in-Some.ensures.1 c.in_err-carry_out-in-Some.ensures.faults)
 
-pub returns-in_err-carry_out-in-Ok-Some-clause-keeps : goal.returns-in_err-carry_out-in-Ok-Some-clause-keeps
-returns-in_err-carry_out-in-Ok-Some-clause-keeps g c =
+pub returns-in_err-carry_out-in-Some-clause-keeps : goal.returns-in_err-carry_out-in-Some-clause-keeps
+returns-in_err-carry_out-in-Some-clause-keeps g c =
     let i = c.steps.invariant in
-    λ apart. keeps_on g.W.Output g.W.Outside c.args.outside.now c.steps.outside c.carry_out-in-Ok-Some.new.outside (i.keeps apart) (c.carry_out-in-Ok-Some.ensures.keeps apart)
+    λ apart. keeps_on g.W.Output g.W.Outside c.args.outside.now c.steps.outside c.carry_out-in-Some.new.outside (i.keeps apart) (c.carry_out-in-Some.ensures.keeps apart)
 
-pub returns-in-Ok-Some-clause-over : goal.returns-in-Ok-Some-clause-over
-returns-in-Ok-Some-clause-over g c =
+pub returns-in-Some-clause-over : goal.returns-in-Some-clause-over
+returns-in-Some-clause-over g c =
     let i = c.steps.invariant in
     let work : Job = job g.K.Keeper c.args.keeper.now c.args.machine.now.code c.args.machine.now.relations (specs_of c.args.hosts.now.names) (turns_of c.args.machine.now) in
     let old = g.K.Keeper.database c.steps.keeper in
@@ -418,13 +418,13 @@ returns-in-Ok-Some-clause-over g c =
     let d = c.take_pending-delta.result in
     let waits : commit_over (state_after work.from.state i.events) n.waits n ≡ commits d (machine_over (apply_of (state_after work.from.state i.events) d) n) = ap (λ o. commit_over (state_after work.from.state i.events) o n) c.take_pending-delta.ensures.delta in
     let next = commits_next work i.events m n d to waits in
-    let line = c.in-Ok-Some.line in
-    let refused = refusal_here work i.events d old (g.K.Keeper.refusal c.steps.keeper) (Some line) i.carried.kept i.carried.same (sym c.in-Ok-Some.field-0-is ∙ c.in-Ok-Some.ensures.refusal) in
+    let line = c.in-Some.line in
+    let refused = refusal_here work i.events d old (g.K.Keeper.refusal c.steps.keeper) (Some line) i.carried.kept i.carried.same (sym c.in-Some.is ∙ c.in_ok-test-in-Commit.ensures.refusal) in
     let adds = adds_refused work i.events m d line next i.carried.pass refused in
-    refused_at work i.events m d line (g.K.Keeper.database c.carry_out-in-Ok-Some.new.keeper) start mid (g.W.Output.emitted c.carry_out-in-Ok-Some.new.outside) next i.carried.pass refused i.carried.fit (c.in_ok-carry_out-in-Ok-Some.ensures.kept ∙ i.carried.kept) i.said c.in_ok-carry_out-in-Ok-Some.ensures.whole
+    refused_at work i.events m d line (g.K.Keeper.database c.carry_out-in-Some.new.keeper) start mid (g.W.Output.emitted c.carry_out-in-Some.new.outside) next i.carried.pass refused i.carried.fit (c.in_ok-carry_out-in-Some.ensures.kept ∙ i.carried.kept) i.said c.in_ok-carry_out-in-Some.ensures.whole
 
-pub returns-in-Ok-Some-clause-any_moment : goal.returns-in-Ok-Some-clause-any_moment
-returns-in-Ok-Some-clause-any_moment g c =
+pub returns-in-Some-clause-any_moment : goal.returns-in-Some-clause-any_moment
+returns-in-Some-clause-any_moment g c =
     let i = c.steps.invariant in
     let work : Job = job g.K.Keeper c.args.keeper.now c.args.machine.now.code c.args.machine.now.relations (specs_of c.args.hosts.now.names) (turns_of c.args.machine.now) in
     let old = g.K.Keeper.database c.steps.keeper in
@@ -438,20 +438,20 @@ returns-in-Ok-Some-clause-any_moment g c =
     let d = c.take_pending-delta.result in
     let waits : commit_over (state_after work.from.state i.events) n.waits n ≡ commits d (machine_over (apply_of (state_after work.from.state i.events) d) n) = ap (λ o. commit_over (state_after work.from.state i.events) o n) c.take_pending-delta.ensures.delta in
     let next = commits_next work i.events m n d to waits in
-    let line = c.in-Ok-Some.line in
-    let refused = refusal_here work i.events d old (g.K.Keeper.refusal c.steps.keeper) (Some line) i.carried.kept i.carried.same (sym c.in-Ok-Some.field-0-is ∙ c.in-Ok-Some.ensures.refusal) in
+    let line = c.in-Some.line in
+    let refused = refusal_here work i.events d old (g.K.Keeper.refusal c.steps.keeper) (Some line) i.carried.kept i.carried.same (sym c.in-Some.is ∙ c.in_ok-test-in-Commit.ensures.refusal) in
     let adds = adds_refused work i.events m d line next i.carried.pass refused in
-    λ told. leaves-on _ _ (i.any_moment told) (c.carry_out-in-Ok-Some.ensures.any_moment told) (λ image cut. cut_next work (g.K.Keeper.finds c.args.keeper.now (g.W.Outside.disk c.args.outside.now)) (g.K.Keeper.finds c.steps.keeper (g.W.Outside.disk c.steps.outside)) i.events (out line ∷ []) m old start mid image adds i.carried.fit refl i.carried.kept i.said (i.found told) cut)
+    λ told. leaves-on _ _ (i.any_moment told) (c.carry_out-in-Some.ensures.any_moment told) (λ image cut. cut_next work (g.K.Keeper.finds c.args.keeper.now (g.W.Outside.disk c.args.outside.now)) (g.K.Keeper.finds c.steps.keeper (g.W.Outside.disk c.steps.outside)) i.events (out line ∷ []) m old start mid image adds i.carried.fit refl i.carried.kept i.said (i.found told) cut)
 
-pub returns-in-Ok-Some-clause-faults : goal.returns-in-Ok-Some-clause-faults
-returns-in-Ok-Some-clause-faults g c =
+pub returns-in-Some-clause-faults : goal.returns-in-Some-clause-faults
+returns-in-Some-clause-faults g c =
     let i = c.steps.invariant in
-    (c.in_ok-carry_out-in-Ok-Some.ensures.faults.0 ∙ i.output, c.in_ok-carry_out-in-Ok-Some.ensures.faults.1 ∙ i.device)
+    (c.in_ok-carry_out-in-Some.ensures.faults.0 ∙ i.output, c.in_ok-carry_out-in-Some.ensures.faults.1 ∙ i.device)
 
-pub returns-in-Ok-Some-clause-keeps : goal.returns-in-Ok-Some-clause-keeps
-returns-in-Ok-Some-clause-keeps g c =
+pub returns-in-Some-clause-keeps : goal.returns-in-Some-clause-keeps
+returns-in-Some-clause-keeps g c =
     let i = c.steps.invariant in
-    λ apart. keeps_on g.W.Output g.W.Outside c.args.outside.now c.steps.outside c.carry_out-in-Ok-Some.new.outside (i.keeps apart) (c.carry_out-in-Ok-Some.ensures.keeps apart)
+    λ apart. keeps_on g.W.Output g.W.Outside c.args.outside.now c.steps.outside c.carry_out-in-Some.new.outside (i.keeps apart) (c.carry_out-in-Some.ensures.keeps apart)
 
 pub returns-in_err-say_end-in-Ended-clause-stopped : goal.returns-in_err-say_end-in-Ended-clause-stopped
 returns-in_err-say_end-in-Ended-clause-stopped g c =

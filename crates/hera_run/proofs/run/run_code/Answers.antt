@@ -12,21 +12,21 @@ use Rattle.hera_run.proofs.Steps.{job_is, part_none}
 use Rattle.hera_run.proofs.Stopped.{part_of, full_of, spoken_of, turns_are, fresh}
 use Rattle.hera_run.proofs.run.run_code.Goals as goal
 
-pub carry_all-outcome-requires-clause-start : goal.carry_all-outcome-requires-clause-start
-carry_all-outcome-requires-clause-start g c =
+pub carry_all-requires-clause-start : goal.carry_all-requires-clause-start
+carry_all-requires-clause-start g c =
     let made = c.in_ok-machine.ensures in
     fresh c.in_ok-machine.machine c.args.code.now c.args.turns made.start made.code made.works made.nothing_waits
 
-pub carry_all-outcome-requires-clause-forward : goal.carry_all-outcome-requires-clause-forward
-carry_all-outcome-requires-clause-forward g c =
+pub carry_all-requires-clause-forward : goal.carry_all-requires-clause-forward
+carry_all-requires-clause-forward g c =
     subst Forward (sym c.in_ok-machine.ensures.code) c.requires.forward
 
-pub carry_all-outcome-requires-clause-counted : goal.carry_all-outcome-requires-clause-counted
-carry_all-outcome-requires-clause-counted g c =
+pub carry_all-requires-clause-counted : goal.carry_all-requires-clause-counted
+carry_all-requires-clause-counted g c =
     c.in_ok-counts.ensures _
 
-pub carry_all-outcome-requires-clause-proper : goal.carry_all-outcome-requires-clause-proper
-carry_all-outcome-requires-clause-proper g c =
+pub carry_all-requires-clause-proper : goal.carry_all-requires-clause-proper
+carry_all-requires-clause-proper g c =
     let m = c.in_ok-machine.machine in
     let made = c.in_ok-machine.ensures in
     let hosts = specs_of c.args.hosts.now.names in
@@ -41,11 +41,11 @@ returns-clause-over g c =
     let same = job_is g.K.Keeper c.args.keeper.now m.code c.args.code.now m.relations c.args.relations.now hosts (turns_of m) c.args.turns made.code made.relations (turns_are m c.args.code.now c.args.turns made.start) in
     let work = job g.K.Keeper c.args.keeper.now m.code m.relations hosts (turns_of m) in
     let before = g.W.Output.emitted c.args.outside.now in
-    let now = g.W.Output.emitted c.carry_all-outcome.new.outside in
-    let left = g.K.Keeper.database c.carry_all-outcome.new.keeper in
-    let stands : Type 0 = g.W.Outside.told → g.K.Keeper.stands (g.W.Outside.disk c.carry_all-outcome.new.outside) c.carry_all-outcome.new.keeper in
-    let stopped = c.carry_all-outcome.ensures.stopped in
-    subst (λ (j : Job). IfOk c.carry_all-outcome.result (IsOver j before now left)) same c.carry_all-outcome.ensures.over
+    let now = g.W.Output.emitted c.carry_all.new.outside in
+    let left = g.K.Keeper.database c.carry_all.new.keeper in
+    let stands : Type 0 = g.W.Outside.told → g.K.Keeper.stands (g.W.Outside.disk c.carry_all.new.outside) c.carry_all.new.keeper in
+    let stopped = c.carry_all.ensures.stopped in
+    subst (λ (j : Job). IfOk c.carry_all.result (IsOver j before now left)) same c.carry_all.ensures.over
 
 pub returns-clause-full : goal.returns-clause-full
 returns-clause-full g c =
@@ -55,11 +55,11 @@ returns-clause-full g c =
     let same = job_is g.K.Keeper c.args.keeper.now m.code c.args.code.now m.relations c.args.relations.now hosts (turns_of m) c.args.turns made.code made.relations (turns_are m c.args.code.now c.args.turns made.start) in
     let work = job g.K.Keeper c.args.keeper.now m.code m.relations hosts (turns_of m) in
     let before = g.W.Output.emitted c.args.outside.now in
-    let now = g.W.Output.emitted c.carry_all-outcome.new.outside in
-    let left = g.K.Keeper.database c.carry_all-outcome.new.keeper in
-    let stands : Type 0 = g.W.Outside.told → g.K.Keeper.stands (g.W.Outside.disk c.carry_all-outcome.new.outside) c.carry_all-outcome.new.keeper in
-    let stopped = c.carry_all-outcome.ensures.stopped in
-    λ is. subst (λ (j : Job). IsDoneUpToFull j before now left) same (full_of work g.K.Keeper.apart before now left stands c.carry_all-outcome.result stopped is).0
+    let now = g.W.Output.emitted c.carry_all.new.outside in
+    let left = g.K.Keeper.database c.carry_all.new.keeper in
+    let stands : Type 0 = g.W.Outside.told → g.K.Keeper.stands (g.W.Outside.disk c.carry_all.new.outside) c.carry_all.new.keeper in
+    let stopped = c.carry_all.ensures.stopped in
+    λ is. subst (λ (j : Job). IsDoneUpToFull j before now left) same (full_of work g.K.Keeper.apart before now left stands c.carry_all.result stopped is).0
 
 pub returns-clause-cut : goal.returns-clause-cut
 returns-clause-cut g c =
@@ -69,11 +69,11 @@ returns-clause-cut g c =
     let same = job_is g.K.Keeper c.args.keeper.now m.code c.args.code.now m.relations c.args.relations.now hosts (turns_of m) c.args.turns made.code made.relations (turns_are m c.args.code.now c.args.turns made.start) in
     let work = job g.K.Keeper c.args.keeper.now m.code m.relations hosts (turns_of m) in
     let before = g.W.Output.emitted c.args.outside.now in
-    let now = g.W.Output.emitted c.carry_all-outcome.new.outside in
-    let left = g.K.Keeper.database c.carry_all-outcome.new.keeper in
-    let stands : Type 0 = g.W.Outside.told → g.K.Keeper.stands (g.W.Outside.disk c.carry_all-outcome.new.outside) c.carry_all-outcome.new.keeper in
-    let stopped = c.carry_all-outcome.ensures.stopped in
-    subst (λ (j : Job). OnErr c.carry_all-outcome.result (IsPartDone j before now)) same (part_of work g.K.Keeper.apart before now left stands c.carry_all-outcome.result stopped)
+    let now = g.W.Output.emitted c.carry_all.new.outside in
+    let left = g.K.Keeper.database c.carry_all.new.keeper in
+    let stands : Type 0 = g.W.Outside.told → g.K.Keeper.stands (g.W.Outside.disk c.carry_all.new.outside) c.carry_all.new.keeper in
+    let stopped = c.carry_all.ensures.stopped in
+    subst (λ (j : Job). OnErr c.carry_all.result (IsPartDone j before now)) same (part_of work g.K.Keeper.apart before now left stands c.carry_all.result stopped)
 
 pub returns-clause-full_stands : goal.returns-clause-full_stands
 returns-clause-full_stands g c =
@@ -83,11 +83,11 @@ returns-clause-full_stands g c =
     let same = job_is g.K.Keeper c.args.keeper.now m.code c.args.code.now m.relations c.args.relations.now hosts (turns_of m) c.args.turns made.code made.relations (turns_are m c.args.code.now c.args.turns made.start) in
     let work = job g.K.Keeper c.args.keeper.now m.code m.relations hosts (turns_of m) in
     let before = g.W.Output.emitted c.args.outside.now in
-    let now = g.W.Output.emitted c.carry_all-outcome.new.outside in
-    let left = g.K.Keeper.database c.carry_all-outcome.new.keeper in
-    let stands : Type 0 = g.W.Outside.told → g.K.Keeper.stands (g.W.Outside.disk c.carry_all-outcome.new.outside) c.carry_all-outcome.new.keeper in
-    let stopped = c.carry_all-outcome.ensures.stopped in
-    λ told is. (full_of work g.K.Keeper.apart before now left stands c.carry_all-outcome.result stopped is).1 told
+    let now = g.W.Output.emitted c.carry_all.new.outside in
+    let left = g.K.Keeper.database c.carry_all.new.keeper in
+    let stands : Type 0 = g.W.Outside.told → g.K.Keeper.stands (g.W.Outside.disk c.carry_all.new.outside) c.carry_all.new.keeper in
+    let stopped = c.carry_all.ensures.stopped in
+    λ told is. (full_of work g.K.Keeper.apart before now left stands c.carry_all.result stopped is).1 told
 
 pub returns-clause-any_moment : goal.returns-clause-any_moment
 returns-clause-any_moment g c =
@@ -95,7 +95,7 @@ returns-clause-any_moment g c =
     let made = c.in_ok-machine.ensures in
     let hosts = specs_of c.args.hosts.now.names in
     let same = job_is g.K.Keeper c.args.keeper.now m.code c.args.code.now m.relations c.args.relations.now hosts (turns_of m) c.args.turns made.code made.relations (turns_are m c.args.code.now c.args.turns made.start) in
-    λ told. subst (λ (j : Job). LeavesOnly g.W.Outside.moment g.W.Outside.left_since c.args.outside.now c.carry_all-outcome.new.outside (IsCodeCut (g.K.Keeper.finds c.args.keeper.now (g.W.Outside.disk c.args.outside.now)) j (g.W.Output.emitted c.args.outside.now))) same (c.carry_all-outcome.ensures.any_moment told)
+    λ told. subst (λ (j : Job). LeavesOnly g.W.Outside.moment g.W.Outside.left_since c.args.outside.now c.carry_all.new.outside (IsCodeCut (g.K.Keeper.finds c.args.keeper.now (g.W.Outside.disk c.args.outside.now)) j (g.W.Output.emitted c.args.outside.now))) same (c.carry_all.ensures.any_moment told)
 
 pub returns-clause-spoken : goal.returns-clause-spoken
 returns-clause-spoken g c =
@@ -105,11 +105,11 @@ returns-clause-spoken g c =
     let same = job_is g.K.Keeper c.args.keeper.now m.code c.args.code.now m.relations c.args.relations.now hosts (turns_of m) c.args.turns made.code made.relations (turns_are m c.args.code.now c.args.turns made.start) in
     let work = job g.K.Keeper c.args.keeper.now m.code m.relations hosts (turns_of m) in
     let before = g.W.Output.emitted c.args.outside.now in
-    let now = g.W.Output.emitted c.carry_all-outcome.new.outside in
-    let left = g.K.Keeper.database c.carry_all-outcome.new.keeper in
-    let stands : Type 0 = g.W.Outside.told → g.K.Keeper.stands (g.W.Outside.disk c.carry_all-outcome.new.outside) c.carry_all-outcome.new.keeper in
-    let stopped = c.carry_all-outcome.ensures.stopped in
-    λ apart. spoken_of work g.K.Keeper.apart before now left stands c.carry_all-outcome.result stopped apart
+    let now = g.W.Output.emitted c.carry_all.new.outside in
+    let left = g.K.Keeper.database c.carry_all.new.keeper in
+    let stands : Type 0 = g.W.Outside.told → g.K.Keeper.stands (g.W.Outside.disk c.carry_all.new.outside) c.carry_all.new.keeper in
+    let stopped = c.carry_all.ensures.stopped in
+    λ apart. spoken_of work g.K.Keeper.apart before now left stands c.carry_all.result stopped apart
 
 pub returns-in_err-counts-clause-faults : goal.returns-in_err-counts-clause-faults
 returns-in_err-counts-clause-faults g c =

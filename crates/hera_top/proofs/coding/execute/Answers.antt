@@ -15,23 +15,23 @@ use Rattle.hera_packed.specs.Executed.{RunsAs, is_bad, is_rejected, is_run}
 use Rattle.hera_run.proofs.Meaning.{own}
 use Rattle.hera_top.proofs.coding.execute.Goals as goal
 
-pub run-answer-requires-clause-catalogue : goal.run-answer-requires-clause-catalogue
-run-answer-requires-clause-catalogue g c = subst IsCatalogue (sym c.deref.ensures.value) c.in-Ok.ensures.catalogue
+pub run-requires-clause-catalogue : goal.run-requires-clause-catalogue
+run-requires-clause-catalogue g c = subst IsCatalogue (sym c.deref.ensures.value) c.in-Ok.ensures.catalogue
 
-pub run-answer-requires-clause-forward : goal.run-answer-requires-clause-forward
-run-answer-requires-clause-forward g c =
+pub run-requires-clause-forward : goal.run-requires-clause-forward
+run-requires-clause-forward g c =
     let rels = c.in-Ok.file.relations.items in
     (c.in-Ok.ensures.safe (empty_state rels) c.args.turns (empty_is_state rels)).forward
 
-pub run-answer-requires-clause-stores : goal.run-answer-requires-clause-stores
-run-answer-requires-clause-stores g c =
+pub run-requires-clause-stores : goal.run-requires-clause-stores
+run-requires-clause-stores g c =
     let rels = c.in-Ok.file.relations.items in
     let hosts = specs_of c.args.hosts.now.names in
     λ k. subst (λ (rs : List RelDecl). AreStoresOf rs (events_in (code_at c.in-Ok.file.code rs (empty_state rs) hosts c.args.turns k))) (sym c.deref.ensures.value)
     ((c.in-Ok.ensures.safe (empty_state rels) c.args.turns (empty_is_state rels)).stores k)
 
-pub run-answer-requires-clause-over : goal.run-answer-requires-clause-over
-run-answer-requires-clause-over g c =
+pub run-requires-clause-over : goal.run-requires-clause-over
+run-requires-clause-over g c =
     let rels = c.in-Ok.file.relations.items in
     let hosts = specs_of c.args.hosts.now.names in
     let safe = c.in-Ok.ensures.safe (empty_state rels) c.args.turns (empty_is_state rels) in
@@ -47,11 +47,11 @@ returns-in-Ok-clause-answered g c =
     let runs : RunsAs c.in-Ok.file.code c.deref.result.now hosts c.args.turns report = subst (λ (rs : List RelDecl). RunsAs c.in-Ok.file.code rs hosts c.args.turns report) (sym c.deref.ensures.value) safe.over_is in
     let opened = c.in-Ok.ensures.opened in
     let told = own (λ (x : Code) (rs : List RelDecl). RunsAs x rs hosts c.args.turns report) c.in-Ok.file.code _ rels opened.file.relations (sym opened.code_is) (sym opened.relations) safe.over_is in
-    answered_by _ c.run-answer.result (passage g.W.Output g.W.Outside c.args.outside.now c.run-answer.new.outside) (spoken_fault c.run-answer.result c.run-answer.ensures.spoken)
-    (inl (ran report, is_run opened.is opened.verified told, c.run-answer.ensures.told report runs))
+    answered_by _ c.run.result (passage g.W.Output g.W.Outside c.args.outside.now c.run.new.outside) (spoken_fault c.run.result c.run.ensures.spoken)
+    (inl (ran report, is_run opened.is opened.verified told, c.run.ensures.told report runs))
 
 pub returns-in-Ok-clause-apart : goal.returns-in-Ok-clause-apart
-returns-in-Ok-clause-apart g c = record { keeps = c.run-answer.ensures.keeps; no_device = spoken_no_device c.run-answer.result c.run-answer.ensures.spoken }
+returns-in-Ok-clause-apart g c = record { keeps = c.run.ensures.keeps; no_device = spoken_no_device c.run.result c.run.ensures.spoken }
 
 pub returns-in-Err-BadCode-clause-answered : goal.returns-in-Err-BadCode-clause-answered
 returns-in-Err-BadCode-clause-answered g c =

@@ -14,7 +14,7 @@ returns-in_err-tree-clause-apart g c = fault_apart g.W.Output g.W.Outside c.args
 
 pub returns-clause-answered : goal.returns-clause-answered
 returns-clause-answered g c =
-    answered_weaker _ _ c.print_pack-answer.result (passage g.W.Output g.W.Outside c.args.outside.now c.print_pack-answer.new.outside) (λ o comes. packs c.requires.short c.in_ok-tree.ensures.accepted comes) c.print_pack-answer.ensures.answered
+    answered_weaker _ _ c.print_pack.result (passage g.W.Output g.W.Outside c.args.outside.now c.print_pack.new.outside) (λ o comes. packs c.requires.short c.in_ok-tree.ensures.accepted comes) c.print_pack.ensures.answered
 
 pub returns-clause-apart : goal.returns-clause-apart
-returns-clause-apart g c = c.print_pack-answer.ensures.apart
+returns-clause-apart g c = c.print_pack.ensures.apart

@@ -1,32 +1,33 @@
-use Rattle.std.proofs.Common.{refl, sym, ap, ◌∙◌, inr}
+use Rattle.std.proofs.Common.{refl, sym, ap, ◌∙◌}
 use Rattle.hera_code.specs.Listing.{listing_of}
 use Rattle.hera_code.specs.Scheme.{code_of}
 use Rattle.hera_host.specs.Tables.{specs_of}
 use Rattle.hera_meaning.specs.Plain.{program_of}
 use Rattle.hera_outcome.specs.Outcomes.{prints}
-use Rattle.hera_outcome.proofs.Passing.{pending_none, keeps_none, given_up_none, tell_answered, says_no_device}
+use Rattle.hera_outcome.proofs.Passing.{pending_none, no_memory_answered, tell_answered, says_no_device}
 use Rattle.hera_top.specs.Commands.{lists}
+use Rattle.hera_top.proofs.Reading.{no_memory_apart}
 use Rattle.hera_top.proofs.commands.list.Goals as goal
 
-pub listing-text-requires : goal.listing-text-requires
-listing-text-requires g c = c.in-Ok.ensures.listable (specs_of c.args.hosts.now.names) c.requires.sound
+pub returns-in_err-code-clause-answered : goal.returns-in_err-code-clause-answered
+returns-in_err-code-clause-answered g c = no_memory_answered g.W.Output g.W.Outside c.args.outside.now _ c.from_residual.result c.from_residual.ensures.1
 
-pub returns-in_default-clause-answered : goal.returns-in_default-clause-answered
-returns-in_default-clause-answered g c = inr (given_up_none g.W.Output g.W.Outside c.args.outside.now)
+pub returns-in_err-code-clause-apart : goal.returns-in_err-code-clause-apart
+returns-in_err-code-clause-apart g c = no_memory_apart g.W.Output g.W.Outside c.args.outside.now c.from_residual.result c.from_residual.ensures.1
 
-pub returns-in_default-clause-apart : goal.returns-in_default-clause-apart
-returns-in_default-clause-apart g c = record { keeps = keeps_none g.W.Output g.W.Outside c.args.outside.now; no_device = λ h. cc (h) }
+pub returns-in_err-text-clause-answered : goal.returns-in_err-text-clause-answered
+returns-in_err-text-clause-answered g c = no_memory_answered g.W.Output g.W.Outside c.args.outside.now _ c.from_residual-in_err-text.result c.from_residual-in_err-text.ensures.1
 
-pub returns-in-Ok-text-clause-answered : goal.returns-in-Ok-text-clause-answered
-returns-in-Ok-text-clause-answered g c =
+pub returns-in_err-text-clause-apart : goal.returns-in_err-text-clause-apart
+returns-in_err-text-clause-apart g c = no_memory_apart g.W.Output g.W.Outside c.args.outside.now c.from_residual-in_err-text.result c.from_residual-in_err-text.ensures.1
+
+pub listing-requires : goal.listing-requires
+listing-requires g c = c.in_ok-code.ensures.listable (specs_of c.args.hosts.now.names) c.requires.sound
+
+pub returns-clause-answered : goal.returns-clause-answered
+returns-clause-answered g c =
     tell_answered g.W.Output g.W.Outside c.args.outside.now c.args.outside.now (pending_none g.W.Output g.W.Outside c.args.outside.now) _ (prints (listing_of (code_of (program_of c.args.program.now)))) c.tell.new.outside _ c.tell.result tt
-    (sym (c.bytes.ensures ∙ c.in-Ok-text.ensures ∙ ap listing_of c.in-Ok.ensures.code)) refl lists c.tell.ensures.said c.tell.ensures.done
+    (sym (c.bytes.ensures ∙ c.in_ok-text.ensures ∙ ap listing_of c.in_ok-code.ensures.code)) refl lists c.tell.ensures.said c.tell.ensures.done
 
-pub returns-in-Ok-text-clause-apart : goal.returns-in-Ok-text-clause-apart
-returns-in-Ok-text-clause-apart g c = record { keeps = c.tell.ensures.said.keeps; no_device = says_no_device _ c.tell.result _ c.tell.ensures.said }
-
-pub returns-in-Err-clause-answered : goal.returns-in-Err-clause-answered
-returns-in-Err-clause-answered g c = inr (given_up_none g.W.Output g.W.Outside c.args.outside.now)
-
-pub returns-in-Err-clause-apart : goal.returns-in-Err-clause-apart
-returns-in-Err-clause-apart g c = record { keeps = keeps_none g.W.Output g.W.Outside c.args.outside.now; no_device = λ h. cc (h) }
+pub returns-clause-apart : goal.returns-clause-apart
+returns-clause-apart g c = record { keeps = c.tell.ensures.said.keeps; no_device = says_no_device _ c.tell.result _ c.tell.ensures.said }

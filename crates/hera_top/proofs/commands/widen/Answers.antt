@@ -1,16 +1,15 @@
-use Rattle.std.proofs.Common.{List, inr, subst}
+use Rattle.std.proofs.Common.{List, subst}
 use Rattle.hera_meaning.specs.declared.schemas.RelDecl.{RelDecl}
 use Rattle.hera_outcome.specs.Passages.{passage, start}
 use Rattle.hera_outcome.specs.Told.{Answered}
-use Rattle.hera_outcome.proofs.Passing.{given_up_none}
+use Rattle.hera_outcome.proofs.Passing.{no_memory_answered}
 use Rattle.hera_top.specs.Commands.{IsWidened}
 use Rattle.hera_top.proofs.commands.widen.Goals as goal
 
-pub returns-in_default : goal.returns-in_default
-returns-in_default g c =
-    record { answered = inr (given_up_none g.W.Output g.W.Outside c.args.outside.now) }
+pub returns-in_err-catalogue : goal.returns-in_err-catalogue
+returns-in_err-catalogue g c = record { answered = no_memory_answered g.W.Output g.W.Outside c.args.outside.now _ c.from_residual.result c.from_residual.ensures.1 }
 
 pub returns : goal.returns
 returns g c =
-    let v = passage g.W.Output g.W.Outside c.args.outside.now c.widen_to-answer.new.outside in
-    record { answered = subst (λ (rels : List RelDecl). Answered (IsWidened rels (start g.W.Outside c.args.outside.now)) c.widen_to-answer.result v) c.in-Ok.ensures c.widen_to-answer.ensures.answered }
+    let v = passage g.W.Output g.W.Outside c.args.outside.now c.widen_to.new.outside in
+    record { answered = subst (λ (rels : List RelDecl). Answered (IsWidened rels (start g.W.Outside c.args.outside.now)) c.widen_to.result v) c.in_ok-catalogue.ensures c.widen_to.ensures.answered }

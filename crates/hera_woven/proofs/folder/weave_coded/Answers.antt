@@ -34,8 +34,8 @@ returns-in_err-weave-clause-held_up g c =
     err_is (IsHeldUp hosts plan c.args.folder.now.store (passage g.W.Output g.W.Outside c.args.outside.now c.args.outside.now)) c.from_residual-in_err-weave.result Memory c.from_residual-in_err-weave.ensures.1
     (held_none hosts plan g.W.Output g.W.Outside c.args.outside.now c.args.folder.now.store)
 
-pub weave_all-outcome-requires-clause-behind : goal.weave_all-outcome-requires-clause-behind
-weave_all-outcome-requires-clause-behind g c =
+pub weave_all-requires-clause-behind : goal.weave_all-requires-clause-behind
+weave_all-requires-clause-behind g c =
     let hosts = specs_of c.args.hosts.now.names in
     let folder = c.args.folder.now in
     let ps = map program_of c.args.warp.now.programs.now in
@@ -62,7 +62,7 @@ returns-clause-woven g c =
     let begins : IsBehind hosts (plan_over tasks c.args.warp.now.order folder.store) [] w c.in_ok-rota.rota folder =
     behind_start hosts tasks c.args.warp.now.order folder w c.in_ok-rota.rota (are_tasks hosts folder.store.base.catalogue c.args.warp.now.turns ps c.requires.sound c.requires.relations) c.requires.opens.unclosed c.requires.does c.requires.proper
     stands (c.in_ok-weave.ensures.start ∙ sym long) c.in_ok-weave.ensures.works (c.in_ok-rota.ensures.due tasks (database_of folder.store).state hosts (long_all c.args.warp.now.turns c.args.warp.now.programs.now)) c.in_ok-rota.ensures.order in
-    c.weave_all-outcome.ensures.woven (plan_over tasks c.args.warp.now.order folder.store) begins
+    c.weave_all.ensures.woven (plan_over tasks c.args.warp.now.order folder.store) begins
 
 pub returns-clause-held_up : goal.returns-clause-held_up
 returns-clause-held_up g c =
@@ -77,4 +77,4 @@ returns-clause-held_up g c =
     let begins : IsBehind hosts (plan_over tasks c.args.warp.now.order folder.store) [] w c.in_ok-rota.rota folder =
     behind_start hosts tasks c.args.warp.now.order folder w c.in_ok-rota.rota (are_tasks hosts folder.store.base.catalogue c.args.warp.now.turns ps c.requires.sound c.requires.relations) c.requires.opens.unclosed c.requires.does c.requires.proper
     stands (c.in_ok-weave.ensures.start ∙ sym long) c.in_ok-weave.ensures.works (c.in_ok-rota.ensures.due tasks (database_of folder.store).state hosts (long_all c.args.warp.now.turns c.args.warp.now.programs.now)) c.in_ok-rota.ensures.order in
-    c.weave_all-outcome.ensures.held_up (plan_over tasks c.args.warp.now.order folder.store) begins
+    c.weave_all.ensures.held_up (plan_over tasks c.args.warp.now.order folder.store) begins

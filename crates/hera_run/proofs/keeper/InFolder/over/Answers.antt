@@ -1,7 +1,7 @@
 use Rattle.hera_run.proofs.Levelled.{levelled_start}
 use Rattle.hera_run.proofs.keeper.InFolder.over.Goals as goal
 
-pub returns-in-Ok-clause-levelled : goal.returns-in-Ok-clause-levelled
-returns-in-Ok-clause-levelled c =
+pub returns-clause-levelled : goal.returns-clause-levelled
+returns-clause-levelled c =
     let s = c.args.store in
-    levelled_start c.in-Ok.levels c.commits.result.now s c.commits.ensures.commits c.commits.ensures.proper (c.in-Ok.ensures.does s.base.state) (c.in-Ok.ensures.known s.base.catalogue)
+    levelled_start c.in_ok-levels.levels c.commits.result.now s c.commits.ensures.commits c.commits.ensures.proper (c.in_ok-levels.ensures.does s.base.state) (c.in_ok-levels.ensures.known s.base.catalogue)
